@@ -1,0 +1,197 @@
+//! The same work in plain Rust, as something to measure against: each figure is printed as `NAME NANOSECONDS`, for one unit of work.
+use std::collections::BTreeMap;
+use std::hint::black_box;
+use std::time::Instant;
+
+const ROUND_CONSTANTS: [u32; 64] = [
+    0x428a2f98, 0x71374491, 0xb5c0fbcf, 0xe9b5dba5, 0x3956c25b, 0x59f111f1, 0x923f82a4, 0xab1c5ed5, 0xd807aa98, 0x12835b01, 0x243185be, 0x550c7dc3,
+    0x72be5d74, 0x80deb1fe, 0x9bdc06a7, 0xc19bf174, 0xe49b69c1, 0xefbe4786, 0x0fc19dc6, 0x240ca1cc, 0x2de92c6f, 0x4a7484aa, 0x5cb0a9dc, 0x76f988da,
+    0x983e5152, 0xa831c66d, 0xb00327c8, 0xbf597fc7, 0xc6e00bf3, 0xd5a79147, 0x06ca6351, 0x14292967, 0x27b70a85, 0x2e1b2138, 0x4d2c6dfc, 0x53380d13,
+    0x650a7354, 0x766a0abb, 0x81c2c92e, 0x92722c85, 0xa2bfe8a1, 0xa81a664b, 0xc24b8b70, 0xc76c51a3, 0xd192e819, 0xd6990624, 0xf40e3585, 0x106aa070,
+    0x19a4c116, 0x1e376c08, 0x2748774c, 0x34b0bcb5, 0x391c0cb3, 0x4ed8aa4a, 0x5b9cca4f, 0x682e6ff3, 0x748f82ee, 0x78a5636f, 0x84c87814, 0x8cc70208,
+    0x90befffa, 0xa4506ceb, 0xbef9a3f7, 0xc67178f2,
+];
+
+fn compress(state: &mut [u32; 8], block: &[u8]) {
+    let mut w = [0u32; 64];
+    for (word, bytes) in w.iter_mut().zip(block.chunks_exact(4)) {
+        *word = u32::from_be_bytes(bytes.try_into().unwrap());
+    }
+    for i in 16..64 {
+        let s0 = w[i - 15].rotate_right(7) ^ w[i - 15].rotate_right(18) ^ (w[i - 15] >> 3);
+        let s1 = w[i - 2].rotate_right(17) ^ w[i - 2].rotate_right(19) ^ (w[i - 2] >> 10);
+        w[i] = w[i - 16].wrapping_add(s0).wrapping_add(w[i - 7]).wrapping_add(s1);
+    }
+    let [mut a, mut b, mut c, mut d, mut e, mut f, mut g, mut h] = *state;
+    for i in 0..64 {
+        let s1 = e.rotate_right(6) ^ e.rotate_right(11) ^ e.rotate_right(25);
+        let t1 = h.wrapping_add(s1).wrapping_add((e & f) ^ (!e & g)).wrapping_add(ROUND_CONSTANTS[i]).wrapping_add(w[i]);
+        let s0 = a.rotate_right(2) ^ a.rotate_right(13) ^ a.rotate_right(22);
+        let t2 = s0.wrapping_add((a & b) ^ (a & c) ^ (b & c));
+        (h, g, f, e, d, c, b, a) = (g, f, e, d.wrapping_add(t1), c, b, a, t1.wrapping_add(t2));
+    }
+    for (s, x) in state.iter_mut().zip([a, b, c, d, e, f, g, h]) {
+        *s = s.wrapping_add(x);
+    }
+}
+
+/// SHA-256 (FIPS 180-4).
+fn sha256(bytes: &[u8]) -> [u8; 32] {
+    let mut state = [0x6a09e667, 0xbb67ae85, 0x3c6ef372, 0xa54ff53a, 0x510e527f, 0x9b05688c, 0x1f83d9ab, 0x5be0cd19];
+    let whole = bytes.chunks_exact(64);
+    let rest = whole.remainder();
+    for block in whole {
+        compress(&mut state, block);
+    }
+    let mut tail = [0u8; 128];
+    tail[..rest.len()].copy_from_slice(rest);
+    tail[rest.len()] = 0x80;
+    let end = if rest.len() < 56 { 64 } else { 128 };
+    tail[end - 8..end].copy_from_slice(&(bytes.len() as u64 * 8).to_be_bytes());
+    for block in tail[..end].chunks_exact(64) {
+        compress(&mut state, block);
+    }
+    let mut hash = [0; 32];
+    for (bytes, word) in hash.chunks_exact_mut(4).zip(state) {
+        bytes.copy_from_slice(&word.to_be_bytes());
+    }
+    hash
+}
+
+type Process = [u8; 22];
+
+/// The process with a number: the number is its identifier and its port.
+fn process(n: u16) -> Process {
+    let mut bytes = [0; 22];
+    bytes[14..16].copy_from_slice(&n.to_be_bytes());
+    bytes[16..20].copy_from_slice(&[127, 0, 0, 1]);
+    bytes[20..].copy_from_slice(&n.to_be_bytes());
+    bytes
+}
+
+fn key(ring: u8, p: &Process) -> [u8; 32] {
+    let mut bytes = [0; 23];
+    bytes[0] = ring;
+    bytes[1..].copy_from_slice(p);
+    sha256(&bytes)
+}
+
+type Ring = Vec<([u8; 32], Process)>;
+
+fn rings(members: &[Process], k: u8) -> Vec<Ring> {
+    (0..k)
+        .map(|ring| {
+            let mut sorted: Ring = members.iter().map(|p| (key(ring, p), *p)).collect();
+            sorted.sort_unstable();
+            sorted
+        })
+        .collect()
+}
+
+/// The rings after one member left and one joined.
+fn next_rings(old: &[Ring], gone: &Process, new: &Process) -> Vec<Ring> {
+    old.iter()
+        .enumerate()
+        .map(|(ring, sorted)| {
+            let mut next: Ring = sorted.iter().filter(|(_, p)| p != gone).copied().collect();
+            let entry = (key(ring as u8, new), *new);
+            let place = next.partition_point(|x| *x < entry);
+            next.insert(place, entry);
+            next
+        })
+        .collect()
+}
+
+fn configuration_bytes(members: &[Process]) -> Vec<u8> {
+    let mut bytes = b"RPC1".to_vec();
+    bytes.extend([0; 40]);
+    bytes.extend([10, 9, 3]);
+    bytes.extend((members.len() as u16).to_be_bytes());
+    for p in members {
+        bytes.extend(p);
+    }
+    bytes
+}
+
+/// Reads a configuration, with its identifier; none where it is refused.
+fn from_bytes(bytes: &[u8]) -> Option<(Vec<Process>, [u8; 32])> {
+    if bytes.len() < 49 || &bytes[..4] != b"RPC1" {
+        return None;
+    }
+    let count = u16::from_be_bytes([bytes[47], bytes[48]]) as usize;
+    if count > 1024 || bytes.len() != 49 + 22 * count {
+        return None;
+    }
+    let members: Vec<Process> = bytes[49..].chunks_exact(22).map(|p| p.try_into().unwrap()).collect();
+    if !members.windows(2).all(|w| w[0][..16] < w[1][..16]) {
+        return None;
+    }
+    let mut endpoints: Vec<&[u8]> = members.iter().map(|p| &p[16..]).collect();
+    endpoints.sort_unstable();
+    if endpoints.windows(2).any(|w| w[0] == w[1]) {
+        return None;
+    }
+    let id = sha256(bytes);
+    Some((members, id))
+}
+
+/// The fast round of n members: a bit for each position heard and a counter for each value.
+struct FastRound {
+    size: usize,
+    heard: [u64; 16],
+    counts: BTreeMap<Vec<Process>, usize>,
+}
+
+impl FastRound {
+    fn hear(&mut self, position: usize, cut: &[Process]) -> bool {
+        if position >= self.size || self.heard[position / 64] >> (position % 64) & 1 == 1 {
+            return false;
+        }
+        self.heard[position / 64] |= 1 << (position % 64);
+        let count = match self.counts.get_mut(cut) {
+            Some(count) => {
+                *count += 1;
+                *count
+            }
+            None => {
+                self.counts.insert(cut.to_vec(), 1);
+                1
+            }
+        };
+        count == 3 * self.size / 4 + 1
+    }
+}
+
+/// Prints the time of one unit of work, of which each run does so many.
+fn measure(name: &str, units: u32, runs: u32, mut work: impl FnMut()) {
+    work();
+    let start = Instant::now();
+    for _ in 0..runs {
+        work();
+    }
+    println!("{name} {}", start.elapsed().as_nanos() / u128::from(runs * units));
+}
+
+fn main() {
+    let members: Vec<Process> = (1..=1024).map(process).collect();
+    measure("rings_new", 1, 20, || {
+        black_box(rings(black_box(&members), 16));
+    });
+    let old = rings(&members, 16);
+    measure("rings_next", 1, 50, || {
+        black_box(next_rings(black_box(&old), &members[500], &process(2000)));
+    });
+    let bytes = configuration_bytes(&members);
+    measure("from_bytes", 1, 500, || {
+        black_box(from_bytes(black_box(&bytes)));
+    });
+    for size in [1, 10, 100] {
+        let cut: Vec<Process> = (1..=size).map(process).collect();
+        measure(&format!("votes_cut_{size}"), 1024, 200, || {
+            let mut round = FastRound { size: 1024, heard: [0; 16], counts: BTreeMap::new() };
+            for position in 0..1024 {
+                black_box(round.hear(black_box(position), &cut));
+            }
+        });
+    }
+}
