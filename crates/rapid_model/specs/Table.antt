@@ -1,9 +1,9 @@
 -- Tables: who observes whom by explicit edges.
-use Rattle.std.specs.Prelude.{ℕ, ◌≤◌, Bool, not, ◌&&◌, List, map, replicate, nat_lt, if◌then◌else◌, Option, Some, None, refl}
+use Rattle.std.specs.Prelude.{ℕ, ◌≤◌, Bool, not, ◌&&◌, map, replicate, nat_lt, if◌then◌else◌, Option, Some, None, refl}
 use Rattle.std.specs.FinSet as set
 use Rattle.std.specs.FinMap as finmap
 use Rattle.std.specs.Coded.{Coded, code_by, coded×, coded_ℕ, coded_list}
-use Rattle.rapid_model.specs.Process.{Process, ProcessSet, process_cmp}
+use Rattle.rapid_model.specs.Process.{Process, ProcessSet}
 use Rattle.rapid_model.specs.Configuration.{Params, AreParams}
 use Rattle.rapid_model.specs.Ring.{Observers}
 use Rattle.rapid_model.specs.Reports.{report_cmp}
