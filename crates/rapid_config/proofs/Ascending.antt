@@ -1,0 +1,56 @@
+-- Lists in which each element passes a test with all later ones, checked by neighbours.
+use Rattle.std.proofs.Common.{◌≡◌, ℕ, zero, suc, ◌+◌, ◌<◌, Bool, true, false, ◌&&◌, List, [], ◌∷◌, length, refl, sym, ap, ◌∙◌, arith, get_or}
+use Rattle.std.proofs.Math.Nat.{suc-add}
+use Rattle.std.specs.declared.cmp.Ordering.{Ordering}
+use Rattle.std.specs.declared.cmp.Ordering.TheVariants.{Less, Equal, Greater}
+use Rattle.std.specs.Ordering.{is_lt}
+use Rattle.std.specs.Cmp.{IsTotalOrder}
+use Rattle.std.proofs.lemmas.Cmp.{nat_list_cmp_total}
+use Rattle.rapid_model.specs.Process.{bytes_cmp}
+use Rattle.std.specs.List.{IsAllAdjacentAnswer, list_all}
+use Rattle.std.proofs.lemmas.Bool.{and_parts, and_from, and_left, and_right}
+
+pub bytes_total : IsTotalOrder bytes_cmp
+bytes_total = nat_list_cmp_total
+
+less_is : (o : Ordering) → is_lt o ≡ true → o ≡ Less
+less_is Less e = refl
+less_is Equal e = cc
+less_is Greater e = cc
+
+-- the test of a total order passes on
+pub is_lt_trans : {K : Type 0} {R : K → K → Ordering} → IsTotalOrder R → (x y z : K) → is_lt (R x y) ≡ true → is_lt (R y z) ≡ true → is_lt (R x z) ≡ true
+is_lt_trans {K} {R} o x y z p q = ap is_lt (o.trans x y z (less_is (R x y) p) (less_is (R y z) q))
+
+-- what x passes with y, and y with all of zs, x passes with all of zs
+all_later : {X : Type 0} (lt : X → X → Bool) → ((x y z : X) → lt x y ≡ true → lt y z ≡ true → lt x z ≡ true) → (x y : X) (zs : List X) → lt x y ≡ true → list_all (lt y) zs ≡ true → list_all (lt x) zs ≡ true
+all_later lt t x y [] h k = refl
+all_later lt t x y (z ∷ zs) h k =
+    let p = and_parts (lt y z) (list_all (lt y) zs) k in
+    and_from (lt x z) (list_all (lt x) zs) (t x y z h p.0) (all_later lt t x y zs h p.1)
+
+-- neighbours in a longer list
+later : {X : Type 0} (lt : X → X → Bool) (x : X) (xs : List X) (k : ℕ) (d : X) (b : Bool) → b ≡ lt (get_or (x ∷ xs) (suc k) d) (get_or (x ∷ xs) (suc k + 1) d) → b ≡ lt (get_or xs k d) (get_or xs (k + 1) d)
+later lt x xs k d b h = h ∙ ap (λ i. lt (get_or xs k d) (get_or (x ∷ xs) i d)) (suc-add k 1)
+
+-- f says that each element passes lt with all later ones
+pub ascends_by_neighbours : {X : Type 0} (lt : X → X → Bool) (f : List X → Bool) → ((x y z : X) → lt x y ≡ true → lt y z ≡ true → lt x z ≡ true) → f [] ≡ true → ((x : X) (xs : List X) → f (x ∷ xs) ≡ (list_all (lt x) xs && f xs)) → (xs : List X) (r : Bool) → IsAllAdjacentAnswer (λ x y b. b ≡ lt x y) xs r → r ≡ f xs
+ascends_by_neighbours {X} lt f t none more xs true h = sym (rising xs (λ k d l. sym (h k d l)))
+  where
+    rising : (xs : List X) → ((k : ℕ) (d : X) → k + 1 < length xs → lt (get_or xs k d) (get_or xs (k + 1) d) ≡ true) → f xs ≡ true
+    rising [] h = none
+    rising (x ∷ []) h = more x [] ∙ none
+    rising (x ∷ y ∷ ys) h =
+        let r = rising (y ∷ ys) (λ k d l. sym (later lt x (y ∷ ys) k d true (sym (h (suc k) d (omega (arith, l)))))) in
+        let p = and_parts (list_all (lt y) ys) (f ys) (sym (more y ys) ∙ r) in
+        let here : lt x y ≡ true = h 0 x (omega arith) in
+        more x (y ∷ ys) ∙ and_from (list_all (lt x) (y ∷ ys)) (f (y ∷ ys)) (and_from (lt x y) (list_all (lt x) ys) here (all_later lt t x y ys here p.0)) r
+ascends_by_neighbours {X} lt f t none more xs false (k, l, h) = sym (falling xs k l h)
+  where
+    falling : (xs : List X) (k : ℕ) → k + 1 < length xs → ((d : X) → false ≡ lt (get_or xs k d) (get_or xs (k + 1) d)) → f xs ≡ false
+    falling [] k l h = absurd (omega (arith, l))
+    falling (x ∷ []) k l h = absurd (omega (arith, l))
+    falling (x ∷ y ∷ ys) zero l h =
+        more x (y ∷ ys) ∙ and_left (list_all (lt x) (y ∷ ys)) (f (y ∷ ys)) (and_left (lt x y) (list_all (lt x) ys) (sym (h x)))
+    falling (x ∷ y ∷ ys) (suc k) l h =
+        more x (y ∷ ys) ∙ and_right (list_all (lt x) (y ∷ ys)) (f (y ∷ ys)) (falling (y ∷ ys) k (omega (arith, l)) (λ d. later lt x (y ∷ ys) k d false (h d)))

@@ -1,0 +1,128 @@
+// Cuts: the processes that a view change removes or adds.
+
+ghost use Rattle.std.specs.Prelude.{◌≡◌, None, All, length, IfOk, IfErr, OnOk, MatchBool};
+ghost use Rattle.std.specs.Ordering.{as_partial_cmp};
+ghost use Rattle.std.specs.Cmp.{partial_equiv_from_equiv, partial_order_from_total};
+ghost use Rattle.std.proofs.lemmas.Cmp.{eq_by_cmp_equiv};
+ghost use Rattle.std.proofs.Common.{refl};
+ghost use Rattle.rapid_model.specs.Process.{IsProcess};
+ghost use Rattle.rapid_model.specs.Cut.{IsCut, is_ascending, cut_cmp, same_cut};
+ghost use Rattle.rapid_model.specs.Reading.{cut_fault};
+ghost use Rattle.rapid_model.proofs.Orders.{cuts_total};
+ghost use Rattle.rapid_config.specs.Faults.{Reports};
+
+use crate::ConfigError;
+use crate::told::tell_processes;
+use rapid_endpoint::Process;
+use std::alloc::{AllocError, Global};
+use std::cmp::Ordering;
+use std::marker::Model;
+use std::sync::ArcSlice;
+
+/// A cut: the processes that a view change removes or adds, strictly ascending, from 1 to 1,536 of
+/// them. Copies share one list. Cuts are ordered by the number of processes and then as lists, which
+/// is the order of their bytes.
+#[derive(Debug, Drop)]
+pub struct Cut {
+    processes: ArcSlice<Process>,
+}
+
+impl Model for Cut {
+    ghost use Rattle.std.specs.Arc.{arc_slice_items};
+    ghost use Rattle.rapid_model.specs.Cut.{Cut as ModelCut, IsCut};
+
+    ghost Value = { ModelCut };
+
+    ghost view = { λ c. arc_slice_items c.processes };
+
+    ghost invariant = { λ c. IsCut (arc_slice_items c.processes) };
+}
+
+/// Whether the processes strictly ascend.
+fn ascend(processes: &[Process]) -> bool
+    ensures { result ≡ is_ascending processes.now }
+{
+    processes.is_sorted_by(|a, b| a < b)
+}
+
+impl Cut {
+    /// The most processes of a cut.
+    pub const MOST: usize = 1536;
+
+    /// The cut of these processes. The first that holds: `EmptyCut` where there is none, `TooMany`
+    /// where there are more than 1,536, `NotSorted` where they do not strictly ascend.
+    pub fn new(processes: Vec<Process>) -> Result<Cut, ConfigError>
+        ensures value { IfOk result (λ cut. cut ≡ processes.items) }
+        ensures valid { IfOk result IsCut }
+        ensures allowed { OnOk result (cut_fault processes.items ≡ None) }
+        ensures refused { IfErr result (Reports (cut_fault processes.items)) }
+    {
+        if processes.is_empty() {
+            return Err(ConfigError::EmptyCut);
+        }
+        if processes.len() > Cut::MOST {
+            return Err(ConfigError::TooMany);
+        }
+        if !ascend(processes.as_slice()) {
+            return Err(ConfigError::NotSorted);
+        }
+        tell_processes(processes.as_slice());
+        let processes = ArcSlice::from_vec(processes)?;
+        Ok(Cut { processes })
+    }
+
+    /// The processes, ascending.
+    pub fn processes(&self) -> &[Process]
+        ensures value { result.now ≡ self.now }
+        ensures valid { IsCut self.now }
+    {
+        self.processes.as_slice()
+    }
+
+    /// An equal cut, which shares the list of processes.
+    pub fn try_copy(&self, _alloc: Global) -> Result<Cut, AllocError>
+        ensures { IfOk result (λ cut. cut ≡ self.now) }
+    {
+        let processes = self.processes.clone()?;
+        Ok(Cut { processes })
+    }
+}
+
+impl PartialEq for Cut {
+    ghost eq = { same_cut };
+
+    ghost laws = { partial_equiv_from_equiv (eq_by_cmp_equiv cuts_total) };
+
+    fn eq(&self, other: &Cut) -> bool {
+        self.cmp(other).is_eq()
+    }
+}
+
+impl Eq for Cut {
+    ghost laws = { eq_by_cmp_equiv cuts_total };
+}
+
+impl PartialOrd for Cut {
+    ghost partial_cmp = { as_partial_cmp cut_cmp };
+
+    ghost laws = { partial_order_from_total cuts_total };
+
+    fn partial_cmp(&self, other: &Cut) -> Option<Ordering> {
+        Some(self.cmp(other))
+    }
+}
+
+impl Ord for Cut {
+    ghost cmp = { cut_cmp };
+
+    ghost total = { cuts_total };
+
+    ghost matches_partial_cmp = { λ x y. refl };
+
+    ghost matches_eq = { λ x y. refl };
+
+    fn cmp(&self, other: &Cut) -> Ordering {
+        let (mine, others) = (self.processes(), other.processes());
+        mine.len().cmp(&others.len()).then_with(|| mine.cmp(others))
+    }
+}
