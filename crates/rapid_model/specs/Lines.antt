@@ -1,5 +1,5 @@
 -- The lines of an input, and the words and numbers in a line.
-use Rattle.std.specs.Prelude.{ℕ, Bool, false, not, ◌&&◌, ◌==◌, List, [], ◌∷◌, filter, length, nat_lt, nat_le, if◌then◌else◌, Option, Some, None}
+use Rattle.std.specs.Prelude.{ℕ, Bool, true, false, not, ◌&&◌, ◌==◌, List, [], ◌∷◌, filter, length, nat_le, if◌then◌else◌, Option, Some, None}
 use Rattle.std.specs.List.{list_all}
 use Rattle.rapid_model.specs.EndpointText.{in_front, is_number, value_of}
 
@@ -45,9 +45,14 @@ abbrev pub pieces : List ℕ → List (List ℕ)
 pieces [] = [] ∷ []
 pieces (x ∷ xs) = if x == space then [] ∷ pieces xs else in_front x (pieces xs)
 
--- The words of a line are the pieces that are not empty.
+-- A piece is a word where it has a byte.
+abbrev pub is_word : List ℕ → Bool
+is_word [] = false
+is_word (x ∷ xs) = true
+
+-- The words of a line are its pieces that are not empty.
 abbrev pub words : List ℕ → List (List ℕ)
-words line = filter (λ w. nat_lt 0 (length w)) (pieces line)
+words line = filter is_word (pieces line)
 
 -- The first byte of the line is a hash.
 abbrev pub is_comment : List ℕ → Bool

@@ -2,7 +2,7 @@
 use Rattle.std.specs.Prelude.{ℕ, ◌==◌, List, ◌∷◌, ◌++◌, drop, if◌then◌else◌, Option, Some, None}
 use Rattle.std.specs.Option.{option_and_then}
 use Rattle.std.specs.Int.{w16, w128, to_be_bytes, from_be_bytes}
-use Rattle.rapid_model.specs.Process.{Process}
+use Rattle.rapid_model.specs.Process.{Process, endpoint}
 use Rattle.rapid_model.specs.Lines.{number_up_to}
 
 -- Process n has the number n as its identifier and the endpoint 127.0.0.1:n.
@@ -11,7 +11,7 @@ numbered n = to_be_bytes w128 n ++ (127 ∷ 0 ∷ 0 ∷ 1 ∷ to_be_bytes w16 n)
 
 -- The number of such a process is its port.
 abbrev pub number_of : Process → ℕ
-number_of p = from_be_bytes w16 (drop 20 p)
+number_of p = from_be_bytes w16 (drop 4 (endpoint p))
 
 -- The process of a number that is not 0.
 abbrev pub numbered_unless_0 : ℕ → Option Process
