@@ -1,1 +1,4 @@
 pub mod Joined
+pub mod ParseErrors
+pub mod Same
+pub mod Texts

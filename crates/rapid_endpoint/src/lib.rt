@@ -6,9 +6,17 @@
 
 mod bytes;
 mod endpoint;
+mod endpoint_text;
+mod identifier_text;
+mod number;
+mod parse_error;
 mod process;
 mod process_id;
 
 pub use endpoint::Endpoint;
+pub use parse_error::ParseError;
 pub use process::Process;
 pub use process_id::ProcessId;
+
+#[cfg(test)]
+mod tests;

@@ -1,6 +1,6 @@
 // Processes.
 
-ghost use Rattle.std.specs.Prelude.{◌≡◌, ◌++◌};
+ghost use Rattle.std.specs.Prelude.{◌≡◌, ◌<◌, ◌↔◌, ◌++◌, length, take, drop, IfSome, IsNone};
 ghost use Rattle.std.specs.Ordering.{as_partial_cmp};
 ghost use Rattle.std.specs.Cmp.{partial_equiv_from_equiv, partial_order_from_total};
 ghost use Rattle.std.proofs.lemmas.Cmp.{nat_list_cmp_total, eq_by_cmp_equiv};
@@ -69,6 +69,23 @@ impl Process {
         bytes[..16].copy_from_slice(&self.id.bytes());
         bytes[16..].copy_from_slice(&self.endpoint.to_bytes());
         bytes
+    }
+
+    /// The process in front of the bytes, and how many bytes it takes. There is none where the bytes are
+    /// fewer than a process has.
+    pub fn read(bytes: &[u8]) -> Option<(Process, usize)>
+        ensures short { IsNone result ↔ (length bytes.now < 22) }
+        ensures front { IfSome result (λ r. (r.0 ≡ take 22 bytes.now) × (r.1 ≡ 22)) }
+        ensures taken { IfSome result (λ r. bytes.now ≡ r.0 ++ drop r.1 bytes.now) }
+        ensures process { IfSome result (λ r. IsProcess r.0) }
+    {
+        let (id, rest) = bytes.split_first_chunk::<16>()?;
+        let (address, rest) = rest.split_first_chunk::<4>()?;
+        let (port, _) = rest.split_first_chunk::<2>()?;
+        let endpoint = Endpoint::new(*address, u16::from_be_bytes(*port));
+        let process = Process::new(ProcessId::new(*id), endpoint);
+        process.tell();
+        Some((process, 22))
     }
 
     /// The value is a process. It does nothing: what it ensures is for proofs.

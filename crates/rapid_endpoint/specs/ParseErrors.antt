@@ -1,0 +1,18 @@
+-- The numbers of the errors.
+use Rattle.std.specs.Prelude.{ℕ}
+use Rattle.rapid_endpoint.specs.declared.parse_error.ParseError.{ParseError}
+use Rattle.rapid_endpoint.specs.declared.parse_error.ParseError.TheVariants.{NotFourParts, PartRange, BadPort, BadIdentifier}
+use Rattle.rapid_model.specs.EndpointText as text
+
+-- The number of an error.
+abbrev pub code_of : ParseError → ℕ
+code_of NotFourParts = 1
+code_of PartRange = 2
+code_of BadPort = 3
+code_of BadIdentifier = 4
+
+-- The error that says why a text is no endpoint.
+abbrev pub error_of : text.EndpointFault → ParseError
+error_of text.NotFourParts = NotFourParts
+error_of text.PartRange = PartRange
+error_of text.BadPort = BadPort

@@ -1,0 +1,37 @@
+// Why a text is refused.
+
+ghost use Rattle.std.specs.Prelude.{◌≡◌};
+ghost use Rattle.rapid_endpoint.specs.ParseErrors.{code_of};
+
+use thiserror::Error;
+
+/// Why a text is no endpoint, or no identifier.
+#[derive(Clone, Copy, Debug, PartialEq, Eq, Error)]
+pub enum ParseError {
+    /// The host has not exactly four parts between dots.
+    #[error("the host has not four parts")]
+    NotFourParts,
+    /// A part is no number from 0 to 255, without a needless zero in front.
+    #[error("a part of the host is no number from 0 to 255")]
+    PartRange,
+    /// There is no port, or it is no number from 0 to 65,535, without a needless zero in front.
+    #[error("the port is no number from 0 to 65535")]
+    BadPort,
+    /// The text is no UUID.
+    #[error("the identifier is no UUID")]
+    BadIdentifier,
+}
+
+impl ParseError {
+    /// The number of the error: 1 `NotFourParts`, 2 `PartRange`, 3 `BadPort`, 4 `BadIdentifier`.
+    pub fn code(&self) -> u8
+        ensures { result ≡ code_of self.now }
+    {
+        match self {
+            ParseError::NotFourParts => 1,
+            ParseError::PartRange => 2,
+            ParseError::BadPort => 3,
+            ParseError::BadIdentifier => 4,
+        }
+    }
+}
