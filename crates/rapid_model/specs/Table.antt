@@ -2,11 +2,12 @@
 use Rattle.std.specs.Prelude.{ℕ, ◌≤◌, Bool, not, ◌&&◌, map, replicate, nat_lt, if◌then◌else◌, Option, Some, None, refl}
 use Rattle.std.specs.FinSet as set
 use Rattle.std.specs.FinMap as finmap
-use Rattle.std.specs.Coded.{Coded, code_by, coded×, coded_ℕ, coded_list}
+use Rattle.std.specs.Coded.{Coded, code_by, coded×, coded_ℕ}
 use Rattle.rapid_model.specs.Process.{Process, ProcessSet}
 use Rattle.rapid_model.specs.Configuration.{Params, AreParams}
 use Rattle.rapid_model.specs.Ring.{Observers}
 use Rattle.rapid_model.specs.Reports.{report_cmp}
+use Rattle.rapid_model.specs.Codes.{bytes_code, processes_code}
 
 -- The observer of each subject and ring that have one.
 abbrev pub TableEdges : Type 0
@@ -72,11 +73,20 @@ table_observers t =
       observer = λ k s. if nat_lt k t.params.k then finmap.get t.edges (s, k) else None;
     }
 
--- Tables.
+-- The code of edges, by which a proof tells them apart.
+abbrev pub edges_code : Coded TableEdges
+edges_code = finmap.code (coded× bytes_code coded_ℕ) bytes_code
+
+-- The code of parameters.
+abbrev pub params_code : Coded Params
+params_code =
+    code_by (ℕ × (ℕ × ℕ)) (coded× coded_ℕ (coded× coded_ℕ coded_ℕ)) (λ p. (p.k, (p.h, p.l))) (λ p. record { k = p.0; h = p.1.0; l = p.1.1 }) (λ _. refl)
+
+-- The code of tables.
 abbrev pub table_code : Coded Table
 table_code =
-    code_by ((ℕ × (ℕ × ℕ)) × (ProcessSet × TableEdges))
-    (coded× (coded× coded_ℕ (coded× coded_ℕ coded_ℕ)) (coded× (set.code (coded_list coded_ℕ)) (finmap.code (coded× (coded_list coded_ℕ) coded_ℕ) (coded_list coded_ℕ))))
-    (λ t. ((t.params.k, (t.params.h, t.params.l)), (t.joiners, t.edges)))
-    (λ p. record { params = record { k = p.0.0; h = p.0.1.0; l = p.0.1.1 }; joiners = p.1.0; edges = p.1.1 })
+    code_by (Params × (ProcessSet × TableEdges))
+    (coded× params_code (coded× processes_code edges_code))
+    (λ t. (t.params, (t.joiners, t.edges)))
+    (λ p. record { params = p.0; joiners = p.1.0; edges = p.1.1 })
     (λ _. refl)

@@ -1,0 +1,11 @@
+use Rattle.std.proofs.Common.{ap, sym, ◌∙◌}
+use Rattle.std.specs.Prelude.{is_some}
+use Rattle.std.specs.FinMap as finmap
+use Rattle.rapid_model.proofs.Orders.{reports_total}
+use Rattle.rapid_rings.proofs.Sets.{get-lookup}
+use Rattle.rapid_rings.proofs.edge_map.EdgeMap.contains.Goals as goal
+
+pub returns : goal.returns
+returns c =
+    c.contains_key.ensures
+    ∙ ap is_some (sym (get-lookup reports_total c.self.inside.observers.entries (c.args.subject.now, c.args.ring)) ∙ ap (λ m. finmap.get m (c.args.subject.now, c.args.ring)) c.self.view_is)

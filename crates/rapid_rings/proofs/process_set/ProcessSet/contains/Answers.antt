@@ -1,0 +1,10 @@
+use Rattle.std.proofs.Common.{not, ap, sym, ◌∙◌}
+use Rattle.std.specs.FinSet as set
+use Rattle.rapid_model.proofs.Orders.{processes_total}
+use Rattle.rapid_rings.proofs.process_set.ProcessSet.contains.Goals as goal
+
+pub returns : goal.returns
+returns c =
+    c.contains.ensures
+    ∙ sym (set.contains-from_list processes_total c.self.inside.processes.keys c.args.process.now)
+    ∙ ap (λ s. set.contains s c.args.process.now) c.self.view_is

@@ -1,0 +1,30 @@
+// What is asked of rings and tables alike.
+
+ghost use Rattle.std.specs.Prelude.{◌≡◌};
+ghost use Rattle.rapid_model.specs.Ring.{Observers, AreObservers};
+
+use rapid_config::{ConfigId, Params};
+use rapid_endpoint::Process;
+
+/// Who observes whom in one configuration.
+pub trait ObserverTable {
+    ghost observers: { Self → Observers };
+
+    /// The number of rings and the two marks. A caller learns here that the rules of observers hold:
+    /// the parameters are in order, there is no observer beyond the rings, and at most 1,024 members have one.
+    fn params(&self) -> Params
+        ensures value { result ≡ (observers self.now).params }
+        ensures rules { AreObservers (observers self.now) };
+
+    /// The identifier of the configuration.
+    fn id(&self) -> ConfigId
+        ensures { result ≡ (observers self.now).id };
+
+    /// Whether the process is a member.
+    fn is_member(&self, process: &Process) -> bool
+        ensures { result ≡ (observers self.now).is_member process.now };
+
+    /// The member that observes the subject, a member or a joiner, on a ring from 0; none at a ring not below K.
+    fn observer(&self, ring: u8, subject: &Process) -> Option<Process>
+        ensures { result ≡ (observers self.now).observer ring subject.now };
+}
