@@ -1,7 +1,6 @@
 -- Finite sets of processes: how large they are, and which sets and maps of the program they are.
-use Rattle.std.proofs.Common.{◌≡◌, ℕ, zero, suc, ◌+◌, ◌-◌, ◌≤◌, Bool, true, false, cond, not, ◌&&◌, ◌||◌, List, [], ◌∷◌, length, map, refl, sym, ap, subst, ◌∙◌, Option, Some, None, arith}
-use Rattle.std.specs.Prelude.{is_some}
-use Rattle.std.specs.List.{list_any, list_all, AllByRecursion}
+use Rattle.std.proofs.Common.{◌≡◌, zero, suc, ◌+◌, ◌-◌, ◌≤◌, Bool, true, false, cond, not, ◌&&◌, ◌||◌, List, [], ◌∷◌, length, refl, sym, ap, subst, ◌∙◌, Some, arith}
+use Rattle.std.specs.List.{list_all, AllByRecursion}
 use Rattle.std.specs.List.Sorted.{IsStrictlySortedBy}
 use Rattle.std.specs.declared.cmp.Ordering.{Ordering}
 use Rattle.std.specs.declared.cmp.Ordering.TheVariants.{Less, Equal, Greater}
@@ -96,19 +95,19 @@ if_false false c = refl
 pub insert_seen : (ks ns : List Process) (p : Process) → ((q : Process) → is_in ns q ≡ cond (same_bytes p q) true (is_in ks q)) → ◌≡◌ {A = ProcessSet} (set.from_list ns) (set.insert (set.from_list ks) p)
 insert_seen ks ns p h =
     set.same_set processes_total processes_exact _ _ (λ q.
-      set.contains-from_list processes_total ns q ∙ h q ∙ if_true (same_bytes p q) (is_in ks q)
-      ∙ ap (λ b. b || is_in ks q) (flipped p q)
-      ∙ ap (λ b. same_bytes q p || b) (sym (set.contains-from_list processes_total ks q))
-      ∙ sym (set.contains-insert processes_total (set.from_list ks) p q))
+    set.contains-from_list processes_total ns q ∙ h q ∙ if_true (same_bytes p q) (is_in ks q)
+    ∙ ap (λ b. b || is_in ks q) (flipped p q)
+    ∙ ap (λ b. same_bytes q p || b) (sym (set.contains-from_list processes_total ks q))
+    ∙ sym (set.contains-insert processes_total (set.from_list ks) p q))
 
 -- the keys after a removal are those of the set without the process
 pub remove_seen : (ks ns : List Process) (p : Process) → ((q : Process) → is_in ns q ≡ cond (same_bytes p q) false (is_in ks q)) → ◌≡◌ {A = ProcessSet} (set.from_list ns) (set.remove (set.from_list ks) p)
 remove_seen ks ns p h =
     set.same_set processes_total processes_exact _ _ (λ q.
-      set.contains-from_list processes_total ns q ∙ h q ∙ if_false (same_bytes p q) (is_in ks q)
-      ∙ ap (λ b. not b && is_in ks q) (flipped p q)
-      ∙ ap (λ b. not (same_bytes q p) && b) (sym (set.contains-from_list processes_total ks q))
-      ∙ sym (set.contains-remove processes_total (set.from_list ks) p q))
+    set.contains-from_list processes_total ns q ∙ h q ∙ if_false (same_bytes p q) (is_in ks q)
+    ∙ ap (λ b. not b && is_in ks q) (flipped p q)
+    ∙ ap (λ b. not (same_bytes q p) && b) (sym (set.contains-from_list processes_total ks q))
+    ∙ sym (set.contains-remove processes_total (set.from_list ks) p q))
 
 none_of_sorted : (p : Process) (ks : List Process) → AllByRecursion (λ q. process_cmp p q ≡ Less) ks → is_in ks p ≡ false
 none_of_sorted p [] h = refl
@@ -138,6 +137,6 @@ pub map_insert_seen : {K X : Type 0} {R : K → K → Ordering} → IsTotalOrder
     → ((q : K) → lookup (is_at (R q)) ns ≡ cond (is_at (R k) q) (Some v) (lookup (is_at (R q)) es)) → finmap.from_entries {R = R} ns ≡ finmap.insert (finmap.from_entries es) k v
 map_insert_seen {K} {X} {R} o exact es ns k v h =
     finmap.same_map o exact _ _ (λ q.
-      get-lookup o ns q ∙ h q ∙ ap (λ b. cond b (Some v) (lookup (is_at (R q)) es)) ((eq_by_cmp_equiv o).symm k q)
-      ∙ ap (cond (eq_by_cmp R q k) (Some v)) (sym (get-lookup o es q))
-      ∙ sym (finmap.get-insert o (finmap.from_entries es) k v q))
+    get-lookup o ns q ∙ h q ∙ ap (λ b. cond b (Some v) (lookup (is_at (R q)) es)) ((eq_by_cmp_equiv o).symm k q)
+    ∙ ap (cond (eq_by_cmp R q k) (Some v)) (sym (get-lookup o es q))
+    ∙ sym (finmap.get-insert o (finmap.from_entries es) k v q))

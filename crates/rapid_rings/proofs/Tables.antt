@@ -1,8 +1,6 @@
 -- The rules of tables are kept, and the observers of a table are observers.
-use Rattle.std.proofs.Common.{◌≡◌, ℕ, zero, suc, ◌+◌, ◌-◌, ◌≤◌, ◌<◌, Bool, true, false, cond, not, ◌&&◌, ◌||◌, List, [], ◌∷◌, length, map, refl, sym, ap, subst, ◌∙◌, Option, Some, None, arith, nat_lt}
+use Rattle.std.proofs.Common.{◌≡◌, ℕ, suc, ◌+◌, ◌-◌, ◌≤◌, Bool, true, false, cond, not, ◌&&◌, ◌||◌, List, [], ◌∷◌, length, map, refl, sym, ap, subst, ◌∙◌, Option, Some, None, arith, nat_lt}
 use Rattle.std.specs.Prelude.{All, IsSome, IsTrue, is_some}
-use Rattle.std.specs.List.{list_any}
-use Rattle.std.specs.declared.cmp.Ordering.{Ordering}
 use Rattle.std.specs.declared.cmp.Ordering.TheVariants.{Less, Equal, Greater}
 use Rattle.std.specs.Ordering.{eq_by_cmp}
 use Rattle.std.specs.FinSet as set
@@ -10,13 +8,12 @@ use Rattle.std.specs.FinMap as finmap
 use Rattle.std.specs.FinMap.{put}
 use Rattle.rapid_model.specs.Process.{Process, ProcessSet, process_cmp, same_bytes, is_in}
 use Rattle.rapid_model.specs.Configuration.{Params, AreParams}
-use Rattle.rapid_model.specs.Cut.{is_ascending}
-use Rattle.rapid_model.specs.Ring.{Observers, AreObservers, IsObserved}
+use Rattle.rapid_model.specs.Ring.{AreObservers}
 use Rattle.rapid_model.specs.Reports.{Report, report_cmp}
 use Rattle.rapid_model.specs.Table.{Table, TableFault, TooMany, TableEdges, IsTable, empty_table, table_subjects, observed_members, is_too_many, add_fault, after_add, after_joiner, table_observers}
 use Rattle.rapid_model.proofs.Orders.{processes_total, processes_exact, reports_total, reports_exact, tie_decides, same_bytes_decides}
 use Rattle.rapid_rings.specs.Held.{Holds}
-use Rattle.rapid_rings.proofs.Sets.{both, own, ascending_fit}
+use Rattle.rapid_rings.proofs.Sets.{ascending_fit}
 
 -- ---- the subjects of edges
 
@@ -100,12 +97,12 @@ if_contains false s t q = refl
 pub observed-after_add : (t : Table) (ring : ℕ) (observer subject : Process) → observed_members (after_add t ring observer subject) ≡ cond (set.contains t.joiners subject) (observed_members t) (set.insert (observed_members t) subject)
 observed-after_add t ring observer subject =
     set.same_set processes_total processes_exact _ _ (λ q.
-      contains-observed (after_add t ring observer subject) q
-      ∙ ap (λ b. b && not (set.contains t.joiners q)) (subjects-insert t.edges (subject, ring) observer q)
-      ∙ added (same_bytes q subject) (set.contains (table_subjects t.edges) q) (set.contains t.joiners q) (set.contains t.joiners subject) (λ e. ap (set.contains t.joiners) ((same_bytes_decides q subject).0 e))
-      ∙ ap (λ b. cond (set.contains t.joiners subject) b (same_bytes q subject || b)) (sym (contains-observed t q))
-      ∙ ap (cond (set.contains t.joiners subject) (set.contains (observed_members t) q)) (sym (set.contains-insert processes_total (observed_members t) subject q))
-      ∙ sym (if_contains (set.contains t.joiners subject) (observed_members t) (set.insert (observed_members t) subject) q))
+    contains-observed (after_add t ring observer subject) q
+    ∙ ap (λ b. b && not (set.contains t.joiners q)) (subjects-insert t.edges (subject, ring) observer q)
+    ∙ added (same_bytes q subject) (set.contains (table_subjects t.edges) q) (set.contains t.joiners q) (set.contains t.joiners subject) (λ e. ap (set.contains t.joiners) ((same_bytes_decides q subject).0 e))
+    ∙ ap (λ b. cond (set.contains t.joiners subject) b (same_bytes q subject || b)) (sym (contains-observed t q))
+    ∙ ap (cond (set.contains t.joiners subject) (set.contains (observed_members t) q)) (sym (set.contains-insert processes_total (observed_members t) subject q))
+    ∙ sym (if_contains (set.contains t.joiners subject) (observed_members t) (set.insert (observed_members t) subject) q))
 
 taken_out : (c s j : Bool) → (c && not (s || j)) ≡ (not s && (c && not j))
 taken_out true true j = refl
@@ -117,19 +114,19 @@ taken_out false false j = refl
 pub observed-after_joiner : (t : Table) (joiner : Process) → observed_members (after_joiner t joiner) ≡ set.remove (observed_members t) joiner
 observed-after_joiner t joiner =
     set.same_set processes_total processes_exact _ _ (λ q.
-      contains-observed (after_joiner t joiner) q
-      ∙ ap (λ b. set.contains (table_subjects t.edges) q && not b) (set.contains-insert processes_total t.joiners joiner q)
-      ∙ taken_out (set.contains (table_subjects t.edges) q) (same_bytes q joiner) (set.contains t.joiners q)
-      ∙ ap (λ b. not (same_bytes q joiner) && b) (sym (contains-observed t q))
-      ∙ sym (set.contains-remove processes_total (observed_members t) joiner q))
+    contains-observed (after_joiner t joiner) q
+    ∙ ap (λ b. set.contains (table_subjects t.edges) q && not b) (set.contains-insert processes_total t.joiners joiner q)
+    ∙ taken_out (set.contains (table_subjects t.edges) q) (same_bytes q joiner) (set.contains t.joiners q)
+    ∙ ap (λ b. not (same_bytes q joiner) && b) (sym (contains-observed t q))
+    ∙ sym (set.contains-remove processes_total (observed_members t) joiner q))
 
 -- a table with no edges has no observed members
 pub observed-empty : (params : Params) → observed_members (empty_table params) ≡ set.empty
 observed-empty params =
     set.same_set processes_total processes_exact _ _ (λ q.
-      contains-observed (empty_table params) q
-      ∙ ap (λ b. b && not (set.contains (set.empty {R = process_cmp}) q)) (subjects-empty q)
-      ∙ sym (set.contains-empty process_cmp q))
+    contains-observed (empty_table params) q
+    ∙ ap (λ b. b && not (set.contains (set.empty {R = process_cmp}) q)) (subjects-empty q)
+    ∙ sym (set.contains-empty process_cmp q))
 
 -- ---- the rules of tables
 
@@ -146,8 +143,8 @@ pub after_add-few : (t : Table) (ring : ℕ) (observer subject : Process) → Is
 after_add-few t ring observer subject is h =
     one_more (set.contains t.joiners subject) (set.contains (observed_members t) subject) (set.len (observed_members t)) _ is.few h
     (ap set.len (observed-after_add t ring observer subject)
-     ∙ if_len (set.contains t.joiners subject)
-     ∙ ap (cond (set.contains t.joiners subject) (set.len (observed_members t))) (set.len-insert processes_total (observed_members t) subject))
+    ∙ if_len (set.contains t.joiners subject)
+    ∙ ap (cond (set.contains t.joiners subject) (set.len (observed_members t))) (set.len-insert processes_total (observed_members t) subject))
   where
     if_len : (b : Bool) → set.len (cond b (observed_members t) (set.insert (observed_members t) subject)) ≡ cond b (set.len (observed_members t)) (set.len (set.insert (observed_members t) subject))
     if_len true = refl
@@ -168,7 +165,7 @@ after_joiner-IsTable t joiner is =
       params = is.params;
       few =
           let e = ap set.len (observed-after_joiner t joiner) ∙ set.len-remove processes_total (observed_members t) joiner in
-          fewer (set.contains (observed_members t) joiner) (set.len (observed_members t)) _ is.few e
+          fewer (set.contains (observed_members t) joiner) (set.len (observed_members t)) _ is.few e;
     }
   where
     fewer : (b : Bool) (n r : ℕ) → n ≤ 1024 → r ≡ cond b (n - 1) n → r ≤ 1024
@@ -225,7 +222,7 @@ pub Holds-joiner : (t : Table) (members : ProcessSet) (joiner : Process) → Hol
 Holds-joiner t members joiner h =
     record {
       rules = after_joiner-IsTable t joiner h.rules;
-      observed = ap (λ s. set.remove s joiner) h.observed ∙ sym (observed-after_joiner t joiner)
+      observed = ap (λ s. set.remove s joiner) h.observed ∙ sym (observed-after_joiner t joiner);
     }
 
 -- the observed members with one more subject, unless it is a joiner
@@ -234,7 +231,7 @@ pub Holds-add : (t : Table) (members : ProcessSet) (ring : ℕ) (observer subjec
 Holds-add t members ring observer subject h none =
     record {
       rules = after_add-IsTable t ring observer subject h.rules none;
-      observed = ap (λ s. cond (set.contains t.joiners subject) s (set.insert s subject)) h.observed ∙ sym (observed-after_add t ring observer subject)
+      observed = ap (λ s. cond (set.contains t.joiners subject) s (set.insert s subject)) h.observed ∙ sym (observed-after_add t ring observer subject);
     }
 
 -- a subject that was new is taken back

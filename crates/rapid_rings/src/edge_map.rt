@@ -50,7 +50,12 @@ impl EdgeMap {
     }
 
     /// Sets the observer of the subject on a ring. Want of memory leaves the edges as they were.
-    pub(crate) fn insert(&mut self, ring: u8, observer: Process, subject: Process) -> Result<(), AllocError>
+    pub(crate) fn insert(
+        &mut self,
+        ring: u8,
+        observer: Process,
+        subject: Process,
+    ) -> Result<(), AllocError>
         ensures ok { OnOk result (self.new ≡ finmap.insert self.old (subject, ring) observer) }
         ensures unchanged { OnErr result (self.new ≡ self.old) }
     {

@@ -13,6 +13,3 @@ mod table_error;
 pub use observer_table::ObserverTable;
 pub use table::Table;
 pub use table_error::TableError;
-
-#[cfg(test)]
-mod tests;

@@ -1,4 +1,4 @@
-use Rattle.std.proofs.Common.{not, ap, sym, ◌∙◌}
+use Rattle.std.proofs.Common.{ap, sym, ◌∙◌}
 use Rattle.std.specs.FinSet as set
 use Rattle.rapid_model.proofs.Orders.{processes_total}
 use Rattle.rapid_rings.proofs.process_set.ProcessSet.contains.Goals as goal
