@@ -33,6 +33,12 @@ all_later lt t x y (z ∷ zs) h k =
 later : {X : Type 0} (lt : X → X → Bool) (x : X) (xs : List X) (k : ℕ) (d : X) (b : Bool) → b ≡ lt (get_or (x ∷ xs) (suc k) d) (get_or (x ∷ xs) (suc k + 1) d) → b ≡ lt (get_or xs k d) (get_or xs (k + 1) d)
 later lt x xs k d b h = h ∙ ap (λ i. lt (get_or xs k d) (get_or (x ∷ xs) i d)) (suc-add k 1)
 
+-- where all pass, each does
+pub each_passes : {X : Type 0} (t : X → Bool) (xs : List X) → list_all t xs ≡ true → (k : ℕ) (d : X) → k < length xs → t (get_or xs k d) ≡ true
+each_passes t [] h k d l = absurd (omega (arith, l))
+each_passes t (x ∷ xs) h zero d l = (and_parts (t x) (list_all t xs) h).0
+each_passes t (x ∷ xs) h (suc k) d l = each_passes t xs (and_parts (t x) (list_all t xs) h).1 k d (omega (arith, l))
+
 -- f says that each element passes lt with all later ones
 pub ascends_by_neighbours : {X : Type 0} (lt : X → X → Bool) (f : List X → Bool) → ((x y z : X) → lt x y ≡ true → lt y z ≡ true → lt x z ≡ true) → f [] ≡ true → ((x : X) (xs : List X) → f (x ∷ xs) ≡ (list_all (lt x) xs && f xs)) → (xs : List X) (r : Bool) → IsAllAdjacentAnswer (λ x y b. b ≡ lt x y) xs r → r ≡ f xs
 ascends_by_neighbours {X} lt f t none more xs true h = sym (rising xs (λ k d l. sym (h k d l)))
@@ -54,3 +60,13 @@ ascends_by_neighbours {X} lt f t none more xs false (k, l, h) = sym (falling xs 
         more x (y ∷ ys) ∙ and_left (list_all (lt x) (y ∷ ys)) (f (y ∷ ys)) (and_left (lt x y) (list_all (lt x) ys) (sym (h x)))
     falling (x ∷ y ∷ ys) (suc k) l h =
         more x (y ∷ ys) ∙ and_right (list_all (lt x) (y ∷ ys)) (f (y ∷ ys)) (falling (y ∷ ys) k (omega (arith, l)) (λ d. later lt x (y ∷ ys) k d false (h d)))
+
+-- where f says that each element is below all later ones, one is below a later one
+pub later_less : {X : Type 0} (R : X → X → Ordering) (f : List X → Bool) → ((x : X) (xs : List X) → f (x ∷ xs) ≡ (list_all (λ y. is_lt (R x y)) xs && f xs)) → (xs : List X) → f xs ≡ true → (i j : ℕ) (d : X) → i < j → j < length xs → R (get_or xs i d) (get_or xs j d) ≡ Less
+later_less R f more [] up i j d l m = absurd (omega (arith, m))
+later_less R f more (x ∷ xs) up zero zero d l m = absurd (omega (arith, l))
+later_less {X} R f more (x ∷ xs) up zero (suc j) d l m =
+    less_is (R x (get_or xs j d)) (each_passes (λ y. is_lt (R x y)) xs (and_parts (list_all (λ y. is_lt (R x y)) xs) (f xs) (sym (more x xs) ∙ up)).0 j d (omega (arith, m)))
+later_less R f more (x ∷ xs) up (suc i) zero d l m = absurd (omega (arith, l))
+later_less R f more (x ∷ xs) up (suc i) (suc j) d l m =
+    later_less R f more xs (and_parts (list_all (λ y. is_lt (R x y)) xs) (f xs) (sym (more x xs) ∙ up)).1 i j d (omega (arith, l)) (omega (arith, m))

@@ -1,5 +1,5 @@
 -- The errors of configurations and cuts, and the faults that they report.
-use Rattle.std.specs.Prelude.{◌≡◌, ℕ, Option, Some, None}
+use Rattle.std.specs.Prelude.{◌≡◌, ℕ, Option, Some, None, ◌⊎◌}
 use Rattle.rapid_model.specs.Reading as fault
 use Rattle.rapid_config.specs.declared.error.ConfigError.{ConfigError}
 use Rattle.rapid_config.specs.declared.error.ConfigError.TheVariants.{BadParams, Truncated, Trailing, BadMagic, NotSorted, EndpointTwice, TooMany, EmptyCut, HeightFull, OutOfMemory}
@@ -17,7 +17,8 @@ code_of EmptyCut = 8
 code_of HeightFull = 9
 code_of OutOfMemory = 99
 
--- The error reports exactly this fault; want of memory is reported only where there is none.
+-- The error reports exactly this fault. Want of memory is reported only where there is none, or where
+-- just the endpoints, which are looked at last, are at fault.
 abbrev pub Reports : Option fault.ConfigurationFault → ConfigError → Type 0
 Reports f BadParams = f ≡ Some fault.BadParams
 Reports f Truncated = f ≡ Some fault.Truncated
@@ -28,4 +29,4 @@ Reports f EndpointTwice = f ≡ Some fault.EndpointTwice
 Reports f TooMany = f ≡ Some fault.TooMany
 Reports f EmptyCut = f ≡ Some fault.EmptyCut
 Reports f HeightFull = ⊥
-Reports f OutOfMemory = f ≡ None
+Reports f OutOfMemory = (f ≡ None) ⊎ (f ≡ Some fault.EndpointTwice)

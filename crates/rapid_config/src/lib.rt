@@ -2,14 +2,21 @@
 #![tactic(auto)]
 
 mod config_id;
+mod configuration;
 mod cut;
+mod endpoints;
 mod error;
+mod members;
 mod params;
+mod spelling;
+mod stamp;
 #[cfg(test)]
 mod tests;
 mod told;
 
 pub use config_id::ConfigId;
+pub use configuration::Configuration;
 pub use cut::Cut;
 pub use error::ConfigError;
 pub use params::Params;
+pub use stamp::Stamp;

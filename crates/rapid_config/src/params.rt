@@ -41,6 +41,14 @@ impl Params {
         }
     }
 
+    /// The value is parameters in order. It does nothing: what it ensures is for proofs.
+    #[inline(always)]
+    pub fn tell(&self)
+        ensures { AreParams self.now }
+    {
+        let _ = &self.k;
+    }
+
     /// The number of rings.
     pub fn k(self) -> u8
         ensures value { result ≡ self.k }

@@ -1,0 +1,15 @@
+use Rattle.std.proofs.Common.{List, ap, ◌∙◌, arith}
+use Rattle.sha2.specs.Sha256.{sha256}
+use Rattle.rapid_model.specs.Process.{Process}
+use Rattle.rapid_model.specs.Configuration.{configuration_bytes, configuration_id}
+use Rattle.rapid_config.proofs.configuration.assemble.Goals as goal
+
+pub invariant_of-result : goal.invariant_of-result
+unfolding configuration_id
+invariant_of-result c = (
+  record { params = c.tell.ensures; height = omega arith; previous = (c.tell-2.ensures.length, c.tell-2.ensures.bytes); members = c.requires },
+  c.new-id.ensures ∙ c.digest.ensures ∙ ap sha256 (c.as_slice-2.ensures.value ∙ c.in_ok-bytes.ensures)
+  ∙ ap
+    (λ (ps : List Process). sha256 (configuration_bytes (record { params = c.args.params; height = c.args.height; previous = c.args.previous; members = ps })))
+    c.as_slice.ensures.value
+)

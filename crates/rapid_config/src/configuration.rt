@@ -1,0 +1,176 @@
+// Configurations: views of who the members are.
+
+ghost use Rattle.std.specs.Prelude.{◌≡◌, ◌≤◌, None, length, IfOk, IfErr, OnOk, IfSome};
+ghost use Rattle.std.specs.Arc.{arc_slice_items};
+ghost use Rattle.rapid_model.specs.Configuration as model;
+ghost use Rattle.rapid_model.specs.Configuration.{AreMembers, IsConfiguration, founding, configuration_bytes, configuration_id, position_of};
+ghost use Rattle.rapid_model.specs.Reading.{members_fault};
+ghost use Rattle.rapid_config.specs.Faults.{Reports};
+
+use crate::members::{check_members, place_of};
+use crate::spelling::spell;
+use crate::{ConfigError, ConfigId, Params, Stamp};
+use rapid_endpoint::Process;
+use sha2::{Digest, Sha256};
+use std::alloc::{AllocError, Global};
+use std::marker::Model;
+use std::sync::ArcSlice;
+
+/// A configuration: a view of who the members are. It has a height, the identifier of the one before,
+/// the parameters, and at most 1,024 members, ascending by identifier, of which no two have one
+/// endpoint. Its identifier is computed once, when it is made. Copies share one list of members.
+#[derive(Debug, Drop)]
+pub struct Configuration {
+    params: Params,
+    height: u64,
+    previous: ConfigId,
+    members: ArcSlice<Process>,
+    id: ConfigId,
+}
+
+impl Model for Configuration {
+    ghost use Rattle.std.specs.Prelude.{◌≡◌};
+    ghost use Rattle.std.specs.Arc.{arc_slice_items};
+    ghost use Rattle.rapid_model.specs.Configuration.{Configuration as ModelConfiguration, IsConfiguration, configuration_id};
+
+    ghost Value = { ModelConfiguration };
+
+    ghost view = { λ c. record { params = c.params; height = c.height; previous = c.previous; members = arc_slice_items c.members } };
+
+    ghost invariant = { λ c.
+        IsConfiguration (record { params = c.params; height = c.height; previous = c.previous; members = arc_slice_items c.members })
+        × (c.id ≡ configuration_id (record { params = c.params; height = c.height; previous = c.previous; members = arc_slice_items c.members })) };
+}
+
+/// The configuration of these parts.
+pub(crate) fn assemble(
+    alloc: Global,
+    params: Params,
+    height: u64,
+    previous: ConfigId,
+    members: ArcSlice<Process>,
+) -> Result<Configuration, AllocError>
+    requires { AreMembers (arc_slice_items members) }
+    ensures { IfOk result
+        (λ c. c ≡ record { params = params; height = height; previous = previous; members = arc_slice_items members }) }
+{
+    params.tell();
+    previous.tell();
+    let bytes = spell(alloc, params, height, previous, members.as_slice())?;
+    let id = ConfigId::new(Sha256::digest(bytes.as_slice()));
+    Ok(Configuration {
+        params,
+        height,
+        previous,
+        members,
+        id,
+    })
+}
+
+impl Configuration {
+    /// The most members of a configuration.
+    pub const MOST: usize = 1024;
+
+    /// The founding configuration of these members, of whom there is at least one. The first that
+    /// holds: `TooMany` where there are more than 1,024, `NotSorted` where their identifiers do not
+    /// strictly ascend, `EndpointTwice` where two have one endpoint.
+    pub fn seed(alloc: Global, params: Params, founders: &[Process]) -> Result<Configuration, ConfigError>
+        requires { 1 ≤ length founders.now }
+        ensures value { IfOk result (λ c. c ≡ founding params founders.now) }
+        ensures valid { IfOk result IsConfiguration }
+        ensures allowed { OnOk result (members_fault founders.now ≡ None) }
+        ensures refused { IfErr result (Reports (members_fault founders.now)) }
+    {
+        check_members(alloc, founders)?;
+        let members = ArcSlice::from_slice(alloc, founders)?;
+        let configuration = assemble(alloc, params, 0, ConfigId::zero(), members)?;
+        configuration.tell();
+        Ok(configuration)
+    }
+
+    /// The value is a configuration. It does nothing: what it ensures is for proofs.
+    #[inline(always)]
+    pub fn tell(&self)
+        ensures { IsConfiguration self.now }
+    {
+        let _ = &self.height;
+    }
+
+    /// The parameters.
+    pub fn params(&self) -> Params
+        ensures { result ≡ self.now.params }
+    {
+        self.params
+    }
+
+    /// The height: how many view changes lie before it.
+    pub fn height(&self) -> u64
+        ensures { result ≡ self.now.height }
+    {
+        self.height
+    }
+
+    /// The identifier of the configuration before; all zero at a founding.
+    pub fn previous(&self) -> ConfigId
+        ensures { result ≡ self.now.previous }
+    {
+        self.previous
+    }
+
+    /// The members, ascending by identifier.
+    pub fn members(&self) -> &[Process]
+        ensures value { result.now ≡ self.now.members }
+        ensures valid { AreMembers self.now.members }
+    {
+        self.members.as_slice()
+    }
+
+    /// The identifier: the SHA-256 (FIPS 180-4) of the canonical bytes.
+    pub fn id(&self) -> ConfigId
+        ensures { result ≡ configuration_id self.now }
+    {
+        self.id
+    }
+
+    /// The place of a member, from 0, by identifier; none for another process.
+    pub fn position(&self, process: &Process) -> Option<usize>
+        ensures place { result ≡ position_of self.now process.now }
+    {
+        place_of(self.members.as_slice(), process)
+    }
+
+    /// Whether the process is a member.
+    pub fn is_member(&self, process: &Process) -> bool
+        ensures { result ≡ model.is_member self.now process.now }
+    {
+        self.position(process).is_some()
+    }
+
+    /// What stands for this configuration in a list of installed ones.
+    pub fn stamp(&self) -> Stamp
+        ensures { result ≡ model.stamp self.now }
+    {
+        Stamp::new(self.height, self.id, self.members.len())
+    }
+
+    /// The canonical bytes.
+    pub fn to_bytes(&self, alloc: Global) -> Result<Vec<u8>, AllocError>
+        ensures { IfOk result (λ bytes. bytes.items ≡ configuration_bytes self.now) }
+    {
+        spell(alloc, self.params, self.height, self.previous, self.members.as_slice())
+    }
+
+    /// An equal configuration, which shares the list of members.
+    pub fn try_copy(&self, _alloc: Global) -> Result<Configuration, AllocError>
+        ensures { IfOk result (λ c. c ≡ self.now) }
+    {
+        let members = self.members.clone()?;
+        Ok(Configuration {
+            params: self.params,
+            height: self.height,
+            previous: self.previous,
+            members,
+            id: self.id,
+        })
+    }
+}

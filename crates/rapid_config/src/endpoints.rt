@@ -1,0 +1,27 @@
+// The endpoints of some processes, as a set.
+
+ghost use Rattle.std.specs.Prelude.{◌≡◌, true, false, IfOk, MatchOption};
+ghost use Rattle.rapid_model.specs.Configuration.{endpoints_differ};
+ghost use Rattle.rapid_config.specs.Endpoints.{AreEndpointsOf};
+
+use rapid_endpoint::{Endpoint, Process};
+use std::alloc::{AllocError, Global};
+use std::collections::BTreeSet;
+
+/// The endpoints of the processes; none where two have one.
+pub(crate) fn endpoints_of(
+    alloc: Global,
+    processes: &[Process],
+) -> Result<Option<BTreeSet<Endpoint>>, AllocError>
+    ensures { IfOk result
+        (λ o. MatchOption o (endpoints_differ processes.now ≡ false)
+            (λ set. (endpoints_differ processes.now ≡ true) × AreEndpointsOf processes.now set)) }
+{
+    let mut seen = BTreeSet::new(alloc);
+    for process in processes {
+        if !seen.insert(process.endpoint())? {
+            return Ok(None);
+        }
+    }
+    Ok(Some(seen))
+}

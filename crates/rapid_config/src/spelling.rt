@@ -1,0 +1,42 @@
+// The canonical bytes of configurations.
+
+ghost use Rattle.std.specs.Prelude.{◌≡◌, ◌≤◌, length, IfOk};
+ghost use Rattle.rapid_model.specs.Configuration.{configuration_bytes};
+
+use crate::{ConfigId, Params};
+use rapid_endpoint::Process;
+use std::alloc::{AllocError, Global};
+
+/// The letters `RPC1`, with which the bytes of a configuration begin.
+pub(crate) const MAGIC: [u8; 4] = [0x52, 0x50, 0x43, 0x31];
+
+/// How many bytes stand before those of the members.
+pub(crate) const HEAD_BYTES: usize = 49;
+
+/// How many bytes each member has.
+pub(crate) const MEMBER_BYTES: usize = 22;
+
+/// The canonical bytes of the configuration of these parts.
+pub(crate) fn spell(
+    alloc: Global,
+    params: Params,
+    height: u64,
+    previous: ConfigId,
+    members: &[Process],
+) -> Result<Vec<u8>, AllocError>
+    requires { length members.now ≤ 1024 }
+    ensures { IfOk result
+        (λ bytes. bytes.items ≡ configuration_bytes (record { params = params; height = height; previous = previous; members = members.now })) }
+{
+    let count = members.len() as u16;
+    let mut bytes = Vec::with_capacity(alloc, HEAD_BYTES + MEMBER_BYTES * members.len())?;
+    bytes.extend_from_slice(&MAGIC)?;
+    bytes.extend_from_slice(&previous.bytes())?;
+    bytes.extend_from_slice(&height.to_be_bytes())?;
+    bytes.extend_from_slice(&[params.k(), params.h(), params.l()])?;
+    bytes.extend_from_slice(&count.to_be_bytes())?;
+    for member in members {
+        bytes.extend_from_slice(&member.to_bytes())?;
+    }
+    Ok(bytes)
+}
