@@ -57,7 +57,7 @@ then_works c me acts heard ms w f one two = by w.decided refl
         (append_assoc acts (map Did w.effects) (map Did next.effects) ∙ ap (λ l. acts ++ l) (sym (map-append Did w.effects next.effects))) l)
 
 -- nothing is done
-rests : (c : Configuration) (me : Process) (acts : List Act) (heard : List Message) (s : MemberState) (mine : Process) → Lives c me acts heard s None → LivesOn c me acts heard mine [] (still s)
+pub rests : (c : Configuration) (me : Process) (acts : List Act) (heard : List Message) (s : MemberState) (mine : Process) → Lives c me acts heard s None → LivesOn c me acts heard mine [] (still s)
 rests c me acts heard s mine l =
     subst (λ a. Lives c me a (heard ++ []) s None) (sym (nil_end acts)) (subst (λ h. Lives c me acts h s None) (sym (nil_end heard)) l)
 
@@ -115,7 +115,7 @@ aged_works c me acts heard s l sync =
 
 -- ---- the rest of a tick
 
-as_me : (c : Configuration) (me : Process) (acts : List Act) (heard ms : List Message) (s : MemberState) (w : Work) → s.me ≡ me → LivesOn c me acts heard s.me ms w → LivesOn c me acts heard me ms w
+pub as_me : (c : Configuration) (me : Process) (acts : List Act) (heard ms : List Message) (s : MemberState) (w : Work) → s.me ≡ me → LivesOn c me acts heard s.me ms w → LivesOn c me acts heard me ms w
 as_me c me acts heard ms s w e l = subst (λ p. LivesOn c me acts heard p ms w) e l
 
 module _ (c : Configuration) (me : Process) (acts : List Act) (heard : List Message) (s : MemberState) (lives : Lives c me acts heard s None) where

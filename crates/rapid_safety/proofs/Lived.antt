@@ -1,0 +1,452 @@
+-- In every run the life of each member stands in the log.
+use Rattle.std.proofs.Common.{◌≡◌, ◌≢◌, ◌⊎◌, ◌<◌, ◌+◌, inl, inr, ℕ, zero, suc, Bool, true, false, cond, not, ◌&&◌, ◌||◌, ◌==◌, List, [], ◌∷◌, ◌++◌, map, refl, sym, ap, subst, ◌∙◌, Option, Some, None, arith, append_assoc, unwrap_or, length}
+use Rattle.std.specs.Prelude.{slice_get, filter_map, IsTrue, nat_lt, position, is_some}
+use Rattle.std.specs.List.{list_any, list_all}
+use Rattle.std.specs.FinMap as map
+use Rattle.std.specs.Ordering.{nat_cmp, is_lt}
+use Rattle.std.specs.Cmp.{tied_itself}
+use Rattle.std.proofs.lemmas.Bool.{and_parts}
+use Rattle.rapid_model.specs.Process.{Process, identifier, endpoint, bytes_cmp, same_bytes, is_in}
+use Rattle.rapid_model.specs.Cut.{Cut}
+use Rattle.rapid_model.specs.Configuration.{Configuration, AreMembers, is_member, identifiers_ascend}
+use Rattle.rapid_model.specs.Apply.{apply}
+use Rattle.rapid_model.specs.Edge.{Edge, fresh_edge, probed, edge_after}
+use Rattle.rapid_model.specs.Message.{Message, Answer, Body, Batch, FastVote, Prepare, Promise, Accept, Accepted, Decision, PreJoin, Reply, JoinRequest, Confirm, Probe, ProbeAck}
+use Rattle.rapid_model.specs.Joiner.{Joiner, after_tick, asks_at_tick}
+use Rattle.rapid_model.specs.Node.{Node, Decisions, Phase, Joining, Member, Removed, Halted, MemberState, Effect, Outcome, Event, EdgeDown, Receive, member_in, member_config, fresh_member, seed_node, joiner_node, has_installed, halt, configuration_of}
+use Rattle.rapid_model.specs.Node as node
+use Rattle.rapid_model.specs.Receive.{receive_as_joiner, joins_on, replied, catch_up}
+use Rattle.rapid_model.specs.NodeStep.{node_step, step_tick, step_receive, step_edge_down, phase_in, question_to, idle}
+use Rattle.rapid_model.specs.World.{World, Peer, Act, Took, Did, Ticked, Probed, Installed, HasHalted, Crashed, Entry, Start, MarkedEvent, observed, observed_in, has_identifier, running_at}
+use Rattle.rapid_model.specs.WorldStep.{entry, edge_on, with_edge, edges_after, acts_of, noted, halted, moved, crashed, added, started}
+use Rattle.rapid_model.specs.Refusal.{IdentifierUsed, EndpointBusy, refusal}
+use Rattle.rapid_model.specs.Run.{run, founded}
+use Rattle.rapid_model.specs.History.{is_act_in, result_on}
+use Rattle.rapid_model.proofs.Orders.{same_bytes_decides, processes_total}
+use Rattle.rapid_model.proofs.Lists.{In}
+use Rattle.rapid_safety.proofs.Atoms.{taken_in, message, marks, Lives, enters, does}
+use Rattle.rapid_safety.proofs.Kept.{lives_config}
+use Rattle.rapid_safety.proofs.TickWorks.{filter_map-append}
+use Rattle.rapid_safety.proofs.NodeWorks.{nil_end, length-push, not_below, below_next, Stepped, goes_on, installs}
+use Rattle.rapid_safety.proofs.Logs.{acts_at, acts_here, acts_elsewhere, here_from, elsewhere, get_push, push_get}
+use Rattle.rapid_safety.proofs.Histories.{NodeNow, PastLife, was_not, was, Lived, lived_next, now_same}
+use Rattle.rapid_safety.proofs.LifeSteps.{results_in, no_results, window_after, now_member, results_acts, Met, meets, comes_steps, halts_life}
+use Rattle.rapid_safety.proofs.Steps.{StandsAt, Comes, by_tick, by_packet, by_probe, Steps, stays, starts, notes, stops, moves, ends}
+use Rattle.rapid_safety.proofs.StepLemmas.{run_keeps}
+
+-- ---- what a step makes of a node that is no member
+
+-- a node that joins goes on joining, or enters a configuration
+pub data JoinerSteps (n : Node) : Event → Outcome → Type 0 where
+  joins_still : (e : Event) (j : Joiner) (es : List Effect) → JoinerSteps n e (record { node = record n { phase = Joining j }; effects = es })
+  joins : (from : Process) (c : Configuration) → is_member c n.me ≡ true → JoinerSteps n (Receive (message from (Confirm c))) (record { node = seed_node c n.me; effects = [] })
+
+module _ (n : Node) (j : Joiner) (joining : n.phase ≡ Joining j) where
+  as_joiner : record n { phase = Joining j } ≡ n
+  as_joiner = λ i. record { me = n.me; phase = sym joining i; installed = n.installed; decisions = n.decisions }
+
+  still : (e : Event) (es : List Effect) (o : Outcome) → Some (record { node = record n { phase = Joining j }; effects = es }) ≡ Some o → JoinerSteps n e o
+  still e es o h = let same : record { node = record n { phase = Joining j }; effects = es } ≡ o = cc in subst (JoinerSteps n e) same (joins_still e j es)
+
+  confirmed : (from : Process) (c : Configuration) (b : Bool) (o : Outcome) → is_member c n.me ≡ b →
+      Some (cond b (record { node = seed_node c n.me; effects = [] }) (joins_on n.me n.installed n.decisions j [])) ≡ Some o → JoinerSteps n (Receive (message from (Confirm c))) o
+  confirmed from c true o e h = let same : record { node = seed_node c n.me; effects = [] } ≡ o = cc in subst (JoinerSteps n (Receive (message from (Confirm c)))) same (joins from c e)
+  confirmed from c false o e h = still (Receive (message from (Confirm c))) [] o h
+
+  receives : (from : Process) (b : Body) (o : Outcome) → Some (receive_as_joiner n.me n.installed n.decisions j b) ≡ Some o → JoinerSteps n (Receive (message from b)) o
+  unfolding receive_as_joiner
+  receives from (Reply who a) o h = still _ (replied n.me j who a) o h
+  receives from (Confirm c) o h = confirmed from c (is_member c n.me) o refl h
+  receives from (Batch id xs) o h = still _ [] o h
+  receives from (FastVote id v) o h = still _ [] o h
+  receives from (Prepare id b) o h = still _ [] o h
+  receives from (Promise id b vote) o h = still _ [] o h
+  receives from (Accept id b v) o h = still _ [] o h
+  receives from (Accepted id b v) o h = still _ [] o h
+  receives from (Decision id v) o h = still _ [] o h
+  receives from PreJoin o h = still _ [] o h
+  receives from (JoinRequest id k) o h = still _ [] o h
+  receives from (Probe id) o h = still _ [] o h
+  receives from (ProbeAck id) o h = still _ [] o h
+
+  ticks_on : (o : Outcome) → Some (record { node = record n { phase = Joining (after_tick j) }; effects = question_to (asks_at_tick j) }) ≡ Some o → JoinerSteps n node.Tick o
+  ticks_on o h = let same : record { node = record n { phase = Joining (after_tick j) }; effects = question_to (asks_at_tick j) } ≡ o = cc in subst (JoinerSteps n node.Tick) same (joins_still node.Tick (after_tick j) (question_to (asks_at_tick j)))
+
+  idles : (e : Event) (o : Outcome) → Some (idle n) ≡ Some o → JoinerSteps n e o
+  idles e o h =
+      let same : idle n ≡ o = cc in
+      subst (JoinerSteps n e) same (subst (λ (m : Node). JoinerSteps n e (record { node = m; effects = [] })) as_joiner (joins_still e j []))
+
+  pub joiner_steps : (e : Event) (o : Outcome) → node_step n e ≡ Some o → JoinerSteps n e o
+  unfolding node_step
+  joiner_steps (EdgeDown id k p) o h = idles (EdgeDown id k p) o (subst (λ (x : Phase). step_edge_down n x id k p ≡ Some o) joining h)
+  joiner_steps node.Tick o h = ticks_on o (subst (λ (x : Phase). step_tick n x ≡ Some o) joining h)
+  joiner_steps (Receive m) o h = receives m.sender m.body o (subst (λ (x : Phase). step_receive n x m ≡ Some o) joining h)
+
+-- a node that was removed or has halted stays as it is
+pub removed_stays : (n : Node) (c : Configuration) (e : Event) (o : Outcome) → n.phase ≡ Removed c → node_step n e ≡ Some o → o.node ≡ n
+unfolding node_step
+removed_stays n c (EdgeDown id k p) o r h = let g : Some (idle n) ≡ Some o = subst (λ (x : Phase). step_edge_down n x id k p ≡ Some o) r h in cc
+removed_stays n c node.Tick o r h = let g : Some (idle n) ≡ Some o = subst (λ (x : Phase). step_tick n x ≡ Some o) r h in cc
+removed_stays n c (Receive m) o r h =
+    let g = subst (λ (x : Phase). step_receive n x m ≡ Some o) r h in
+    let out : Outcome = record { node = n; effects = catch_up n.decisions m.sender (Rattle.rapid_model.specs.Message.caught_up_by m.body) } in
+    let same : out ≡ o = cc in
+    ap (λ (x : Outcome). x.node) (sym same)
+
+pub halted_stays : (n : Node) (c : Option Configuration) (e : Event) (o : Outcome) → n.phase ≡ Halted c → node_step n e ≡ Some o → o.node ≡ n
+unfolding node_step
+halted_stays n c (EdgeDown id k p) o r h = let g : Some (idle n) ≡ Some o = subst (λ (x : Phase). step_edge_down n x id k p ≡ Some o) r h in cc
+halted_stays n c node.Tick o r h = let g : Some (idle n) ≡ Some o = subst (λ (x : Phase). step_tick n x ≡ Some o) r h in cc
+halted_stays n c (Receive m) o r h = let g : Some (idle n) ≡ Some o = subst (λ (x : Phase). step_receive n x m ≡ Some o) r h in cc
+
+-- ---- who enters a configuration
+
+abbrev place_in : Process → List Process → ℕ
+place_in p ps = Rattle.std.specs.List.position_or_len (same_bytes p) ps
+
+within : (p : Process) (xs : List Process) → is_in xs p ≡ true → place_in p xs < length xs
+within p [] e = cc
+within p (x ∷ xs) e = by (same_bytes p x) e (λ k. within p xs k)
+  where
+    by : (b : Bool) → (b || list_any (same_bytes p) xs) ≡ true → (list_any (same_bytes p) xs ≡ true → place_in p xs < length xs) → cond (not b) (1 + place_in p xs) 0 < suc (length xs)
+    by true h f = omega arith
+    by false h f = let g = f h in omega arith
+
+is_below_len : (m n : ℕ) → m < n → nat_lt m n ≡ true
+is_below_len m n h = Prim.grind arith
+
+pub position_in : (p : Process) (ps : List Process) → is_in ps p ≡ true → (k : ℕ) × (position (same_bytes p) ps ≡ Some k)
+position_in p ps h = (place_in p ps, ap (λ b. cond b (Some (place_in p ps)) None) (is_below_len (place_in p ps) (length ps) (within p ps h)))
+
+pub enters_fresh : (log : List Entry) (c : Configuration) (me : Process) → is_member c me ≡ true → acts_at log me c ≡ [] → ((d : Configuration) → c.height < d.height → acts_at log me d ≡ []) → NodeNow log me map.empty (Member (fresh_member c me))
+unfolding fresh_member
+enters_fresh log c me member none above =
+    let at = position_in me c.members member in
+    record {
+      heard = [];
+      life = subst (λ a. Lives c me a [] (fresh_member c me) None) (sym none) (unfold fresh_member in enters at.0 at.1);
+      sync = ap (taken_in me) (sym none);
+      fresh = above;
+      windows = λ k. ap (λ o. unwrap_or o fresh_edge) (map.get-empty nat_cmp k) ∙ ap (λ a. edge_after fresh_edge (results_in k a)) (sym none);
+    }
+
+-- ---- a member's node after a step
+
+-- it goes on in its configuration
+goes_now : (log : List Entry) (n : Node) (s t : MemberState) (xs : List Act) (edges : map.FinMap nat_cmp Edge) (heard : List Message) → n.phase ≡ Member s →
+    Lives s.config n.me (acts_at log n.me s.config ++ xs) heard t None → heard ≡ taken_in n.me (acts_at log n.me s.config ++ xs) →
+    ((d : Configuration) → s.config.height < d.height → acts_at log n.me d ≡ []) →
+    ((k : ℕ) → edge_on edges k ≡ edge_after fresh_edge (results_in k (acts_at log n.me s.config ++ xs))) →
+    NodeNow (log ++ map (entry n) xs) n.me edges (Member t)
+goes_now log n s t xs edges heard member life sync fresh windows =
+    let new = log ++ map (entry n) xs in
+    let me = n.me in
+    let here : acts_at new me s.config ≡ acts_at log me s.config ++ xs = acts_here log me s.config n xs (here_from s.config n (ap member_config member)) in
+    let e : s.config ≡ t.config = sym (lives_config s.config me _ heard t None life) in
+    record {
+      heard = heard;
+      life = subst (λ d. Lives d me (acts_at new me d) heard t None) e (subst (λ a. Lives s.config me a heard t None) (sym here) life);
+      sync = subst (λ d. heard ≡ taken_in me (acts_at new me d)) e (sync ∙ ap (taken_in me) (sym here));
+      fresh = λ d above.
+          let up : s.config.height < d.height = subst (λ x. x.height < d.height) (sym e) above in
+          acts_elsewhere log me d n xs (elsewhere me d n (λ _ h. let same : s.config ≡ d = some_config (sym (ap member_config member) ∙ h) in let x : d.height < d.height = subst (λ (y : Configuration). y.height < d.height) same up in omega arith))
+          ∙ fresh d up;
+      windows = λ k. subst (λ d. edge_on edges k ≡ edge_after fresh_edge (results_in k (acts_at new me d))) e (windows k ∙ ap (λ a. edge_after fresh_edge (results_in k a)) (sym here));
+    }
+  where
+    some_config : {x y : Configuration} → Some x ≡ Some y → x ≡ y
+    some_config q = cc
+
+-- what it did there is its life
+past_now : (log : List Entry) (n : Node) (s t : MemberState) (d : Option Cut) (xs : List Act) (heard : List Message) → n.phase ≡ Member s →
+    Lives s.config n.me (acts_at log n.me s.config ++ xs) heard t d → (c : Configuration) → member_in n ≡ Some c → PastLife (log ++ map (entry n) xs) n.me c
+past_now log n s t d xs heard member life c in_c =
+    let same : s.config ≡ c = some_config (sym (ap member_config member) ∙ in_c) in
+    subst (PastLife (log ++ map (entry n) xs) n.me) same
+    (was heard t d (subst (λ a. Lives s.config n.me a heard t d) (sym (acts_here log n.me s.config n xs (here_from s.config n (ap member_config member)))) life))
+  where
+    some_config : {x y : Configuration} → Some x ≡ Some y → x ≡ y
+    some_config q = cc
+
+-- a node that is no member does nothing anywhere
+nothing_there : (log : List Entry) (n : Node) (xs : List Act) → member_in n ≡ None → (c : Configuration) → acts_at (log ++ map (entry n) xs) n.me c ≡ acts_at log n.me c
+nothing_there log n xs none c = acts_elsewhere log n.me c n xs (elsewhere n.me c n (λ _ h. let e : None ≡ Some c = sym none ∙ h in cc))
+
+no_past : (log : List Entry) (n : Node) → member_in n ≡ None → (c : Configuration) → member_in n ≡ Some c → PastLife log n.me c
+no_past log n none c h = let e : None ≡ Some c = sym none ∙ h in cc
+
+-- ---- the same place, with a peer to which something comes
+
+lived_come : (w : World) (old : Lived w) (i : ℕ) (p : Peer) (before : List Act) (e : Event) → Comes w i p before e → (q : Peer) → q.node.me ≡ p.node.me → (xs : List Act) (packets : List Rattle.rapid_model.specs.World.Packet) →
+    NodeNow (w.log ++ map (entry p.node) xs) q.node.me q.edges q.node.phase → ((c : Configuration) → member_in p.node ≡ Some c → PastLife (w.log ++ map (entry p.node) xs) p.node.me c) →
+    Lived (record w { peers = Rattle.std.specs.Prelude.slice_set w.peers i q; packets = packets; log = w.log ++ map (entry p.node) xs })
+lived_come w old i p _ _ (by_tick _ at) q same xs packets now past = lived_next w old i p q at same xs packets now past
+lived_come w old i p _ _ (by_packet _ x at sent to) q same xs packets now past = lived_next w old i p q at same xs packets now past
+lived_come w old i _ _ _ (by_probe p c k s ok at ob down) q same xs packets now past = lived_next w old i p q at same xs packets now past
+
+come_now : (w : World) (old : Lived w) (i : ℕ) (p : Peer) (before : List Act) (e : Event) (j : Joiner) → Comes w i p before e → p.node.phase ≡ Joining j → NodeNow w.log p.node.me p.edges (Joining j)
+come_now w old i p _ _ j (by_tick _ at) joining = subst (λ (x : Phase). NodeNow w.log p.node.me p.edges x) joining (old.now i p at)
+come_now w old i p _ _ j (by_packet _ x at sent to) joining = subst (λ (x : Phase). NodeNow w.log p.node.me p.edges x) joining (old.now i p at)
+come_now w old i _ _ _ j (by_probe p c k s ok at ob down) joining =
+    let g : ◌≡◌ {A = Option (Configuration × Process)} None (Some (c, s)) = subst (λ (x : Phase). observed_in (member_config x) p.node.me k ≡ Some (c, s)) joining ob in cc
+
+-- ---- each step
+
+either_empty : (b : Bool) (edges : map.FinMap nat_cmp Edge) → edges ≡ map.empty → cond b map.empty edges ≡ map.empty
+either_empty true edges e = refl
+either_empty false edges e = e
+
+joiner_now : (log : List Entry) (p : Peer) (e : Event) (o : Outcome) → ((c : Configuration) → acts_at log p.node.me c ≡ []) → p.edges ≡ map.empty → JoinerSteps p.node e o →
+    NodeNow log o.node.me (edges_after p o.node) o.node.phase × (o.node.me ≡ p.node.me)
+joiner_now log p _ _ none empty (joins_still e j es) = ((none, either_empty (has_installed p.node (record p.node { phase = Joining j })) p.edges empty), refl)
+joiner_now log p _ _ none empty (joins from c member) =
+    (subst (λ x. NodeNow log p.node.me x (Member (fresh_member c p.node.me))) (sym (either_empty (has_installed p.node (seed_node c p.node.me)) p.edges empty)) (enters_fresh log c p.node.me member (none c) (λ d above. none d)), refl)
+
+pub apply_height : (c : Configuration) (v : Cut) → (apply c v).height ≡ c.height + 1
+unfolding apply
+apply_height c v = refl
+
+stepped_now : (log : List Entry) (p : Peer) (before : List Act) (s : MemberState) (xs : List Act) (m : Node) → p.node.phase ≡ Member s → Met log p before s →
+    ((k : ℕ) → edge_on p.edges k ≡ edge_after fresh_edge (results_in k (acts_at log p.node.me s.config ++ xs))) →
+    Stepped s.config (acts_at log p.node.me s.config) p.node xs m →
+    NodeNow (log ++ map (entry p.node) xs) m.me (edges_after p m) m.phase × (m.me ≡ p.node.me) × ((c : Configuration) → member_in p.node ≡ Some c → PastLife (log ++ map (entry p.node) xs) p.node.me c)
+stepped_now log p before s xs _ member met windows (goes_on heard t life sync) = (
+  subst (λ x. NodeNow (log ++ map (entry p.node) xs) p.node.me x (Member t)) (sym (ap (λ b. cond b map.empty p.edges) (not_below (length p.node.installed))))
+      (goes_now log p.node s t xs p.edges heard member life sync met.fresh windows),
+  refl,
+  past_now log p.node s t None xs heard member life,
+)
+stepped_now log p before s xs _ member met windows (installs heard t v life full) = (
+  subst (λ x. NodeNow (log ++ map (entry p.node) xs) p.node.me x (phase_in (apply s.config v) p.node.me)) (sym (ap (λ b. cond b map.empty p.edges) (below_next (length p.node.installed) _ (length-push p.node.installed _))))
+      (by (is_member (apply s.config v) p.node.me) refl),
+  refl,
+  past_now log p.node s t (Some v) xs heard member life,
+)
+  where
+    higher : (apply s.config v).height ≡ s.config.height + 1
+    higher = apply_height s.config v
+
+    none_above : (d : Configuration) → s.config.height < d.height → acts_at (log ++ map (entry p.node) xs) p.node.me d ≡ []
+    none_above d up =
+        acts_elsewhere log p.node.me d p.node xs (elsewhere p.node.me d p.node (λ _ h. let same : s.config ≡ d = some_config (sym (ap member_config member) ∙ h) in let x : d.height < d.height = subst (λ (y : Configuration). y.height < d.height) same up in omega arith))
+        ∙ met.fresh d up
+      where
+        some_config : {x y : Configuration} → Some x ≡ Some y → x ≡ y
+        some_config q = cc
+
+    by : (b : Bool) → is_member (apply s.config v) p.node.me ≡ b → NodeNow (log ++ map (entry p.node) xs) p.node.me map.empty (cond b (Member (fresh_member (apply s.config v) p.node.me)) (Removed (apply s.config v)))
+    by true e = enters_fresh (log ++ map (entry p.node) xs) (apply s.config v) p.node.me e (none_above (apply s.config v) (let h = higher in omega arith)) (λ d up. none_above d (let h = higher in omega arith))
+    by false e = tt
+
+some_peer : {A : Type 0} {x y : A} → Some x ≡ Some y → x ≡ y
+some_peer q = cc
+
+module _ (w : World) (old : Lived w) where
+  moved_lived : (i : ℕ) (p : Peer) (before : List Act) (e : Event) (o : Outcome) → Comes w i p before e → node_step p.node e ≡ Some o → Lived (moved w i p before o)
+  moved_lived i p before e o comes h = by p.node.phase refl
+    where
+      by : (ph : Phase) → p.node.phase ≡ ph → Lived (moved w i p before o)
+      by (Joining j) at =
+          let xs = acts_of before p.node o in
+          let then_now = come_now w old i p before e j comes at in
+          let r = joiner_now (w.log ++ map (entry p.node) xs) p e o (λ c. nothing_there w.log p.node xs (ap member_config at) c ∙ then_now.0 c) then_now.1 (joiner_steps p.node j at e o h) in
+          lived_come w old i p before e comes (record p { node = o.node; edges = edges_after p o.node }) r.1 xs _ r.0 (no_past _ p.node (ap member_config at))
+      by (Member s) at =
+          let xs = acts_of before p.node o in
+          let met = meets w old i p before e s comes at in
+          let windows : (k : ℕ) → edge_on p.edges k ≡ edge_after fresh_edge (results_in k (acts_at w.log p.node.me s.config ++ xs)) = λ k. met.windows k
+          ∙ ap (edge_after fresh_edge) (filter_map-append (result_on k) (acts_at w.log p.node.me s.config) before ∙ ap (λ l. results_in k (acts_at w.log p.node.me s.config) ++ l) (sym (results_acts k before p.node o)) ∙ sym (filter_map-append (result_on k) (acts_at w.log p.node.me s.config) xs)) in
+          let r = stepped_now w.log p before s xs o.node at met windows (comes_steps w old i p before e s o comes at h) in
+          lived_come w old i p before e comes (record p { node = o.node; edges = edges_after p o.node }) r.1 xs _ r.0 r.2
+      by (Removed c) at =
+          let xs = acts_of before p.node o in
+          let is : o.node ≡ p.node = removed_stays p.node c e o at h in
+          lived_come w old i p before e comes (record p { node = o.node; edges = edges_after p o.node }) (ap (λ (n : Node). n.me) is) xs _
+          (subst (λ (x : Phase). NodeNow (w.log ++ map (entry p.node) xs) o.node.me (edges_after p o.node) x) (sym (ap (λ (n : Node). n.phase) is ∙ at)) tt) (no_past _ p.node (ap member_config at))
+      by (Halted c) at =
+          let xs = acts_of before p.node o in
+          let is : o.node ≡ p.node = halted_stays p.node c e o at h in
+          lived_come w old i p before e comes (record p { node = o.node; edges = edges_after p o.node }) (ap (λ (n : Node). n.me) is) xs _
+          (subst (λ (x : Phase). NodeNow (w.log ++ map (entry p.node) xs) o.node.me (edges_after p o.node) x) (sym (ap (λ (n : Node). n.phase) is ∙ at)) tt) (no_past _ p.node (ap member_config at))
+
+  halted_lived : (i : ℕ) (p : Peer) (before : List Act) (e : Event) → Comes w i p before e → Lived (halted w i p before)
+  halted_lived i p before e comes = lived_come w old i p before e comes (record p { node = halt p.node }) refl (before ++ HasHalted ∷ []) w.packets tt (by p.node.phase refl)
+    where
+      by : (ph : Phase) → p.node.phase ≡ ph → (c : Configuration) → member_in p.node ≡ Some c → PastLife (w.log ++ map (entry p.node) (before ++ HasHalted ∷ [])) p.node.me c
+      by (Joining j) at = no_past _ p.node (ap member_config at)
+      by (Member s) at = let l = halts_life w old i p before e s comes at in past_now w.log p.node s l.1 None (before ++ HasHalted ∷ []) l.0 at l.2
+      by (Removed c) at = no_past _ p.node (ap member_config at)
+      by (Halted c) at = no_past _ p.node (ap member_config at)
+
+  noted_lived : (i : ℕ) (p : Peer) (c : Configuration) (k : ℕ) (z : Process) (ok : Bool) → StandsAt w i p → observed p k ≡ Some (c, z) → Lived (noted w i p k ok (probed (edge_on p.edges k) ok))
+  noted_lived i p c k z ok at ob = by p.node.phase refl
+    where
+      absent : (ph : Phase) → member_config ph ≡ None → p.node.phase ≡ ph → Lived (noted w i p k ok (probed (edge_on p.edges k) ok))
+      absent ph none is = let g : ◌≡◌ {A = Option (Configuration × Process)} None (Some (c, z)) = subst (λ x. observed_in x p.node.me k ≡ Some (c, z)) (ap member_config is ∙ none) ob in cc
+
+      by : (ph : Phase) → p.node.phase ≡ ph → Lived (noted w i p k ok (probed (edge_on p.edges k) ok))
+      by (Joining j) is = absent (Joining j) refl is
+      by (Removed d) is = absent (Removed d) refl is
+      by (Halted d) is = absent (Halted d) refl is
+      by (Member s) is =
+          let m = now_member w old i p s at is in
+          let q : Peer = with_edge p k (probed (edge_on p.edges k) ok) in
+          let xs : List Act = Probed k ok ∷ [] in
+          let life = does (acts_at w.log p.node.me s.config) m.heard s (Some (Probed k ok)) None s None m.life (marks (Probed k ok) tt) in
+          let sync : m.heard ≡ taken_in p.node.me (acts_at w.log p.node.me s.config ++ xs) = m.sync ∙ sym (nil_end _) ∙ sym (filter_map-append (Rattle.rapid_model.specs.History.taken_by p.node.me) (acts_at w.log p.node.me s.config) xs) in
+          lived_next w old i p q at refl xs w.packets
+          (subst (λ (x : Phase). NodeNow (w.log ++ map (entry p.node) xs) p.node.me q.edges x) (sym is)
+          (goes_now w.log p.node s s xs q.edges m.heard is life sync m.fresh (λ j. window_after p.edges (acts_at w.log p.node.me s.config) k j ok m.windows)))
+          (past_now w.log p.node s s None xs m.heard is life)
+
+  crashed_lived : (i : ℕ) (p : Peer) → StandsAt w i p → Lived (crashed w i p)
+  crashed_lived i p at = by p.node.phase refl
+    where
+      by : (ph : Phase) → p.node.phase ≡ ph → Lived (crashed w i p)
+      by (Joining j) is =
+          lived_next w old i p (record p { crashed = true }) at refl (Crashed ∷ []) w.packets
+          (now_same w.log (w.log ++ map (entry p.node) (Crashed ∷ [])) p.node.me p.edges p.node.phase (nothing_there w.log p.node (Crashed ∷ []) (ap member_config is)) (old.now i p at)) (no_past _ p.node (ap member_config is))
+      by (Removed d) is =
+          lived_next w old i p (record p { crashed = true }) at refl (Crashed ∷ []) w.packets
+          (now_same w.log (w.log ++ map (entry p.node) (Crashed ∷ [])) p.node.me p.edges p.node.phase (nothing_there w.log p.node (Crashed ∷ []) (ap member_config is)) (old.now i p at)) (no_past _ p.node (ap member_config is))
+      by (Halted d) is =
+          lived_next w old i p (record p { crashed = true }) at refl (Crashed ∷ []) w.packets
+          (now_same w.log (w.log ++ map (entry p.node) (Crashed ∷ [])) p.node.me p.edges p.node.phase (nothing_there w.log p.node (Crashed ∷ []) (ap member_config is)) (old.now i p at)) (no_past _ p.node (ap member_config is))
+      by (Member s) is =
+          let m = now_member w old i p s at is in
+          let xs : List Act = Crashed ∷ [] in
+          let life = does (acts_at w.log p.node.me s.config) m.heard s (Some Crashed) None s None m.life (marks Crashed tt) in
+          let sync : m.heard ≡ taken_in p.node.me (acts_at w.log p.node.me s.config ++ xs) = m.sync ∙ sym (nil_end _) ∙ sym (filter_map-append (Rattle.rapid_model.specs.History.taken_by p.node.me) (acts_at w.log p.node.me s.config) xs) in
+          lived_next w old i p (record p { crashed = true }) at refl xs w.packets
+          (subst (λ (x : Phase). NodeNow (w.log ++ map (entry p.node) xs) p.node.me p.edges x) (sym is)
+          (goes_now w.log p.node s s xs p.edges m.heard is life sync m.fresh (λ j. m.windows j ∙ ap (edge_after fresh_edge) (sym (no_results j (acts_at w.log p.node.me s.config) Crashed refl)))))
+          (past_now w.log p.node s s None xs m.heard is life)
+
+  -- ---- a process starts
+
+  unused : (p : Process) (seed : List ℕ) → refusal w (Start p seed) ≡ None → list_any (has_identifier (identifier p)) w.peers ≡ false
+  unused p seed r = by (list_any (has_identifier (identifier p)) w.peers) (is_some (running_at w (endpoint p))) r
+    where
+      by : (a b : Bool) → cond a (Some IdentifierUsed) (cond b (Some EndpointBusy) None) ≡ None → a ≡ false
+      by true b e = cc
+      by false b e = refl
+
+  none_has : {A : Type 0} (f : A → Bool) (xs : List A) (i : ℕ) (x : A) → list_any f xs ≡ false → slice_get xs i ≡ Some x → f x ≡ false
+  none_has f [] i x e h = cc
+  none_has f (y ∷ ys) zero x e h = first (f y) refl (ap (λ z. f z) (some_peer h)) e
+    where
+      first : (b : Bool) → f y ≡ b → f y ≡ f x → (f y || list_any f ys) ≡ false → f x ≡ false
+      first true is same g = let z : true ≡ false = sym (ap (λ t. t || list_any f ys) is) ∙ g in cc
+      first false is same g = sym same ∙ is
+  none_has f (y ∷ ys) (suc i) x e h = none_has f ys i x (rest (f y) (list_any f ys) e) h
+    where
+      rest : (a b : Bool) → (a || b) ≡ false → b ≡ false
+      rest true b g = cc
+      rest false b g = g
+
+  module _ (p : Process) (seed : List ℕ) (r : refusal w (Start p seed) ≡ None) where
+    not_theirs : (i : ℕ) (q : Peer) → StandsAt w i q → identifier p ≡ identifier q.node.me → ⊥
+    not_theirs i q at e =
+        let f = none_has (has_identifier (identifier p)) w.peers i q (unused p seed r) at in
+        let t = (same_bytes_decides (identifier p) (identifier q.node.me)).1 e in
+        let wrong : true ≡ false = sym t ∙ f in cc
+
+    no_entries : (log : List Entry) → ((e : Entry) → In log e → e.who ≡ p → ⊥) → (c : Configuration) → acts_at log p c ≡ []
+    no_entries [] f c = refl
+    no_entries (e ∷ log) f c = by (is_act_in p c e) refl (no_entries log (λ x h. f x (inr h)) c)
+      where
+        by : (b : Bool) → is_act_in p c e ≡ b → acts_at log p c ≡ [] → map (λ x. x.act) (cond b (e ∷ Rattle.std.proofs.Common.filter (is_act_in p c) log) (Rattle.std.proofs.Common.filter (is_act_in p c) log)) ≡ []
+        by true is h = absurd (f e (inl refl) (sym ((same_bytes_decides p e.who).0 (and_parts _ _ is).0)))
+        by false is h = h
+
+    started_lived : Lived (started w p seed)
+    started_lived =
+        record {
+          names = λ i j a b ha hb e. elim (get_push w.peers i _ a ha) [
+            | inl x ↦ elim (get_push w.peers j _ b hb) [
+              | inl y ↦ old.names i j a b x y e
+              | inr y ↦ absurd (not_theirs i a x (sym (ap (λ (z : Peer). identifier z.node.me) y.1) ∙ sym e))
+            ]
+            | inr x ↦ elim (get_push w.peers j _ b hb) [
+              | inl y ↦ absurd (not_theirs j b y (sym (ap (λ (z : Peer). identifier z.node.me) x.1) ∙ e))
+              | inr y ↦ x.0 ∙ sym y.0
+            ]
+          ];
+          known = λ e h. let k = old.known e h in (k.0, k.1, push_get w.peers k.0 _ k.1 k.2, k.3);
+          now = λ i a ha. elim (get_push w.peers i _ a ha) [
+            | inl x ↦ old.now i a x
+            | inr x ↦ subst (λ (z : Peer). NodeNow w.log z.node.me z.edges z.node.phase) (sym x.1)
+                (no_entries w.log (λ e h same. let k = old.known e h in not_theirs k.0 k.1 k.2 (ap identifier (sym (k.3 ∙ same)))), refl)
+          ];
+          past = old.past;
+        }
+
+pub lived_kept : (w v : World) → Steps w v → Lived w → Lived v
+lived_kept w _ stays old = old
+lived_kept w _ (starts p seed r) old = started_lived w old p seed r
+lived_kept w _ (notes i p c k s ok at ob) old = noted_lived w old i p c k s ok at ob
+lived_kept w _ (stops i p before e c r) old = halted_lived w old i p before e c
+lived_kept w _ (moves i p before e o c r h) old = moved_lived w old i p before e o c h
+lived_kept w _ (ends i p at) old = crashed_lived w old i p at
+
+-- ---- the opening
+
+get_map : {A B : Type 0} (f : A → B) (xs : List A) (i : ℕ) (y : B) → slice_get (map f xs) i ≡ Some y → (x : A) × (slice_get xs i ≡ Some x) × (y ≡ f x)
+get_map f [] i y h = cc
+get_map f (x ∷ xs) zero y h = (x, refl, sym (some_peer h))
+get_map f (x ∷ xs) (suc i) y h = get_map f xs i y h
+
+all_at : {A : Type 0} (f : A → Bool) (xs : List A) (i : ℕ) (x : A) → list_all f xs ≡ true → slice_get xs i ≡ Some x → f x ≡ true
+all_at f [] i x e h = cc
+all_at f (y ∷ ys) zero x e h = subst (λ z. f z ≡ true) (some_peer h) (and_parts _ _ e).0
+all_at f (y ∷ ys) (suc i) x e h = all_at f ys i x (and_parts _ _ e).1 h
+
+not_below_itself : (x y : List ℕ) → x ≡ y → is_lt (bytes_cmp x y) ≡ true → ⊥
+not_below_itself x y e h = let g : is_lt (bytes_cmp x x) ≡ true = subst (λ z. is_lt (bytes_cmp x z) ≡ true) (sym e) h in let t : is_lt (bytes_cmp x x) ≡ false = ap is_lt (tied_itself processes_total x) in let wrong : true ≡ false = sym g ∙ t in cc
+
+pub apart_names : (ms : List Process) (i j : ℕ) (a b : Process) → identifiers_ascend ms ≡ true → slice_get ms i ≡ Some a → slice_get ms j ≡ Some b → identifier a ≡ identifier b → i ≡ j
+apart_names [] i j a b asc ha hb e = cc
+apart_names (m ∷ ms) zero zero a b asc ha hb e = refl
+apart_names (m ∷ ms) zero (suc j) a b asc ha hb e = absurd (not_below_itself (identifier m) (identifier b) (ap identifier (some_peer ha) ∙ e) (all_at (λ q. is_lt (bytes_cmp (identifier m) (identifier q))) ms j b (and_parts _ _ asc).0 hb))
+apart_names (m ∷ ms) (suc i) zero a b asc ha hb e = absurd (not_below_itself (identifier m) (identifier a) (ap identifier (some_peer hb) ∙ sym e) (all_at (λ q. is_lt (bytes_cmp (identifier m) (identifier q))) ms i a (and_parts _ _ asc).0 ha))
+apart_names (m ∷ ms) (suc i) (suc j) a b asc ha hb e = ap suc (apart_names ms i j a b (and_parts _ _ asc).1 ha hb e)
+
+is_member_at : (ms : List Process) (i : ℕ) (a : Process) → slice_get ms i ≡ Some a → is_in ms a ≡ true
+is_member_at [] i a h = cc
+is_member_at (m ∷ ms) zero a h = ap (λ b. b || list_any (same_bytes a) ms) ((same_bytes_decides a m).1 (sym (some_peer h)))
+is_member_at (m ∷ ms) (suc i) a h = or_right (same_bytes a m) _ (is_member_at ms i a h)
+  where
+    or_right : (x y : Bool) → y ≡ true → (x || y) ≡ true
+    or_right true y e = refl
+    or_right false y e = e
+
+opening_acts : (c : Configuration) (ms : List Process) (me : Process) (d : Configuration) → acts_at (map (λ p. record { who = p; at = None; act = Installed c }) ms) me d ≡ []
+opening_acts c [] me d = refl
+opening_acts c (m ∷ ms) me d = by (same_bytes me m) (opening_acts c ms me d)
+  where
+    by : (b : Bool) → acts_at (map (λ p. record { who = p; at = None; act = Installed c }) ms) me d ≡ [] →
+        map (λ (x : Entry). x.act) (cond (b && false) (record { who = m; at = None; act = Installed c } ∷ Rattle.std.proofs.Common.filter (is_act_in me d) (map (λ p. record { who = p; at = None; act = Installed c }) ms)) (Rattle.std.proofs.Common.filter (is_act_in me d) (map (λ p. record { who = p; at = None; act = Installed c }) ms))) ≡ []
+    by true h = h
+    by false h = h
+
+opening_known : (c : Configuration) (ms : List Process) (e : Entry) → In (map (λ p. record { who = p; at = None; act = Installed c }) ms) e →
+    (i : ℕ) × (p : Peer) × (slice_get (map (λ q. added (seed_node c q)) ms) i ≡ Some p) × (p.node.me ≡ e.who)
+opening_known c [] e h = absurd h
+opening_known c (m ∷ ms) e (inl same) = (0, added (seed_node c m), refl, ap (λ (x : Entry). x.who) same)
+opening_known c (m ∷ ms) e (inr later) = let r = opening_known c ms e later in (suc r.0, r.1, r.2, r.3)
+
+pub lived_founded : (c : Configuration) → AreMembers c.members → Lived (founded c)
+lived_founded c are =
+    record {
+      names = λ i j p q hp hq e. let x = get_map (λ z. added (seed_node c z)) c.members i p hp in let y = get_map (λ z. added (seed_node c z)) c.members j q hq in
+          apart_names c.members i j x.0 y.0 are.identifiers x.1 y.1 (sym (ap (λ (z : Peer). identifier z.node.me) x.2) ∙ e ∙ ap (λ (z : Peer). identifier z.node.me) y.2);
+      known = opening_known c c.members;
+      now = λ i p hp. let x = get_map (λ z. added (seed_node c z)) c.members i p hp in
+          subst (λ (z : Peer). NodeNow (founded c).log z.node.me z.edges z.node.phase) (sym x.2)
+          (enters_fresh (founded c).log c x.0 (is_member_at c.members i x.0 x.1) (opening_acts c c.members x.0 c) (λ d up. opening_acts c c.members x.0 d));
+      past = λ me d. was_not (opening_acts c c.members me d);
+    }
+
+pub lived_run : (c : Configuration) (es : List MarkedEvent) → AreMembers c.members → Lived (run es (founded c))
+lived_run c es are = run_keeps Lived lived_kept es (founded c) (lived_founded c are)

@@ -1,0 +1,145 @@
+-- What a step makes of a member: it goes on in its configuration, or installs the next.
+use Rattle.std.proofs.Common.{◌≡◌, ◌+◌, ℕ, Bool, true, false, cond, List, [], ◌∷◌, ◌++◌, map, refl, sym, ap, subst, ◌∙◌, Option, Some, None, append_assoc, length, arith}
+use Rattle.std.specs.Prelude.{flat_map, nat_lt}
+use Rattle.rapid_model.specs.Process.{Process}
+use Rattle.rapid_model.specs.Cut.{Cut}
+use Rattle.rapid_model.specs.Configuration.{Configuration, configuration_id, stamp, is_member}
+use Rattle.rapid_model.specs.Apply.{apply}
+use Rattle.rapid_model.specs.Host.{HostAnswer, Nothing, Replies, Confirms, Raises, confirms}
+use Rattle.rapid_model.specs.Message.{Message}
+use Rattle.rapid_model.specs.Node.{Node, Member, Removed, MemberState, Effect, Outcome, shown_in, configuration_of, fresh_member}
+use Rattle.rapid_model.specs.Member.{Work}
+use Rattle.rapid_model.specs.Receive.{answer_to}
+use Rattle.rapid_model.specs.NodeStep.{last_64, phase_in, is_history_full, install, stays_member, put_before, settle_at, settle}
+use Rattle.rapid_model.specs.World.{Act, Did, Installed}
+use Rattle.rapid_model.specs.WorldStep.{install_acts, acts_of}
+use Rattle.rapid_model.specs.History.{taken_by}
+use Rattle.rapid_safety.proofs.Atoms.{taken_in, IsMark, Lives, leaves}
+use Rattle.rapid_safety.proofs.Kept.{lives_config}
+use Rattle.rapid_safety.proofs.Works.{own, LivesOn}
+use Rattle.rapid_safety.proofs.TickWorks.{map-append, filter_map-append}
+
+pub nil_end : {A : Type 0} (xs : List A) → xs ++ [] ≡ xs
+nil_end [] = refl
+nil_end (x ∷ xs) = ap (λ l. x ∷ l) (nil_end xs)
+
+-- the node in the next configuration
+abbrev pub next_node : Node → Configuration → Cut → Node
+next_node n c v =
+    record {
+      me = n.me;
+      phase = phase_in (apply c v) n.me;
+      installed = n.installed ++ stamp (apply c v) ∷ [];
+      decisions = last_64 (n.decisions ++ (configuration_id c, v) ∷ []);
+    }
+
+-- what became of a member of c, whose acts there were these, in a step with further acts
+pub data Stepped (c : Configuration) (acts : List Act) (n : Node) (more : List Act) : Node → Type 0 where
+  goes_on : (heard : List Message) (s : MemberState) → Lives c n.me (acts ++ more) heard s None → heard ≡ taken_in n.me (acts ++ more) →
+      Stepped c acts n more (record { me = n.me; phase = Member s; installed = n.installed; decisions = n.decisions })
+  installs : (heard : List Message) (s : MemberState) (v : Cut) → Lives c n.me (acts ++ more) heard s (Some v) → is_history_full n.installed c ≡ false →
+      Stepped c acts n more (next_node n c v)
+
+AllMarks : List Act → Type 0
+AllMarks [] = Unit {0}
+AllMarks (a ∷ xs) = IsMark a × AllMarks xs
+
+leaves_all : (c : Configuration) (me : Process) (acts : List Act) (heard : List Message) (s : MemberState) (v : Cut) (xs : List Act) → AllMarks xs → Lives c me acts heard s (Some v) → Lives c me (acts ++ xs) heard s (Some v)
+unfolding AllMarks
+leaves_all c me acts heard s v [] h l = subst (λ a. Lives c me a heard s (Some v)) (sym (nil_end acts)) l
+leaves_all c me acts heard s v (a ∷ xs) h l =
+    subst (λ a. Lives c me a heard s (Some v)) (append_assoc acts (a ∷ []) xs) (leaves_all c me (acts ++ a ∷ []) heard s v xs h.1 (leaves acts heard s v a l h.0))
+
+marks_append : (xs ys : List Act) → AllMarks xs → AllMarks ys → AllMarks (xs ++ ys)
+unfolding AllMarks
+marks_append [] ys h k = k
+marks_append (x ∷ xs) ys h k = (h.0, marks_append xs ys h.1 k)
+
+answers_mark : (j : Process) (a : HostAnswer) → AllMarks (map Did (answer_to j a))
+unfolding AllMarks
+answers_mark j Nothing = tt
+answers_mark j (Replies r) = (tt, tt)
+answers_mark j (Confirms n) = (tt, tt)
+answers_mark j Raises = tt
+
+all_answers_mark : (ys : List (Process × HostAnswer)) → AllMarks (map Did (flat_map (λ x. answer_to x.0 x.1) ys))
+unfolding AllMarks
+all_answers_mark [] = tt
+all_answers_mark (y ∷ ys) =
+    subst AllMarks (sym (map-append Did (answer_to y.0 y.1) (flat_map (λ x. answer_to x.0 x.1) ys)))
+    (marks_append (map Did (answer_to y.0 y.1)) _ (answers_mark y.0 y.1) (all_answers_mark ys))
+
+pub not_below : (n : ℕ) → nat_lt n n ≡ false
+not_below n = Prim.grind arith
+
+pub length-push : {A : Type 0} (xs : List A) (x : A) → length (xs ++ x ∷ []) ≡ length xs + 1
+length-push [] x = refl
+length-push (y ∷ ys) x = let r = length-push ys x in omega arith
+
+pub below_next : (m n : ℕ) → n ≡ m + 1 → nat_lt m n ≡ true
+below_next m n e = Prim.grind arith
+
+-- a configuration that is entered is shown
+pub shown_next : (c : Configuration) (me : Process) → shown_in (phase_in c me) ≡ Some c
+unfolding fresh_member
+shown_next c me = by (is_member c me)
+  where
+    by : (b : Bool) → shown_in (cond b (Member (fresh_member c me)) (Removed c)) ≡ Some c
+    by true = refl
+    by false = refl
+
+pub install_act : (n : Node) (c : Configuration) (v : Cut) → install_acts n (next_node n c v) (configuration_of (next_node n c v)) ≡ Installed (apply c v) ∷ []
+install_act n c v =
+    ap (install_acts n (next_node n c v)) (shown_next (apply c v) n.me)
+    ∙ ap (λ b. cond b (Installed (apply c v) ∷ []) []) (below_next (length n.installed) _ (length-push n.installed (stamp (apply c v))))
+
+no_install_act : (n : Node) (s : MemberState) → install_acts n (record { me = n.me; phase = Member s; installed = n.installed; decisions = n.decisions }) (Some s.config) ≡ []
+no_install_act n s = ap (λ b. cond b (Installed s.config ∷ []) []) (not_below (length n.installed))
+
+regroup : (a b w k i : List Act) → (((a ++ b) ++ w) ++ k) ++ i ≡ a ++ ((b ++ (w ++ k)) ++ i)
+regroup a b w k i = ap (λ l. l ++ i) (append_assoc (a ++ b) w k ∙ append_assoc a b (w ++ k)) ∙ append_assoc a (b ++ (w ++ k)) i
+
+installed_acts : (n : Node) (c : Configuration) (v : Cut) (before : List Act) (es conf : List Effect) →
+    (before ++ (map Did es ++ map Did conf)) ++ Installed (apply c v) ∷ [] ≡ acts_of before n (record { node = next_node n c v; effects = es ++ conf })
+installed_acts n c v before es conf =
+    ap (λ l. (before ++ l) ++ Installed (apply c v) ∷ []) (sym (map-append Did es conf))
+    ∙ ap (λ l. (before ++ map Did (es ++ conf)) ++ l) (sym (install_act n c v))
+
+module _ (c : Configuration) (n : Node) (acts before : List Act) (heard ms : List Message) (w : Work) (life : LivesOn c n.me (acts ++ before) heard n.me ms w) (sync : heard ++ ms ≡ taken_in n.me (acts ++ before)) where
+  all_heard : heard ++ (ms ++ own n.me w.effects) ≡ taken_in n.me ((acts ++ before) ++ map Did w.effects)
+  all_heard = sym (append_assoc heard ms (own n.me w.effects)) ∙ ap (λ l. l ++ own n.me w.effects) sync ∙ sym (filter_map-append (taken_by n.me) (acts ++ before) (map Did w.effects))
+
+  settle_on : (d : Option Cut) → w.decided ≡ d → (o : Outcome) → settle_at n.me n.installed n.decisions w d ≡ Some o → Stepped c acts n (acts_of before n o) o.node
+  settle_on None e o h =
+      let out : Outcome = stays_member n.me n.installed n.decisions w in
+      let same : out ≡ o = cc in
+      let is : (acts ++ before) ++ map Did w.effects ≡ acts ++ acts_of before n out =
+      append_assoc acts before (map Did w.effects) ∙ ap (λ l. acts ++ l) (sym (nil_end (before ++ map Did w.effects)) ∙ ap (λ l. (before ++ map Did w.effects) ++ l) (sym (no_install_act n w.state))) in
+      subst (λ (x : Outcome). Stepped c acts n (acts_of before n x) x.node) same
+      (goes_on (heard ++ (ms ++ own n.me w.effects)) w.state
+      (subst (λ a. Lives c n.me a (heard ++ (ms ++ own n.me w.effects)) w.state None) is (subst (λ d. Lives c n.me ((acts ++ before) ++ map Did w.effects) (heard ++ (ms ++ own n.me w.effects)) w.state d) e life))
+      (all_heard ∙ ap (taken_in n.me) is))
+  settle_on (Some v) e o h = by (is_history_full n.installed w.state.config) refl h
+    where
+      by : (b : Bool) → is_history_full n.installed w.state.config ≡ b → cond b None (Some (put_before w.effects (install n.me n.installed n.decisions w.state v))) ≡ Some o → Stepped c acts n (acts_of before n o) o.node
+      by true full k = cc
+      by false full k =
+          let t : MemberState = w.state in
+          let hs : List Message = heard ++ (ms ++ own n.me w.effects) in
+          let conf : List Effect = flat_map (λ x. answer_to x.0 x.1) (confirms (apply t.config v) t.pending) in
+          let out : Outcome = record { node = next_node n t.config v; effects = w.effects ++ conf } in
+          let same : out ≡ o = unfold install in cc in
+          let l0 : Lives c n.me ((acts ++ before) ++ map Did w.effects) hs t (Some v) = subst (λ d. Lives c n.me ((acts ++ before) ++ map Did w.effects) hs t d) e life in
+          let l1 = leaves_all c n.me _ hs t v (map Did conf) (all_answers_mark (confirms (apply t.config v) t.pending)) l0 in
+          let l2 = leaves _ hs t v (Installed (apply t.config v)) l1 tt in
+          let at : t.config ≡ c = lives_config c n.me _ hs t (Some v) l0 in
+          subst (λ (x : Outcome). Stepped c acts n (acts_of before n x) x.node) same
+          (subst (λ d. Stepped c acts n (acts_of before n out) (next_node n d v)) (sym at)
+          (installs hs t v
+          (subst (λ a. Lives c n.me a hs t (Some v)) (regroup acts before (map Did w.effects) (map Did conf) (Installed (apply t.config v) ∷ []) ∙ ap (λ l. acts ++ l) (installed_acts n t.config v before w.effects conf)) l2)
+          (subst (λ d. is_history_full n.installed d ≡ false) at full)))
+
+  -- what comes of a member's work
+  pub settled_steps : (o : Outcome) → settle n.me n.installed n.decisions w ≡ Some o → Stepped c acts n (acts_of before n o) o.node
+  unfolding settle
+  settled_steps o h = settle_on w.decided refl o h
