@@ -1,13 +1,15 @@
 -- Lists in which each element passes a test with all later ones, checked by neighbours.
-use Rattle.std.proofs.Common.{◌≡◌, ℕ, zero, suc, ◌+◌, ◌<◌, Bool, true, false, ◌&&◌, List, [], ◌∷◌, length, refl, sym, ap, ◌∙◌, arith, get_or}
+use Rattle.std.proofs.Common.{◌≡◌, ℕ, zero, suc, ◌+◌, ◌<◌, Bool, true, false, ◌&&◌, List, [], ◌∷◌, length, refl, sym, ap, ◌∙◌, arith, get_or, take, cond}
 use Rattle.std.proofs.Math.Nat.{suc-add}
 use Rattle.std.specs.declared.cmp.Ordering.{Ordering}
 use Rattle.std.specs.declared.cmp.Ordering.TheVariants.{Less, Equal, Greater}
-use Rattle.std.specs.Ordering.{is_lt}
+use Rattle.std.specs.Ordering.{is_lt, nat_cmp, ordering_then, ordering_reverse}
 use Rattle.std.specs.Cmp.{IsTotalOrder}
 use Rattle.std.proofs.lemmas.Cmp.{nat_list_cmp_total}
-use Rattle.rapid_model.specs.Process.{bytes_cmp}
-use Rattle.std.specs.List.{IsAllAdjacentAnswer, list_all}
+use Rattle.rapid_model.specs.Process.{Process, identifier, bytes_cmp, process_cmp}
+use Rattle.rapid_model.specs.Cut.{is_ascending}
+use Rattle.rapid_model.specs.Configuration.{identifiers_ascend}
+use Rattle.std.specs.List.{IsAllAdjacentAnswer, list_all, filter}
 use Rattle.std.proofs.lemmas.Bool.{and_parts, and_from, and_left, and_right}
 
 pub bytes_total : IsTotalOrder bytes_cmp
@@ -23,7 +25,7 @@ pub is_lt_trans : {K : Type 0} {R : K → K → Ordering} → IsTotalOrder R →
 is_lt_trans {K} {R} o x y z p q = ap is_lt (o.trans x y z (less_is (R x y) p) (less_is (R y z) q))
 
 -- what x passes with y, and y with all of zs, x passes with all of zs
-all_later : {X : Type 0} (lt : X → X → Bool) → ((x y z : X) → lt x y ≡ true → lt y z ≡ true → lt x z ≡ true) → (x y : X) (zs : List X) → lt x y ≡ true → list_all (lt y) zs ≡ true → list_all (lt x) zs ≡ true
+pub all_later : {X : Type 0} (lt : X → X → Bool) → ((x y z : X) → lt x y ≡ true → lt y z ≡ true → lt x z ≡ true) → (x y : X) (zs : List X) → lt x y ≡ true → list_all (lt y) zs ≡ true → list_all (lt x) zs ≡ true
 all_later lt t x y [] h k = refl
 all_later lt t x y (z ∷ zs) h k =
     let p = and_parts (lt y z) (list_all (lt y) zs) k in
@@ -70,3 +72,56 @@ later_less {X} R f more (x ∷ xs) up zero (suc j) d l m =
 later_less R f more (x ∷ xs) up (suc i) zero d l m = absurd (omega (arith, l))
 later_less R f more (x ∷ xs) up (suc i) (suc j) d l m =
     later_less R f more xs (and_parts (list_all (λ y. is_lt (R x y)) xs) (f xs) (sym (more x xs) ∙ up)).1 i j d (omega (arith, l)) (omega (arith, m))
+
+-- what all pass, all that are kept pass
+pub kept_all : {X : Type 0} (q t : X → Bool) (xs : List X) → list_all q xs ≡ true → list_all q (filter t xs) ≡ true
+kept_all q t [] h = refl
+kept_all q t (x ∷ xs) h =
+    let p = and_parts (q x) (list_all q xs) h in
+    elim (t x) as (λ b. list_all q (cond b (x ∷ filter t xs) (filter t xs)) ≡ true) [
+      | true ↦ and_from (q x) (list_all q (filter t xs)) p.0 (kept_all q t xs p.1)
+      | false ↦ kept_all q t xs p.1
+    ]
+
+-- f says that each element passes lt with all later ones: it does so of those that are kept
+pub kept_ascends : {X : Type 0} (lt : X → X → Bool) (f : List X → Bool) → f [] ≡ true → ((x : X) (xs : List X) → f (x ∷ xs) ≡ (list_all (lt x) xs && f xs)) → (t : X → Bool) (xs : List X) → f xs ≡ true → f (filter t xs) ≡ true
+kept_ascends lt f none more t [] h = none
+kept_ascends lt f none more t (x ∷ xs) h =
+    let p = and_parts (list_all (lt x) xs) (f xs) (sym (more x xs) ∙ h) in
+    elim (t x) as (λ b. f (cond b (x ∷ filter t xs) (filter t xs)) ≡ true) [
+      | true ↦ more x (filter t xs) ∙ and_from (list_all (lt x) (filter t xs)) (f (filter t xs)) (kept_all (lt x) t xs p.0) (kept_ascends lt f none more t xs p.1)
+      | false ↦ kept_ascends lt f none more t xs p.1
+    ]
+
+-- first parts in order decide
+pub cmp_take : (n : ℕ) (xs ys : List ℕ) → bytes_cmp (take n xs) (take n ys) ≡ Less → bytes_cmp xs ys ≡ Less
+cmp_take zero xs ys e = cc
+cmp_take (suc n) [] [] e = cc
+cmp_take (suc n) [] (y ∷ ys) e = refl
+cmp_take (suc n) (x ∷ xs) [] e = cc
+cmp_take (suc n) (x ∷ xs) (y ∷ ys) e =
+    elim (nat_cmp x y) as (λ o. ordering_then o (bytes_cmp (take n xs) (take n ys)) ≡ Less → ordering_then o (bytes_cmp xs ys) ≡ Less) [
+      | Less ↦ λ h. refl
+      | Equal ↦ λ h. cmp_take n xs ys h
+      | Greater ↦ λ h. h
+    ] e
+
+-- what is below by identifier is below
+pub below_by_identifier : (p q : Process) → bytes_cmp (identifier p) (identifier q) ≡ Less → process_cmp p q ≡ Less
+below_by_identifier p q e = cmp_take 16 p q e
+
+pub flipped : (x y : List ℕ) (o : Ordering) → bytes_cmp x y ≡ o → bytes_cmp y x ≡ ordering_reverse o
+flipped x y o e = bytes_total.antisymm y x ∙ ap ordering_reverse e
+
+-- what ascends by identifier ascends
+pub members_ascend : (ps : List Process) → identifiers_ascend ps ≡ true → is_ascending ps ≡ true
+members_ascend [] h = refl
+members_ascend (p ∷ ps) h =
+    let r = and_parts (list_all (λ q. is_lt (bytes_cmp (identifier p) (identifier q))) ps) (identifiers_ascend ps) h in
+    and_from (list_all (λ q. is_lt (process_cmp p q)) ps) (is_ascending ps) (weaker ps r.0) (members_ascend ps r.1)
+  where
+    weaker : (qs : List Process) → list_all (λ q. is_lt (bytes_cmp (identifier p) (identifier q))) qs ≡ true → list_all (λ q. is_lt (process_cmp p q)) qs ≡ true
+    weaker [] h = refl
+    weaker (q ∷ qs) h =
+        let r = and_parts (is_lt (bytes_cmp (identifier p) (identifier q))) (list_all (λ q. is_lt (bytes_cmp (identifier p) (identifier q))) qs) h in
+        and_from (is_lt (process_cmp p q)) (list_all (λ q. is_lt (process_cmp p q)) qs) (ap is_lt (below_by_identifier p q (less_is (bytes_cmp (identifier p) (identifier q)) r.0))) (weaker qs r.1)

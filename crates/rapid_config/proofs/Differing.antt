@@ -12,7 +12,7 @@ use Rattle.rapid_model.proofs.InOrder.{any_insert}
 use Rattle.rapid_config.specs.Endpoints.{AreEndpointsOf}
 use Rattle.rapid_config.proofs.Ascending.{bytes_total}
 
-same_flips : (x y : List ℕ) → same_bytes x y ≡ same_bytes y x
+pub same_flips : (x y : List ℕ) → same_bytes x y ≡ same_bytes y x
 same_flips = (eq_by_cmp_equiv bytes_total).symm
 
 -- one process more at the end

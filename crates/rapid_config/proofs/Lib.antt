@@ -3,3 +3,5 @@ pub mod Cuts
 pub mod Places
 pub mod Spelled
 pub mod Differing
+pub mod Insertions
+pub mod Kept

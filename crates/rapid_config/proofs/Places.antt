@@ -1,5 +1,5 @@
 -- Where a process stands among members that ascend by identifier.
-use Rattle.std.proofs.Common.{◌≡◌, ℕ, suc, ◌+◌, ◌<◌, Bool, true, false, not, ◌||◌, cond, List, [], ◌∷◌, length, get_or, refl, sym, ap, subst, ◌∙◌, inl, inr, Some, None, position, arith}
+use Rattle.std.proofs.Common.{◌≡◌, ℕ, zero, suc, ◌+◌, ◌<◌, Bool, true, false, not, ◌||◌, cond, List, [], ◌∷◌, length, get_or, refl, sym, ap, subst, ◌∙◌, inl, inr, Some, None, position, arith}
 use Rattle.std.specs.Prelude.{nat_lt, is_some}
 use Rattle.std.specs.List.{list_any, position_or_len}
 use Rattle.std.specs.List.Sorted.{IsBinarySearchResult, IsNonDecreasingBy}
@@ -13,10 +13,11 @@ use Rattle.std.proofs.lemmas.Bool.Decides.{nat_tests}
 use Rattle.std.proofs.lemmas.List.{get_or_default}
 use Rattle.std.proofs.lemmas.List.Sums.{position_or_len_is}
 use Rattle.std.proofs.lemmas.List.Sorted.{searchable_from_sorted}
-use Rattle.rapid_model.specs.Process.{Process, identifier, bytes_cmp, same_bytes}
+use Rattle.rapid_model.specs.Process.{Process, identifier, bytes_cmp, process_cmp, same_bytes, is_in}
+use Rattle.rapid_model.specs.Cut.{is_ascending}
 use Rattle.rapid_model.specs.Configuration.{identifiers_ascend}
 use Rattle.rapid_model.proofs.Orders.{same_bytes_decides}
-use Rattle.rapid_config.proofs.Ascending.{bytes_total, later_less}
+use Rattle.rapid_config.proofs.Ascending.{bytes_total, later_less, flipped}
 
 -- the identifier of q against that of p
 abbrev pub by_identifier : Process → Process → Ordering
@@ -66,7 +67,7 @@ apart ps p up i k d li lk e ne =
         ∙ bytes_total.antisymm (identifier (get_or ps k d)) (identifier (get_or ps i d)) ∙ ap ordering_reverse (less i k l lk)
 
 -- the answers of a search by identifier rise
-rising : (ps : List Process) (p : Process) → identifiers_ascend ps ≡ true → IsNonDecreasingBy (λ y. ordering_index (by_identifier p y)) ps
+pub rising : (ps : List Process) (p : Process) → identifiers_ascend ps ≡ true → IsNonDecreasingBy (λ y. ordering_index (by_identifier p y)) ps
 rising ps p up =
     searchable_from_sorted bytes_total identifier ps (identifier p)
     (λ k d z l. ap is_lt (bytes_total.antisymm (identifier (get_or ps (k + 1) d)) (identifier (get_or ps k d))
@@ -113,3 +114,32 @@ in_by_place t ps = some_cond (nat_lt (position_or_len t ps) (length ps)) (positi
           | true ↦ lt-ltb 0 (suc (length ps)) (omega arith)
           | false ↦ one_less (position_or_len t ps) (length ps) ∙ first_within t ps
         ]
+
+-- one that passes
+pub any_at : (t : Process → Bool) (ps : List Process) (i : ℕ) (d : Process) → i < length ps → t (get_or ps i d) ≡ true → list_any t ps ≡ true
+any_at t [] i d l h = absurd (omega (arith, l))
+any_at t (p ∷ ps) zero d l h = ap (λ b. b || list_any t ps) h
+any_at t (p ∷ ps) (suc i) d l h = ap (λ b. t p || b) (any_at t ps i d (omega (arith, l)) h) ∙ always (t p)
+  where
+    always : (a : Bool) → (a || true) ≡ true
+    always true = refl
+    always false = refl
+
+-- none that passes
+pub any_none : (t : Process → Bool) (ps : List Process) → ((k : ℕ) (d : Process) → k < length ps → t (get_or ps k d) ≡ false) → list_any t ps ≡ false
+any_none t [] h = refl
+any_none t (p ∷ ps) h = ap (λ b. b || list_any t ps) (h 0 p (omega arith)) ∙ any_none t ps (λ k d l. h (suc k) d (omega (arith, l)))
+
+-- a search among processes that ascend
+pub search_finds : (ps : List Process) (p : Process) (i : ℕ) → i < length ps → IsBinarySearchResult (λ q. process_cmp q p) ps (Ok i) → is_in ps p ≡ true
+search_finds ps p i l h = any_at (same_bytes p) ps i p l (ap is_eq (flipped (get_or ps i p) p Equal (h p)))
+
+pub search_misses : (ps : List Process) (p : Process) (i : ℕ) → is_ascending ps ≡ true → IsBinarySearchResult (λ q. process_cmp q p) ps (Err i) → is_in ps p ≡ false
+search_misses ps p i up h =
+    let parted = h (searchable_from_sorted bytes_total (λ q. q) ps p
+      (λ k d z l. ap is_lt (flipped (get_or ps k d) (get_or ps (k + 1) d) Less (later_less process_cmp is_ascending (λ _ _. refl) ps up k (k + 1) d (omega arith) l)))) in
+    any_none (same_bytes p) ps (λ k d m.
+      elim (cases_lt k i) [
+        | inl below ↦ ap is_eq (flipped (get_or ps k d) p Less (parted.0 k d (omega arith) below))
+        | inr above ↦ ap is_eq (flipped (get_or ps k d) p Greater (parted.1 k d above m))
+      ])

@@ -1,15 +1,17 @@
 // Configurations: views of who the members are.
 
-ghost use Rattle.std.specs.Prelude.{◌≡◌, ◌≤◌, None, length, IfOk, IfErr, OnOk, IfSome};
+ghost use Rattle.std.specs.Prelude.{◌≡◌, ◌+◌, ◌^◌, ◌≤◌, ◌↔◌, ◌⊎◌, None, Err, length, IfOk, IfErr, OnOk, IfSome};
+ghost use Rattle.rapid_model.specs.Apply.{apply};
 ghost use Rattle.std.specs.Arc.{arc_slice_items};
 ghost use Rattle.rapid_model.specs.Configuration as model;
 ghost use Rattle.rapid_model.specs.Configuration.{AreMembers, IsConfiguration, founding, configuration_bytes, configuration_id, position_of};
 ghost use Rattle.rapid_model.specs.Reading.{members_fault};
 ghost use Rattle.rapid_config.specs.Faults.{Reports};
 
+use crate::joining::members_after;
 use crate::members::{check_members, place_of};
 use crate::spelling::spell;
-use crate::{ConfigError, ConfigId, Params, Stamp};
+use crate::{ConfigError, ConfigId, Cut, Params, Stamp};
 use rapid_endpoint::Process;
 use sha2::{Digest, Sha256};
 use std::alloc::{AllocError, Global};
@@ -158,6 +160,26 @@ impl Configuration {
         ensures { IfOk result (λ bytes. bytes.items ≡ configuration_bytes self.now) }
     {
         spell(alloc, self.params, self.height, self.previous, self.members.as_slice())
+    }
+
+    /// The configuration after a cut: the members in it are removed, then its other processes join in
+    /// ascending order, each skipped where its identifier or its endpoint is held or 1,024 members are
+    /// there. `HeightFull` exactly where the height is the last that there is.
+    #[tactic(auto, unfolding(rapid_model::specs::Apply::apply))]
+    pub fn apply(&self, alloc: Global, cut: &Cut) -> Result<Configuration, ConfigError>
+        ensures value { IfOk result (λ next. next ≡ apply self.now cut.now) }
+        ensures valid { IfOk result IsConfiguration }
+        ensures full { result ≡ Err ConfigError.HeightFull ↔ (self.now.height + 1 ≡ 2 ^ 64) }
+        ensures refused { IfErr result (λ e. (e ≡ ConfigError.HeightFull) ⊎ (e ≡ ConfigError.OutOfMemory)) }
+    {
+        let Some(height) = self.height.checked_add(1) else {
+            return Err(ConfigError::HeightFull);
+        };
+        let members = members_after(alloc, self.members.as_slice(), cut.processes())?;
+        let members = ArcSlice::from_vec(members)?;
+        let next = assemble(alloc, self.params, height, self.id, members)?;
+        next.tell();
+        Ok(next)
     }
 
     /// An equal configuration, which shares the list of members.

@@ -6,6 +6,7 @@ mod configuration;
 mod cut;
 mod endpoints;
 mod error;
+mod joining;
 mod members;
 mod params;
 mod spelling;

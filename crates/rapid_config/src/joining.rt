@@ -1,0 +1,122 @@
+// The members that a cut makes of others.
+
+ghost use Rattle.std.specs.Prelude.{◌≡◌, ◌≤◌, ◌&&◌, not, true, false, nat_lt, length, filter, IsTrue, IfOk, OnOk, MatchOption, if◌then◌else◌};
+ghost use Rattle.std.specs.List.{list_any, insert};
+ghost use Rattle.rapid_model.specs.Process.{is_in, same_identifier};
+ghost use Rattle.rapid_model.specs.Cut.{is_ascending};
+ghost use Rattle.rapid_model.specs.Configuration.{AreMembers, identifiers_ascend};
+ghost use Rattle.rapid_model.specs.Apply.{collides, insert_process, with_joiners, next_members};
+ghost use Rattle.rapid_config.specs.Endpoints.{AreEndpointsOf};
+
+use crate::endpoints::endpoints_of;
+use crate::members::MOST_MEMBERS;
+use rapid_endpoint::{Endpoint, Process};
+use std::alloc::{AllocError, Global};
+use std::collections::BTreeSet;
+
+/// Whether the process is among these, which ascend.
+fn contains(processes: &[Process], process: &Process) -> bool
+    requires { IsTrue (is_ascending processes.now) }
+    ensures { result ≡ is_in processes.now process.now }
+{
+    match processes.binary_search(process) {
+        Ok(_place) => true,
+        Err(_next) => false,
+    }
+}
+
+/// The processes that are not among others, which ascend.
+fn without(
+    alloc: Global,
+    processes: &[Process],
+    others: &[Process],
+) -> Result<Vec<Process>, AllocError>
+    requires { IsTrue (is_ascending others.now) }
+    ensures { IfOk result (λ kept. kept.items ≡ filter (λ p. not (is_in others.now p)) processes.now) }
+{
+    let mut kept = Vec::with_capacity(alloc, processes.len())?;
+    for process in processes {
+        if !contains(others, process) {
+            kept.push(*process)?;
+        }
+    }
+    Ok(kept)
+}
+
+/// The place for a joiner among the members; none where its identifier is held.
+fn free_place(members: &[Process], joiner: &Process) -> Option<usize>
+    requires { IsTrue (identifiers_ascend members.now) }
+    ensures { MatchOption result (list_any (same_identifier joiner.now) members.now ≡ true)
+        (λ place. (place ≤ length members.now) × (list_any (same_identifier joiner.now) members.now ≡ false) × (insert members.now place joiner.now ≡ insert_process joiner.now members.now)) }
+{
+    match members.binary_search_by_key(&joiner.id(), |member| member.id()) {
+        Ok(_place) => None,
+        Err(place) => Some(place),
+    }
+}
+
+/// Lets a joiner in where there is room and nobody holds its identifier or its endpoint.
+fn admit(
+    members: &mut Vec<Process>,
+    endpoints: &mut BTreeSet<Endpoint>,
+    joiner: &Process,
+) -> Result<(), AllocError>
+    requires members { AreMembers members.old.items }
+    requires endpoints { AreEndpointsOf members.old.items endpoints.old }
+    ensures admitted { OnOk result
+        (members.new.items ≡ (if not (collides members.old.items joiner.now) && nat_lt (length members.old.items) 1024 then insert_process joiner.now members.old.items else members.old.items)) }
+    ensures members { OnOk result (AreMembers members.new.items) }
+    ensures endpoints { OnOk result (AreEndpointsOf members.new.items endpoints.new) }
+{
+    if members.len() >= MOST_MEMBERS {
+        return Ok(());
+    }
+    let Some(place) = free_place(members.as_slice(), joiner) else {
+        return Ok(());
+    };
+    if !endpoints.insert(joiner.endpoint())? {
+        return Ok(());
+    }
+    joiner.tell();
+    members.insert(place, *joiner)?;
+    Ok(())
+}
+
+/// The members after joiners, one after another.
+fn join_all(
+    alloc: Global,
+    mut members: Vec<Process>,
+    joiners: &[Process],
+) -> Result<Vec<Process>, AllocError>
+    requires { AreMembers members.items }
+    ensures joined { IfOk result (λ next. next.items ≡ with_joiners members.items joiners.now) }
+    ensures valid { IfOk result (λ next. AreMembers next.items) }
+{
+    if joiners.is_empty() {
+        return Ok(members);
+    }
+    let Some(mut endpoints) = endpoints_of(alloc, members.as_slice())? else {
+        unreachable!()
+    };
+    for joiner in joiners {
+        admit(&mut members, &mut endpoints, joiner)?;
+    }
+    Ok(members)
+}
+
+/// The members that a cut makes of others: those outside the cut stay, and the others of the cut join
+/// in ascending order, each skipped where its identifier or its endpoint is held or there is no room.
+pub(crate) fn members_after(
+    alloc: Global,
+    members: &[Process],
+    cut: &[Process],
+) -> Result<Vec<Process>, AllocError>
+    requires members { AreMembers members.now }
+    requires cut { IsTrue (is_ascending cut.now) }
+    ensures next { IfOk result (λ next. next.items ≡ next_members members.now cut.now) }
+    ensures valid { IfOk result (λ next. AreMembers next.items) }
+{
+    let stayers = without(alloc, members, cut)?;
+    let joiners = without(alloc, cut, members)?;
+    join_all(alloc, stayers, joiners.as_slice())
+}
