@@ -1,4 +1,5 @@
 pub mod Joined
 pub mod ParseErrors
 pub mod Same
+pub mod Spellings
 pub mod Texts

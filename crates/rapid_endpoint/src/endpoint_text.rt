@@ -3,6 +3,7 @@
 ghost use Rattle.std.specs.Prelude.{◌≡◌, ◌<◌, ◌==◌, ◌&&◌, true, false, [], ◌∷◌, length, if◌then◌else◌, MatchOption, Some, None, Ok, Err};
 ghost use Rattle.std.specs.List.{list_any, before_first, after_first};
 ghost use Rattle.rapid_model.specs.EndpointText.{is_number, value_of, parts};
+ghost use Rattle.rapid_endpoint.specs.Spellings.{PrintedIsRead, ReadIsPrinted};
 ghost use Rattle.rapid_endpoint.specs.Texts.{is_byte, address_from, endpoint_from};
 
 use crate::number::number;
@@ -114,3 +115,10 @@ impl fmt::Display for Endpoint {
         write!(f, "{a}.{b}.{c}.{d}:{port}")
     }
 }
+
+/// Each endpoint has one spelling: its printed text is read as that endpoint, and no other text is.
+/// It does nothing: what it ensures is for proofs.
+pub fn endpoints_have_one_spelling()
+    ensures printed { PrintedIsRead }
+    ensures read { ReadIsPrinted }
+{}
