@@ -1,5 +1,5 @@
 -- The probe windows of all edges of a member.
-use Rattle.std.specs.Prelude.{ℕ, Bool, List, map, Option, Some, None, slice_get, slice_set}
+use Rattle.std.specs.Prelude.{ℕ, Bool, List, map, Option, None, slice_get, slice_set}
 use Rattle.std.specs.Option.{option_map, unwrap_or}
 use Rattle.rapid_model.specs.Process.{Process}
 use Rattle.rapid_model.specs.Configuration.{Configuration}
@@ -18,14 +18,9 @@ fresh_monitors c me = map (λ k. option_map (λ s. fresh_edge) (subject_on c me 
 abbrev pub edge_at : Monitors → ℕ → Option Edge
 edge_at m k = unwrap_or (slice_get m k) None
 
--- The monitors with one more result of the edge on a ring, if there is one.
-abbrev pub with_result : Monitors → ℕ → Bool → Option Edge → Monitors
-with_result m k ok None = m
-with_result m k ok (Some e) = slice_set m k (Some (probed e ok))
-
--- The monitors after one more result on a ring.
+-- The monitors after one more result on a ring, if there is an edge on it.
 abbrev pub probed_at : Monitors → ℕ → Bool → Monitors
-probed_at m k ok = with_result m k ok (edge_at m k)
+probed_at m k ok = slice_set m k (option_map (λ e. probed e ok) (edge_at m k))
 
 -- Whether the edge on a ring is down after one more result; none where nobody is observed there.
 abbrev pub is_down_after : Monitors → ℕ → Bool → Option Bool
