@@ -1,0 +1,45 @@
+-- One more vote at a fast round, by whether its position has voted.
+use Rattle.std.proofs.Common.{◌≡◌, ℕ, ◌+◌, ◌≤◌, Bool, true, false, cond, ◌==◌, refl, sym, ap, subst, ◌∙◌, Some, None, arith, eq-eqb, ne_eqb}
+use Rattle.std.specs.Ordering.{nat_cmp}
+use Rattle.std.specs.FinSet as set
+use Rattle.rapid_model.specs.Cut.{Cut}
+use Rattle.rapid_model.specs.Quorum.{fast_size}
+use Rattle.rapid_model.specs.FastRound.{FastRound, Counts, count_of, one_more, fast_decision}
+use Rattle.rapid_model.proofs.Rounds.{hear_vote-heard, hear_vote-new}
+use Rattle.rapid_fast.specs.OwnRound.{OwnRound, after_vote, IsRound}
+use Rattle.rapid_fast.proofs.Counting.{counted-one_more}
+
+pub decision-known : (f : FastRound) (p : ℕ) (v : Cut) → set.contains f.heard p ≡ true → None ≡ fast_decision f p v
+unfolding fast_decision
+decision-known f p v h = rw h refl
+
+decision-new : (f : FastRound) (p : ℕ) (v : Cut) → set.contains f.heard p ≡ false → (b : Bool) → (count_of f.counts v + 1 == fast_size f.size) ≡ b → cond b (Some v) None ≡ fast_decision f p v
+unfolding fast_decision
+decision-new f p v h b e = rw h (ap (λ t. cond t (Some v) None) (sym e))
+
+pub after_vote-known : (r : OwnRound) (p : ℕ) (v : Cut) → set.contains r.round.heard p ≡ true → r ≡ after_vote r p v
+after_vote-known r p v h = λ i. record { position = r.position; round = sym (hear_vote-heard r.round p v h) i }
+
+-- the fields of a round r, at a vote of a position that is not among those heard
+module _ (r : OwnRound) (n own : ℕ) (s : set.FinSet nat_cmp) (m : Counts) (view : record { position = own; round = record { size = n; heard = s; counts = m } } ≡ r) (p : ℕ) (v : Cut) (new : set.contains s p ≡ false) where
+  pub decided : (k full : ℕ) → k ≡ count_of m v → full ≡ fast_size n → k + 1 ≡ full → Some v ≡ fast_decision r.round p v
+  decided k full count size e =
+      decision-new (record { size = n; heard = s; counts = m }) p v new true (eq-eqb _ _ (ap (λ c. c + 1) (sym count) ∙ e ∙ size)) ∙ ap (λ (q : OwnRound). fast_decision q.round p v) view
+
+  pub undecided : (k full : ℕ) → k ≡ count_of m v → full ≡ fast_size n → (k + 1 ≡ full → ⊥) → None ≡ fast_decision r.round p v
+  undecided k full count size e =
+      decision-new (record { size = n; heard = s; counts = m }) p v new false (ne_eqb _ _ (λ h. e (ap (λ c. c + 1) count ∙ h ∙ sym size))) ∙ ap (λ (q : OwnRound). fast_decision q.round p v) view
+
+  pub heard_now : (t : set.FinSet nat_cmp) (l : Counts) → t ≡ set.insert s p → l ≡ one_more m v → record { position = own; round = record { size = n; heard = t; counts = l } } ≡ after_vote r p v
+  heard_now t l a b =
+      (λ i. record { position = own; round = record { size = n; heard = a i; counts = b i } })
+      ∙ (λ i. record { position = own; round = sym (hear_vote-new (record { size = n; heard = s; counts = m }) p v new) i })
+      ∙ ap (λ q. after_vote q p v) view
+
+  pub round_kept : (t : set.FinSet nat_cmp) (l : Counts) → t ≡ set.insert s p → l ≡ one_more m v → IsRound (record { position = own; round = record { size = n; heard = s; counts = m } }) → IsRound (record { position = own; round = record { size = n; heard = t; counts = l } })
+  round_kept t l a b is =
+      record {
+        member = is.member;
+        few = is.few;
+        counted = λ w. subst (λ x. count_of l w ≤ set.len x) (sym a) (subst (λ x. count_of x w ≤ set.len (set.insert s p)) (sym b) (counted-one_more m s p v new is.counted w));
+      }

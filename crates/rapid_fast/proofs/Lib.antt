@@ -1,0 +1,4 @@
+pub mod BitSets
+pub mod Places
+pub mod Counting
+pub mod Deciding

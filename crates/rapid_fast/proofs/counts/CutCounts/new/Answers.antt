@@ -1,0 +1,7 @@
+use Rattle.std.proofs.Common.{ap, ◌∙◌}
+use Rattle.std.specs.FinMap as map
+use Rattle.rapid_fast.proofs.Counting.{no_counts}
+use Rattle.rapid_fast.proofs.counts.CutCounts.new.Goals as goal
+
+pub returns : goal.returns
+returns c = ap map.from_sorted c.new.ensures.items ∙ no_counts

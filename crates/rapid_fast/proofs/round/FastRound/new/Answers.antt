@@ -1,0 +1,17 @@
+use Rattle.std.proofs.Common.{ℕ, ◌≤◌, ◌+◌, ◌≡◌, subst, ap, sym, ◌∙◌, arith, unwrap_or}
+use Rattle.std.specs.Ordering.{nat_cmp}
+use Rattle.std.specs.FinSet as set
+use Rattle.std.specs.FinMap as map
+use Rattle.rapid_model.specs.Cut.{Cut, cut_cmp}
+use Rattle.rapid_model.specs.FastRound.{count_of}
+use Rattle.rapid_fast.proofs.round.FastRound.new.Goals as goal
+
+pub invariant_of-result : goal.invariant_of-result
+invariant_of-result c =
+    record {
+      member = c.requires.member;
+      few = c.requires.few;
+      counted = λ v.
+          let none : count_of c.new-2.result v ≡ 0 = ap (λ m. count_of m v) c.new-2.ensures ∙ ap (λ o. unwrap_or o 0) (map.get-empty cut_cmp v) in
+          omega (arith, none);
+    }

@@ -1,0 +1,142 @@
+// The fast round of one member.
+ghost use Rattle.std.specs.Prelude.{◌≡◌, ◌≤◌, ◌<◌, IfOk, OnOk, OnErr, IfErr};
+ghost use Rattle.rapid_model.specs.FastRound.{fast_decision};
+ghost use Rattle.rapid_fast.specs.OwnRound.{fresh_own, after_vote};
+ghost use Rattle.rapid_fast.specs.Refusals.{IsHearRefusal, hear_code};
+
+use crate::{CutCounts, PositionSet, fast_size};
+use rapid_config::Cut;
+use std::alloc::{AllocError, Global};
+use std::marker::Model;
+use thiserror::Error;
+
+/// Why a vote is refused.
+#[derive(Clone, Copy, Debug, PartialEq, Eq, Error)]
+pub enum HearError {
+    /// The position is no member's.
+    #[error("no member has this position")]
+    NotMember,
+    /// Want of memory; nothing changed.
+    #[error("out of memory")]
+    OutOfMemory,
+}
+
+impl HearError {
+    /// The number of the refusal.
+    pub fn code(&self) -> u8
+        ensures { result ≡ hear_code self.now }
+    {
+        match self {
+            HearError::NotMember => 1,
+            HearError::OutOfMemory => 99,
+        }
+    }
+}
+
+/// The fast round as one member keeps it: the first vote of each member counts.
+#[derive(Debug, Drop)]
+pub struct FastRound {
+    size: usize,
+    position: usize,
+    heard: PositionSet,
+    counts: CutCounts,
+    alloc: Global,
+}
+
+impl Model for FastRound {
+    ghost use Rattle.rapid_fast.specs.OwnRound.{OwnRound, own_code, IsRound};
+
+    ghost Value = { OwnRound };
+
+    ghost coded = { own_code };
+
+    ghost view = { λ f. record { position = f.position; round = record { size = f.size; heard = f.heard; counts = f.counts } } };
+
+    ghost invariant = { λ f. IsRound (record { position = f.position; round = record { size = f.size; heard = f.heard; counts = f.counts } }) };
+}
+
+impl FastRound {
+    /// The round of `size` members, at most 1,024, as the one at `position` keeps it; no vote is there.
+    pub fn new(alloc: Global, size: usize, position: usize) -> FastRound
+        requires few { size ≤ 1024 }
+        requires member { position < size }
+        ensures { result ≡ fresh_own size position }
+    {
+        FastRound {
+            size,
+            position,
+            heard: PositionSet::new(),
+            counts: CutCounts::new(alloc),
+            alloc,
+        }
+    }
+
+    /// The own vote; the cut, where this vote completes a fast quorum for it. A second vote is ignored. Want of
+    /// memory leaves the round as it was.
+    pub fn vote(&mut self, cut: &Cut) -> Result<Option<Cut>, AllocError>
+        ensures decided { IfOk result (λ d. d ≡ fast_decision self.old.round self.old.position cut.now) }
+        ensures heard { OnOk result (self.new ≡ after_vote self.old self.old.position cut.now) }
+        ensures unchanged { OnErr result (self.new ≡ self.old) }
+        ensures size { self.new.round.size ≡ self.old.round.size }
+        ensures position { self.new.position ≡ self.old.position }
+    {
+        self.take(self.position, cut)
+    }
+
+    /// A vote of the member at a position; the cut, where this vote completes a fast quorum for it. A second vote of a
+    /// member is ignored.
+    ///
+    /// # Errors
+    ///
+    /// `NotMember` where the position isn't below the number of members; `OutOfMemory`. Both leave the round as it was.
+    pub fn hear(&mut self, position: usize, cut: &Cut) -> Result<Option<Cut>, HearError>
+        ensures decided { IfOk result (λ d. d ≡ fast_decision self.old.round position cut.now) }
+        ensures heard { OnOk result (self.new ≡ after_vote self.old position cut.now) }
+        ensures member { OnOk result (position < self.old.round.size) }
+        ensures refused { IfErr result (IsHearRefusal self.old.round position) }
+        ensures unchanged { OnErr result (self.new ≡ self.old) }
+        ensures size { self.new.round.size ≡ self.old.round.size }
+        ensures position { self.new.position ≡ self.old.position }
+    {
+        if position >= self.size {
+            return Err(HearError::NotMember);
+        }
+        self.take(position, cut).map_err(|_| HearError::OutOfMemory)
+    }
+
+    /// Takes the vote of a member.
+    fn take(&mut self, position: usize, cut: &Cut) -> Result<Option<Cut>, AllocError>
+        requires { position < self.old.round.size }
+        ensures decided { IfOk result (λ d. d ≡ fast_decision self.old.round position cut.now) }
+        ensures heard { OnOk result (self.new ≡ after_vote self.old position cut.now) }
+        ensures unchanged { OnErr result (self.new ≡ self.old) }
+        ensures size { self.new.round.size ≡ self.old.round.size }
+        ensures position { self.new.position ≡ self.old.position }
+    {
+        if self.heard.contains(position) {
+            return Ok(None);
+        }
+        let completes = self.counts.count(cut) + 1 == fast_size(self.size);
+        let decided = if completes {
+            Some(cut.try_copy(self.alloc)?)
+        } else {
+            None
+        };
+        self.counts.add(cut)?;
+        self.heard.insert(position);
+        Ok(decided)
+    }
+
+    /// An equal round.
+    pub fn try_copy(&self) -> Result<FastRound, AllocError>
+        ensures { IfOk result (λ f. f ≡ self.now) }
+    {
+        Ok(FastRound {
+            size: self.size,
+            position: self.position,
+            heard: self.heard.copy(),
+            counts: self.counts.try_copy()?,
+            alloc: self.alloc,
+        })
+    }
+}

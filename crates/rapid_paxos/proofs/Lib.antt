@@ -1,0 +1,2 @@
+pub mod Noticing
+pub mod Coordinating

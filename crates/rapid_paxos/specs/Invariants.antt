@@ -1,0 +1,14 @@
+-- What is true of each coordinator.
+use Rattle.std.specs.Prelude.{◌≡◌, ℕ, ◌≤◌, ◌<◌, Option, IfSome}
+use Rattle.std.specs.FinSet as set
+use Rattle.rapid_model.specs.Cut.{Cut}
+use Rattle.rapid_model.specs.Ballot.{Ballot}
+use Rattle.rapid_model.specs.FastRound.{count_of}
+use Rattle.rapid_model.specs.Coordinator.{Coordinator, last_round}
+
+-- The coordinator is one of at most 1,024 members, and no cut was reported by more than have promised.
+pub record IsCoordinator (c : Coordinator) : Type 0 where
+  pub member : c.position < c.size
+  pub few : c.size ≤ 1024
+  pub counted : (v : Cut) → count_of c.counts v ≤ set.len c.heard
+  pub last : last_round c.ballot ≤ 250

@@ -1,0 +1,10 @@
+-- What is true of each ballot.
+use Rattle.std.specs.Prelude.{◌≡◌, ℕ, ◌≤◌, ◌<◌}
+use Rattle.rapid_model.specs.Ballot.{Ballot}
+
+-- The ballot is the fast one or a classic one.
+pub record IsRanged (b : Ballot) : Type 0 where
+  pub from : 1 ≤ b.round
+  pub to : b.round ≤ 250
+  pub position : b.position < 1024
+  pub fast : b.round ≡ 1 → b.position ≡ 0

@@ -1,0 +1,17 @@
+//! Classic recovery of Fast Paxos (Lamport, 2006): the acceptor, the coordinator and the learner of one member.
+#![tactic(auto)]
+
+mod acceptor;
+mod ballot;
+mod coordinator;
+mod learner;
+mod notices;
+mod quorum;
+#[cfg(test)]
+mod tests;
+
+pub use acceptor::{Acceptor, AcceptorError, Promise};
+pub use ballot::Ballot;
+pub use coordinator::{Accept, Coordinator, RoundsUsed};
+pub use learner::Learner;
+pub use quorum::classic_size;

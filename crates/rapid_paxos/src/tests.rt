@@ -1,0 +1,233 @@
+// Worked cases of classic recovery, and growths that are refused.
+use crate::{
+    Accept, Acceptor, AcceptorError, Ballot, Coordinator, Learner, Promise, RoundsUsed,
+    classic_size,
+};
+use rapid_config::Cut;
+use rapid_endpoint::{Endpoint, Process, ProcessId};
+use std::alloc::{AllocError, Global};
+use std::process::Abort;
+use std::test::Fail;
+
+/// The process with the number n: the identifier n, and the endpoint 127.0.0.1:n.
+fn process(n: u8) -> Process {
+    let mut id = [0; 16];
+    id[15] = n;
+    Process::new(
+        ProcessId::new(id),
+        Endpoint::new([127, 0, 0, 1], u16::from(n)),
+    )
+}
+
+/// The cut of one process.
+fn cut(alloc: Global, n: u8) -> Result<Cut, Fail> {
+    let mut processes = Vec::new(alloc);
+    processes.push(process(n))?;
+    Ok(Cut::new(processes)?)
+}
+
+/// The promise of a ballot with a fast vote, or with none.
+fn promise(alloc: Global, ballot: Ballot, vote: Option<u8>) -> Result<Promise, Fail> {
+    let vote = match vote {
+        Some(n) => Some((Ballot::FAST, cut(alloc, n)?)),
+        None => None,
+    };
+    Ok(Promise { ballot, vote })
+}
+
+/// What the coordinator of so many members asks for, where these promises come in turn.
+fn asked(
+    rt: &impl Abort,
+    alloc: Global,
+    size: usize,
+    votes: &[Option<u8>],
+    own: Option<u8>,
+) -> Result<Option<Cut>, Fail> {
+    assert!(rt; 1 <= size && size <= 9);
+    let own = match own {
+        Some(n) => Some(cut(alloc, n)?),
+        None => None,
+    };
+    let mut coordinator = Coordinator::new(alloc, size, 0);
+    let Ok(ballot) = coordinator.begin(Ballot::FAST) else {
+        return Ok(None);
+    };
+    let mut answer = None;
+    for (position, vote) in votes.iter().enumerate() {
+        assert!(rt;
+            position < size && answer.is_none(),
+            "nothing is asked before the quorum"
+        );
+        let promise = promise(alloc, ballot, *vote)?;
+        answer = coordinator.hear_promise(position, &promise, own.as_ref())?;
+    }
+    Ok(answer.map(|accept: Accept| accept.cut))
+}
+
+#[test]
+fn sizes(rt: HostRuntime) {
+    for (n, size) in [(1, 1), (2, 2), (3, 2), (4, 3), (5, 3), (8, 5), (9, 5)] {
+        assert_eq!(rt; classic_size(n), size, "of {n}");
+    }
+}
+
+/// Fast votes for x = {P(6)} and y = {P(7)}, and which of them the coordinator asks for.
+#[test]
+fn values(rt: HostRuntime) -> Result<(), Fail> {
+    let x = Some(6);
+    let y = Some(7);
+    let alloc = rt.alloc();
+    let cases = [
+        (
+            8,
+            [x, x, x, x, y],
+            None,
+            x,
+            "four of five are forced among eight",
+        ),
+        (
+            8,
+            [y, y, y, x, x],
+            None,
+            x,
+            "none is forced: the least by its bytes",
+        ),
+        (
+            9,
+            [y, y, y, x, x],
+            None,
+            y,
+            "three of five are forced among nine",
+        ),
+        (
+            9,
+            [y, y, x, x, None],
+            None,
+            x,
+            "two are not forced among nine",
+        ),
+        (8, [y, None, None, None, y], x, y, "the only cut reported"),
+    ];
+    for (size, votes, own, want, why) in cases {
+        let want = match want {
+            Some(n) => Some(cut(alloc, n)?),
+            None => None,
+        };
+        assert!(rt; asked(&rt, alloc, size, &votes, own)? == want, "{why}");
+    }
+    let only_x = asked(&rt, alloc, 5, &[x, None, None], None)?;
+    assert!(rt; only_x == Some(cut(alloc, 6)?));
+    let own_y = asked(&rt, alloc, 5, &[None, None, None], y)?;
+    assert!(rt; own_y == Some(cut(alloc, 7)?));
+    assert!(rt; asked(&rt, alloc, 5, &[None, None, None], None)?.is_none());
+    Ok(())
+}
+
+#[test]
+fn ballots(rt: HostRuntime) {
+    assert!(rt; Ballot::classic(1, 0).is_none() && Ballot::classic(251, 0).is_none());
+    assert!(rt; Ballot::classic(2, 1024).is_none());
+    let low = Ballot::classic(2, 1023).expect(&rt, "a classic ballot");
+    let high = Ballot::classic(250, 0).expect(&rt, "a classic ballot");
+    assert!(rt; Ballot::FAST < low && low < high);
+    assert_eq!(rt; (low.round(), low.position()), (2, 1023));
+    assert_eq!(rt; (Ballot::FAST.round(), Ballot::FAST.position()), (1, 0));
+}
+
+#[test]
+fn begins_and_uses_the_rounds(rt: HostRuntime) -> Result<(), Fail> {
+    let mut coordinator = Coordinator::new(rt.alloc(), 3, 1);
+    let first = coordinator.begin(Ballot::FAST).ok();
+    assert_eq!(rt; first, Ballot::classic(2, 1));
+    let second = coordinator.begin(Ballot::FAST).ok();
+    assert_eq!(rt; second, Ballot::classic(3, 1));
+    let above = Ballot::classic(249, 2).expect(&rt, "a classic ballot");
+    assert_eq!(rt; coordinator.begin(above).ok(), Ballot::classic(250, 1));
+    assert_eq!(rt; coordinator.begin(Ballot::FAST).err(), Some(RoundsUsed));
+    assert_eq!(rt; RoundsUsed.code(), 3);
+    Ok(())
+}
+
+#[test]
+fn an_accept_comes_once(rt: HostRuntime) -> Result<(), Fail> {
+    let alloc = rt.alloc();
+    let x = cut(alloc, 6)?;
+    let mut coordinator = Coordinator::new(alloc, 5, 4);
+    let ballot = coordinator
+        .begin(Ballot::FAST)
+        .expect(&rt, "the first ballot");
+    let other = promise(alloc, Ballot::FAST, Some(7))?;
+    let report = promise(alloc, ballot, Some(6))?;
+    assert!(rt;
+        coordinator.hear_promise(0, &other, None)?.is_none(),
+        "another ballot"
+    );
+    for position in [0, 0, 1] {
+        assert!(rt; coordinator.hear_promise(position, &report, None)?.is_none());
+    }
+    let mut copy = coordinator.try_copy()?;
+    for coordinator in [&mut coordinator, &mut copy] {
+        let accept = coordinator.hear_promise(4, &report, None)?;
+        assert!(rt; accept.map(|accept| accept.cut) == Some(x.try_copy(alloc)?));
+        assert!(rt;
+            coordinator.hear_promise(2, &report, None)?.is_none(),
+            "it asked already"
+        );
+    }
+    Ok(())
+}
+
+#[test]
+fn an_acceptor_keeps_its_promises(rt: HostRuntime) -> Result<(), Fail> {
+    let alloc = rt.alloc();
+    let x = cut(alloc, 6)?;
+    let y = cut(alloc, 7)?;
+    let ballot = Ballot::classic(2, 0).expect(&rt, "a classic ballot");
+    let mut acceptor = Acceptor::new(alloc);
+    assert!(rt; acceptor.promise(Ballot::FAST).is_err());
+    acceptor.fast_vote(&x)?;
+    assert_eq!(rt;
+        acceptor.fast_vote(&y).err(),
+        Some(AcceptorError::AlreadyVoted)
+    );
+    let promise = acceptor.promise(ballot)?;
+    assert!(rt; promise.ballot == ballot);
+    assert!(rt; promise.vote == Some((Ballot::FAST, x)));
+    assert_eq!(rt;
+        acceptor.fast_vote(&y).err(),
+        Some(AcceptorError::Promised(ballot))
+    );
+    assert_eq!(rt; acceptor.promise(ballot).err().map(|e| e.code()), Some(1));
+    let mut copy = acceptor.try_copy()?;
+    copy.accept(ballot, &y)?;
+    assert_eq!(rt; copy.accept(ballot, &y).err().map(|e| e.code()), Some(2));
+    assert_eq!(rt;
+        (copy.rnd(), AcceptorError::OutOfMemory.code()),
+        (ballot, 99)
+    );
+    Ok(())
+}
+
+#[test]
+fn a_learner_needs_one_ballot(rt: HostRuntime) -> Result<(), Fail> {
+    let alloc = rt.alloc();
+    let x = cut(alloc, 6)?;
+    let y = cut(alloc, 7)?;
+    let low = Ballot::classic(2, 0).expect(&rt, "a classic ballot");
+    let high = Ballot::classic(3, 1).expect(&rt, "a classic ballot");
+    let mut learner = Learner::new(alloc, 5);
+    assert!(rt; learner.hear(0, low, &x)?.is_none());
+    assert!(rt; learner.hear(1, low, &x)?.is_none());
+    assert!(rt; learner.hear(1, low, &x)?.is_none(), "a notice counts once");
+    assert!(rt;
+        learner.hear(2, high, &x)?.is_none(),
+        "ballots are not added up"
+    );
+    assert!(rt; learner.hear(3, low, &y)?.is_none(), "nor are cuts");
+    let mut copy = learner.try_copy()?;
+    assert!(rt; learner.hear(4, low, &x)? == Some(x.try_copy(alloc)?));
+    assert!(rt; learner.hear(3, low, &x)?.is_none(), "it answers once");
+    assert!(rt; copy.hear(4, high, &x)?.is_none());
+    assert!(rt; copy.hear(0, high, &x)? == Some(x));
+    Ok(())
+}
