@@ -1,2 +1,5 @@
+pub mod Keys
+pub mod Numbers
+pub mod Rounds
 pub mod Sets
 pub mod Tables

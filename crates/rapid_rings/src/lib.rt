@@ -1,15 +1,20 @@
 //! Who observes whom.
 //!
 //! A membership service (Rapid, USENIX ATC 2018) has each process watched by one observer on each of K rings.
-//! Whoever takes alerts asks an [`ObserverTable`]: a [`Table`] has explicit edges.
+//! Whoever takes alerts asks an [`ObserverTable`]: the [`Rings`] of a configuration, or a [`Table`] of explicit edges.
 #![tactic(auto)]
 
 mod edge_map;
 mod observer_table;
 mod process_set;
+mod ring;
+mod rings;
 mod table;
 mod table_error;
+#[cfg(test)]
+mod tests;
 
 pub use observer_table::ObserverTable;
+pub use rings::Rings;
 pub use table::Table;
 pub use table_error::TableError;

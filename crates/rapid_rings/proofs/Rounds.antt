@@ -1,0 +1,311 @@
+-- Going round a ring: the member next before a process is the one with none between.
+use Rattle.std.proofs.Common.{◌≡◌, ℕ, ◌+◌, ◌<◌, ◌≤◌, length, get_or, take, ◌++◌, Bool, true, false, cond, not, ◌&&◌, ◌||◌, List, [], ◌∷◌, map, refl, sym, ap, subst, ◌∙◌, Option, Some, None, arith}
+use Rattle.std.specs.Option.{option_map}
+use Rattle.std.specs.List.{list_any, list_all, find}
+use Rattle.std.specs.declared.cmp.Ordering.{Ordering}
+use Rattle.std.specs.declared.cmp.Ordering.TheVariants.{Less, Equal, Greater}
+use Rattle.std.specs.Ordering.{ordering_then, ordering_reverse, is_lt, is_eq, eq_by_cmp}
+use Rattle.std.specs.Cmp.{IsTotalOrder, then_total, on_total, eq_by_cmp_equiv}
+use Rattle.std.proofs.lemmas.List.{take_more, take_all, map-append}
+use Rattle.std.specs.FinSet as set
+use Rattle.std.specs.FinSet.{IsAntisymmetric}
+use Rattle.rapid_model.specs.Process.{Process, bytes_cmp, process_cmp, same_bytes, is_in}
+use Rattle.rapid_model.specs.Ring.{ring_key, is_between, is_next_before, ring_observer}
+use Rattle.rapid_model.proofs.Orders.{processes_total, processes_exact, second_equal, first_equal, tie_decides, same_bytes_decides}
+use Rattle.rapid_rings.specs.Seats.{Seat, Seats, seat_cmp, same_seat, seat, seats_of, is_below, sits_between, IsLastBelow, IsLast, IsNextBefore}
+use Rattle.rapid_rings.proofs.Sets.{both, own}
+
+-- ---- the order of seats
+
+pub seats_total : IsTotalOrder seat_cmp
+seats_total = then_total (on_total (λ (x : Seat). x.0) processes_total) (on_total (λ (x : Seat). x.1) processes_total)
+
+pub seats_exact : IsAntisymmetric seat_cmp
+seats_exact a b e =
+    let p : a.0 ≡ b.0 = processes_exact _ _ (first_equal (bytes_cmp a.0 b.0) (process_cmp a.1 b.1) e) in
+    let q : a.1 ≡ b.1 = processes_exact _ _ (second_equal (bytes_cmp a.0 b.0) (process_cmp a.1 b.1) e) in
+    λ i. (p i, q i)
+
+pub same_seat_is : (x y : Seat) → same_seat x y ≡ true → x ≡ y
+same_seat_is x y h = (tie_decides seats_total seats_exact x y).0 h
+
+pub own_seat : (x : Seat) → same_seat x x ≡ true
+own_seat x = (tie_decides seats_total seats_exact x x).1 refl
+
+turned : (x y : Seat) → seat_cmp y x ≡ ordering_reverse (seat_cmp x y)
+turned x y = seats_total.antisymm y x
+
+-- ---- of two seats one is between the other and a third
+
+one_between : (a b c : Ordering) → is_eq a ≡ false → is_eq b ≡ false → is_eq c ≡ false
+    → ((is_lt a && is_lt c) || (is_lt c && is_lt (ordering_reverse b)) || (is_lt (ordering_reverse b) && is_lt a)) ≡ false
+    → ((is_lt (ordering_reverse a) && is_lt b) || (is_lt b && is_lt (ordering_reverse c)) || (is_lt (ordering_reverse c) && is_lt (ordering_reverse a))) ≡ false → ⊥
+one_between Equal b c p q r h k = cc
+one_between Less Equal c p q r h k = cc
+one_between Greater Equal c p q r h k = cc
+one_between Less Less Equal p q r h k = cc
+one_between Less Greater Equal p q r h k = cc
+one_between Greater Less Equal p q r h k = cc
+one_between Greater Greater Equal p q r h k = cc
+one_between Less Less Less p q r h k = cc
+one_between Less Less Greater p q r h k = cc
+one_between Less Greater Less p q r h k = cc
+one_between Less Greater Greater p q r h k = cc
+one_between Greater Less Less p q r h k = cc
+one_between Greater Less Greater p q r h k = cc
+one_between Greater Greater Less p q r h k = cc
+one_between Greater Greater Greater p q r h k = cc
+
+only_one : (x y s : Seat) → same_seat x s ≡ false → same_seat y s ≡ false → sits_between x y s ≡ false → sits_between y x s ≡ false → x ≡ y
+only_one x y s p q h k =
+    elim (same_seat x y) as (λ b. same_seat x y ≡ b → x ≡ y) [
+      | true ↦ λ e. same_seat_is x y e
+      | false ↦ λ e. absurd (one_between (seat_cmp x y) (seat_cmp x s) (seat_cmp y s) e p q (first e) (second e))
+    ] refl
+  where
+    first : same_seat x y ≡ false → ((is_lt (seat_cmp x y) && is_lt (seat_cmp y s)) || (is_lt (seat_cmp y s) && is_lt (ordering_reverse (seat_cmp x s))) || (is_lt (ordering_reverse (seat_cmp x s)) && is_lt (seat_cmp x y))) ≡ false
+    first e = rw (← turned x s) h
+
+    second : same_seat x y ≡ false → ((is_lt (ordering_reverse (seat_cmp x y)) && is_lt (seat_cmp x s)) || (is_lt (seat_cmp x s) && is_lt (ordering_reverse (seat_cmp y s))) || (is_lt (ordering_reverse (seat_cmp y s)) && is_lt (ordering_reverse (seat_cmp x y)))) ≡ false
+    second e = rw (← turned y s, ← turned x y) k
+
+-- ---- the seat next before is the last below, or else the last of all
+
+none_of_three : (a b c : Bool) → c ≡ false → (b ≡ true → a ≡ false) → ((a && b) || (b && c) || (c && a)) ≡ false
+none_of_three a true false p h = ap (λ x. (x && true) || false || false) (h refl)
+none_of_three true false false p h = refl
+none_of_three false false false p h = refl
+none_of_three a b true p h = cc
+
+none_below : (a b c : Bool) → a ≡ false → b ≡ false → ((a && b) || (b && c) || (c && a)) ≡ false
+none_below false false true p q = refl
+none_below false false false p q = refl
+none_below true b c p q = cc
+none_below false true c p q = cc
+
+lt_not_back : (o : Ordering) → is_lt o ≡ true → is_lt (ordering_reverse o) ≡ false
+lt_not_back Less h = refl
+lt_not_back Equal h = cc
+lt_not_back Greater h = cc
+
+lt_not_same : (o : Ordering) → is_lt o ≡ true → is_eq o ≡ false
+lt_not_same Less h = refl
+lt_not_same Equal h = cc
+lt_not_same Greater h = refl
+
+pub next_before_below : (r : Seats) (s x : Seat) → IsLastBelow r s (Some x) → IsNextBefore r s (Some x)
+next_before_below r s x h =
+    (h.0, lt_not_same (seat_cmp x s) h.1, λ q at.
+      none_of_three (is_below x q) (is_below q s) (is_below s x) (ap is_lt (turned x s) ∙ lt_not_back (seat_cmp x s) h.1) (λ e. h.2 q at e))
+
+pub next_before_last : (r : Seats) (s x : Seat) → IsLastBelow r s None → IsLast r (Some x) → same_seat x s ≡ false → IsNextBefore r s (Some x)
+next_before_last r s x none last other =
+    (last.0, other, λ q at. none_below (is_below x q) (is_below q s) (is_below s x) (last.1 q at) (none q at))
+
+neither : (o : Ordering) → is_lt o ≡ false → is_lt (ordering_reverse o) ≡ false → is_eq o ≡ true
+neither Less p q = cc
+neither Equal p q = refl
+neither Greater p q = cc
+
+-- the last of all is s itself, and none is below it
+pub next_before_own : (r : Seats) (s x : Seat) → IsLastBelow r s None → IsLast r (Some x) → same_seat x s ≡ true → IsNextBefore r s None
+next_before_own r s x none last own q at =
+    neither (seat_cmp q s) (none q at) (ap is_lt (sym (turned q s)) ∙ subst (λ y. is_below y q ≡ false) (same_seat_is x s own) (last.1 q at))
+
+pub next_before_empty : (r : Seats) (s : Seat) → IsLast r None → IsNextBefore r s None
+next_before_empty r s none q at = let e : true ≡ false = sym at ∙ none q in cc
+
+-- ---- the seats of the members
+
+contains-seats : (k : ℕ) (ms : List Process) (x : Seat) → set.contains (seats_of k ms) x ≡ list_any (same_seat x) (map (seat k) ms)
+unfolding seats_of
+contains-seats k ms x = set.contains-from_list seats_total (map (seat k) ms) x
+
+seated : (k : ℕ) (ms : List Process) (x : Seat) → list_any (same_seat x) (map (seat k) ms) ≡ true → (x ≡ seat k x.1) × (is_in ms x.1 ≡ true)
+seated k [] x h = cc
+seated k (m ∷ ms) x h =
+    elim (same_seat x (seat k m)) as (λ b. same_seat x (seat k m) ≡ b → (b || list_any (same_seat x) (map (seat k) ms)) ≡ true → (x ≡ seat k x.1) × ((same_bytes x.1 m || is_in ms x.1) ≡ true)) [
+      | true ↦ λ e _.
+          let same = same_seat_is x (seat k m) e in
+          let process : x.1 ≡ m = ap (λ (y : Seat). y.1) same in
+          (same ∙ ap (seat k) (sym process), ap (λ b. b || is_in ms x.1) ((same_bytes_decides x.1 m).1 process))
+      | false ↦ λ e h. let rest = seated k ms x h in (rest.0, or_late (same_bytes x.1 m) (is_in ms x.1) rest.1)
+    ] refl h
+  where
+    or_late : (a b : Bool) → b ≡ true → (a || b) ≡ true
+    or_late true b h = refl
+    or_late false b h = h
+
+seats_have : (k : ℕ) (ms : List Process) (p : Process) → is_in ms p ≡ true → list_any (same_seat (seat k p)) (map (seat k) ms) ≡ true
+seats_have k [] p h = cc
+seats_have k (m ∷ ms) p h =
+    elim (same_bytes p m) as (λ b. same_bytes p m ≡ b → (b || is_in ms p) ≡ true → (same_seat (seat k p) (seat k m) || list_any (same_seat (seat k p)) (map (seat k) ms)) ≡ true) [
+      | true ↦ λ e _. ap (λ b. b || list_any (same_seat (seat k p)) (map (seat k) ms)) (subst (λ q. same_seat (seat k p) (seat k q) ≡ true) ((same_bytes_decides p m).0 e) (own_seat (seat k p)))
+      | false ↦ λ e h. or_late (same_seat (seat k p) (seat k m)) _ (seats_have k ms p h)
+    ] refl h
+  where
+    or_late : (a b : Bool) → b ≡ true → (a || b) ≡ true
+    or_late true b h = refl
+    or_late false b h = h
+
+-- ---- the observer
+
+all_pass : (p : Process → Bool) (ms : List Process) → ((m : Process) → is_in ms m ≡ true → p m ≡ true) → list_all p ms ≡ true
+all_pass p [] h = refl
+all_pass p (m ∷ ms) h =
+    ap (λ b. b && list_all p ms) (h m (ap (λ b. b || is_in ms m) (own m)))
+    ∙ all_pass p ms (λ q at. h q (or_late (same_bytes q m) (is_in ms q) at))
+  where
+    or_late : (a b : Bool) → b ≡ true → (a || b) ≡ true
+    or_late true b h = refl
+    or_late false b h = h
+
+each_passes : (p : Process → Bool) (ms : List Process) (m : Process) → list_all p ms ≡ true → is_in ms m ≡ true → p m ≡ true
+each_passes p [] m h at = cc
+each_passes p (q ∷ ms) m h at =
+    let parts = both (p q) (list_all p ms) h in
+    elim (same_bytes m q) as (λ b. same_bytes m q ≡ b → (b || is_in ms m) ≡ true → p m ≡ true) [
+      | true ↦ λ e _. subst (λ x. p x ≡ true) (sym ((same_bytes_decides m q).0 e)) parts.0
+      | false ↦ λ e at. each_passes p ms m parts.1 at
+    ] refl at
+
+found : (p : Process → Bool) (ms : List Process) (o : Process) → is_in ms o ≡ true → p o ≡ true → ((m : Process) → is_in ms m ≡ true → p m ≡ true → m ≡ o) → find p ms ≡ Some o
+found p [] o at passes only = cc
+found p (m ∷ ms) o at passes only =
+    elim (p m) as (λ b. p m ≡ b → cond b (Some m) (find p ms) ≡ Some o) [
+      | true ↦ λ e. ap Some (only m (ap (λ b. b || is_in ms m) (own m)) e)
+      | false ↦ λ e. found p ms o (later e) passes (λ q there passes. only q (or_late (same_bytes q m) (is_in ms q) there) passes)
+    ] refl
+  where
+    or_late : (a b : Bool) → b ≡ true → (a || b) ≡ true
+    or_late true b h = refl
+    or_late false b h = h
+
+    later : p m ≡ false → is_in ms o ≡ true
+    later e =
+        elim (same_bytes o m) as (λ b. same_bytes o m ≡ b → (b || is_in ms o) ≡ true → is_in ms o ≡ true) [
+          | true ↦ λ s _. let no : true ≡ false = sym (subst (λ x. p x ≡ true) ((same_bytes_decides o m).0 s) passes) ∙ e in cc
+          | false ↦ λ s at. at
+        ] refl at
+
+not_found : (p : Process → Bool) (ms : List Process) → ((m : Process) → is_in ms m ≡ true → p m ≡ false) → find p ms ≡ None
+not_found p [] h = refl
+not_found p (m ∷ ms) h =
+    ap (λ b. cond b (Some m) (find p ms)) (h m (ap (λ b. b || is_in ms m) (own m)))
+    ∙ not_found p ms (λ q at. h q (or_late (same_bytes q m) (is_in ms q) at))
+  where
+    or_late : (a b : Bool) → b ≡ true → (a || b) ≡ true
+    or_late true b h = refl
+    or_late false b h = h
+
+not_true : (b : Bool) → not b ≡ true → b ≡ false
+not_true true h = cc
+not_true false h = refl
+
+not_false : (b : Bool) → b ≡ false → not b ≡ true
+not_false true h = cc
+not_false false h = refl
+
+-- a process apart on the ring
+apart : (k : ℕ) (p s : Process) → same_bytes p s ≡ false → same_seat (seat k p) (seat k s) ≡ false
+apart k p s h =
+    elim (same_seat (seat k p) (seat k s)) as (λ b. same_seat (seat k p) (seat k s) ≡ b → b ≡ false) [
+      | true ↦ λ e. let no : true ≡ false = sym ((same_bytes_decides p s).1 (ap (λ (y : Seat). y.1) (same_seat_is (seat k p) (seat k s) e))) ∙ h in cc
+      | false ↦ λ e. refl
+    ] refl
+
+-- the member with none between is the one in the seat next before
+pub observer_in_seat : (k : ℕ) (ms : List Process) (s : Process) (r : Option Seat) → IsNextBefore (seats_of k ms) (seat k s) r → option_map (λ x. x.1) r ≡ ring_observer ms k s
+observer_in_seat k ms s None h =
+    sym (not_found (is_next_before ms k s) ms (λ m at.
+      let same = same_seat_is (seat k m) (seat k s) (h (seat k m) (contains-seats k ms (seat k m) ∙ seats_have k ms m at)) in
+      ap (λ b. not b && list_all (λ q. not (is_between k m q s)) ms) ((same_bytes_decides m s).1 (ap (λ (y : Seat). y.1) same))))
+observer_in_seat k ms s (Some x) h =
+    let is = seated k ms x (sym (contains-seats k ms x) ∙ h.0) in
+    sym (found (is_next_before ms k s) ms x.1 is.1 (passes is.0) (λ m at next. only is.0 is.1 m at next))
+  where
+    other : x ≡ seat k x.1 → same_bytes x.1 s ≡ false
+    other e =
+        elim (same_bytes x.1 s) as (λ b. same_bytes x.1 s ≡ b → b ≡ false) [
+          | true ↦ λ t. let no : true ≡ false = sym (own_seat (seat k s)) ∙ subst (λ y. same_seat y (seat k s) ≡ false) (e ∙ ap (seat k) ((same_bytes_decides x.1 s).0 t)) h.1 in cc
+          | false ↦ λ t. refl
+        ] refl
+
+    none_between : x ≡ seat k x.1 → (m : Process) → is_in ms m ≡ true → sits_between (seat k x.1) (seat k m) (seat k s) ≡ false
+    none_between e m at = subst (λ y. sits_between y (seat k m) (seat k s) ≡ false) e (h.2 (seat k m) (contains-seats k ms (seat k m) ∙ seats_have k ms m at))
+
+    passes : x ≡ seat k x.1 → is_next_before ms k s x.1 ≡ true
+    passes e =
+        ap (λ b. not b && list_all (λ m. not (is_between k x.1 m s)) ms) (other e)
+        ∙ all_pass (λ m. not (is_between k x.1 m s)) ms (λ m at. not_false (is_between k x.1 m s) (none_between e m at))
+
+    only : x ≡ seat k x.1 → is_in ms x.1 ≡ true → (m : Process) → is_in ms m ≡ true → is_next_before ms k s m ≡ true → m ≡ x.1
+    only e there m at next =
+        let parts = both (not (same_bytes m s)) (list_all (λ q. not (is_between k m q s)) ms) next in
+        let free = each_passes (λ q. not (is_between k m q s)) ms x.1 parts.1 there in
+        ap (λ (y : Seat). y.1) (only_one (seat k m) (seat k x.1) (seat k s) (apart k m s (not_true (same_bytes m s) parts.0)) (apart k x.1 s (other e)) (not_true (is_between k m x.1 s) free) (none_between e m at))
+
+-- ---- the seats of the program
+
+any_of_tied : (ks ns : List Seat) (p : Seat) (q : Seat) → list_any (same_seat q) ns ≡ cond (same_seat p q) true (list_any (same_seat q) ks) → list_any (same_seat q) ns ≡ (same_seat q p || list_any (same_seat q) ks)
+any_of_tied ks ns p q h = h ∙ if_true (same_seat p q) (list_any (same_seat q) ks) ∙ ap (λ b. b || list_any (same_seat q) ks) ((eq_by_cmp_equiv seats_total).symm p q)
+  where
+    if_true : (b c : Bool) → cond b true c ≡ (b || c)
+    if_true true c = refl
+    if_true false c = refl
+
+-- the keys after an insert are those of the set with the seat
+pub seat_insert_seen : (ks ns : List Seat) (p : Seat) → ((q : Seat) → list_any (same_seat q) ns ≡ cond (same_seat p q) true (list_any (same_seat q) ks)) → ◌≡◌ {A = Seats} (set.from_list ns) (set.insert (set.from_list ks) p)
+seat_insert_seen ks ns p h =
+    set.same_set seats_total seats_exact _ _ (λ q.
+      set.contains-from_list seats_total ns q ∙ any_of_tied ks ns p q (h q)
+      ∙ ap (λ b. same_seat q p || b) (sym (set.contains-from_list seats_total ks q))
+      ∙ sym (set.contains-insert seats_total (set.from_list ks) p q))
+
+-- no seats yet
+pub no_seats : (k : ℕ) (ks : List Seat) → ks ≡ [] → ◌≡◌ {A = Seats} (set.from_list ks) (seats_of k [])
+unfolding seats_of
+no_seats k ks e = ap (set.from_list {R = seat_cmp}) e
+
+-- the seats with that of one more member
+pub seats_push : (k : ℕ) (ms : List Process) (i : ℕ) (m : Process) → i < length ms → m ≡ get_or ms i m → seats_of k (take (i + 1) ms) ≡ set.insert (seats_of k (take i ms)) (seat k m)
+unfolding seats_of
+seats_push k ms i m lt is =
+    ap (λ ps. set.from_list {R = seat_cmp} (map (seat k) ps)) (take_more ms i m lt ∙ ap (λ p. take i ms ++ p ∷ []) (sym is))
+    ∙ ap (set.from_list {R = seat_cmp}) (map-append (seat k) (take i ms) (m ∷ []))
+    ∙ set.from_list_push seats_total seats_exact (map (seat k) (take i ms)) (seat k m)
+
+pub seats_all : (k : ℕ) (ms : List Process) (i : ℕ) → length ms ≤ i → seats_of k (take i ms) ≡ seats_of k ms
+seats_all k ms i le = ap (seats_of k) (take_all i ms le)
+
+pub seen_last : (ks : List Seat) (x : Seat) → list_any (same_seat x) ks ≡ true → ((q : Seat) → list_any (same_seat q) ks ≡ true → is_below x q ≡ false) → IsLast (set.from_list ks) (Some x)
+seen_last ks x at last =
+    (set.contains-from_list seats_total ks x ∙ at, λ q there. last q (sym (set.contains-from_list seats_total ks q) ∙ there))
+
+pub seen_none : (ks : List Seat) → ks ≡ [] → IsLast (set.from_list ks) None
+seen_none ks e q = ap (λ xs. set.contains (set.from_list {R = seat_cmp} xs) q) e ∙ set.contains-empty seat_cmp q
+
+less_of : (o : Ordering) → is_lt o ≡ true → o ≡ Less
+less_of Less h = refl
+less_of Equal h = cc
+less_of Greater h = cc
+
+pub no_keys : (ks : List Seat) → (0 < length ks → false ≡ true) → ks ≡ []
+no_keys [] h = refl
+no_keys (k ∷ ks) h = let no : false ≡ true = h (omega arith) in cc
+
+pub seen_last_below : (ks : List Seat) (x s : Seat) → list_any (same_seat x) ks ≡ true → seat_cmp x s ≡ Less → ((q : Seat) → seat_cmp q s ≡ Less → list_any (same_seat q) ks ≡ true → is_below x q ≡ false) → IsLastBelow (set.from_list ks) s (Some x)
+seen_last_below ks x s at below last =
+    (set.contains-from_list seats_total ks x ∙ at, ap is_lt below, λ q there lt. last q (less_of (seat_cmp q s) lt) (sym (set.contains-from_list seats_total ks q) ∙ there))
+
+pub seen_none_below : (ks : List Seat) (s : Seat) → ((q : Seat) → seat_cmp q s ≡ Less → list_any (same_seat q) ks ≡ false) → IsLastBelow (set.from_list ks) s None
+seen_none_below ks s none q there =
+    elim (is_below q s) as (λ b. is_below q s ≡ b → b ≡ false) [
+      | true ↦ λ e. let no : true ≡ false = sym there ∙ set.contains-from_list seats_total ks q ∙ none q (less_of (seat_cmp q s) e) in cc
+      | false ↦ λ e. refl
+    ] refl
+
+pub observer_on_ring : (r : Seats) (k : ℕ) (ms : List Process) (s : Process) (key : List ℕ) (x : Option Seat) → r ≡ seats_of k ms → key ≡ ring_key k s → IsNextBefore r (key, s) x → option_map (λ y. y.1) x ≡ ring_observer ms k s
+observer_on_ring r k ms s key x is keyed h =
+    observer_in_seat k ms s x (subst (λ (q : Seats). IsNextBefore q (seat k s) x) is (subst (λ (b : List ℕ). IsNextBefore r (b, s) x) keyed h))
+
