@@ -61,7 +61,7 @@ pub differ_not : (ps : List Process) (i : ℕ) (d : Process) → i < length ps �
 differ_not ps i d l h =
     ap endpoints_differ (sym (take-append-drop (i + 1) ps))
     ∙ differ_first (take (i + 1) ps) (drop (i + 1) ps)
-      (ap endpoints_differ (take_more ps i d l) ∙ differ_push (take i ps) (get_or ps i d) ∙ and_right (endpoints_differ (take i ps)) _ (ap not h))
+    (ap endpoints_differ (take_more ps i d l) ∙ differ_push (take i ps) (get_or ps i d) ∙ and_right (endpoints_differ (take i ps)) _ (ap not h))
 
 any_push : (t : Process → Bool) (ps : List Process) (q : Process) → list_any t (ps ++ q ∷ []) ≡ (t q || list_any t ps)
 any_push t [] q = refl

@@ -87,10 +87,10 @@ differ_insert j (q ∷ qs) n h =
     elim (is_lt (process_cmp j q)) as (λ b. endpoints_differ (cond b (j ∷ q ∷ qs) (q ∷ insert_process j qs)) ≡ true) [
       | true ↦ and_from (list_all (λ p. not (same_endpoint j p)) (q ∷ qs)) (endpoints_differ (q ∷ qs)) (none_all (λ p. same_bytes (endpoint j) (endpoint p)) (q ∷ qs) n) h
       | false ↦
-        and_from (list_all (λ p. not (same_endpoint q p)) (insert_process j qs)) (endpoints_differ (insert_process j qs))
-        (all_insert (λ p. not (same_endpoint q p)) j qs
+          and_from (list_all (λ p. not (same_endpoint q p)) (insert_process j qs)) (endpoints_differ (insert_process j qs))
+          (all_insert (λ p. not (same_endpoint q p)) j qs
           ∙ and_from (not (same_endpoint q j)) (list_all (λ p. not (same_endpoint q p)) qs) (ap not (same_flips (endpoint q) (endpoint j) ∙ r.0)) s.0)
-        (differ_insert j qs r.1 s.1)
+          (differ_insert j qs r.1 s.1)
     ]
 
 -- of two identifiers that differ one is below the other, as the processes are
@@ -117,13 +117,13 @@ ascend_insert j (q ∷ qs) n h =
           let here : is_lt (bytes_cmp (identifier j) (identifier q)) ≡ true = sym same ∙ e in
           and_from (list_all (λ p. is_lt (bytes_cmp (identifier j) (identifier p))) (q ∷ qs)) (identifiers_ascend (q ∷ qs))
           (and_from (is_lt (bytes_cmp (identifier j) (identifier q))) (list_all (λ p. is_lt (bytes_cmp (identifier j) (identifier p))) qs) here
-            (all_later (λ x y. is_lt (bytes_cmp (identifier x) (identifier y))) (λ x y z. is_lt_trans bytes_total (identifier x) (identifier y) (identifier z)) j q qs here s.0))
+          (all_later (λ x y. is_lt (bytes_cmp (identifier x) (identifier y))) (λ x y z. is_lt_trans bytes_total (identifier x) (identifier y) (identifier z)) j q qs here s.0))
           h
       | false ↦ λ e.
           let back : is_lt (bytes_cmp (identifier q) (identifier j)) ≡ true = ap is_lt (flipped (identifier j) (identifier q) Greater (above_is (bytes_cmp (identifier j) (identifier q)) (sym same ∙ e) r.0)) in
           and_from (list_all (λ p. is_lt (bytes_cmp (identifier q) (identifier p))) (insert_process j qs)) (identifiers_ascend (insert_process j qs))
           (all_insert (λ p. is_lt (bytes_cmp (identifier q) (identifier p))) j qs
-            ∙ and_from (is_lt (bytes_cmp (identifier q) (identifier j))) (list_all (λ p. is_lt (bytes_cmp (identifier q) (identifier p))) qs) back s.0)
+          ∙ and_from (is_lt (bytes_cmp (identifier q) (identifier j))) (list_all (λ p. is_lt (bytes_cmp (identifier q) (identifier p))) qs) back s.0)
           (ascend_insert j qs r.1 s.1)
     ] refl
 
@@ -180,7 +180,7 @@ pub joined : (ps : List Process) (j : Process) → length ps < 1024 → list_any
 joined ps j l n e =
     sym
     (ap (λ b. cond (not b && nat_lt (length ps) 1024) (insert_process j ps) ps) (collides_is ps j ∙ ap (λ b. b || list_any (λ p. same_bytes (endpoint j) (endpoint p)) ps) n ∙ e)
-      ∙ ap (λ b. cond b (insert_process j ps) ps) (lt-ltb (length ps) 1024 l))
+    ∙ ap (λ b. cond b (insert_process j ps) ps) (lt-ltb (length ps) 1024 l))
 
 -- joiners go in one after another
 pub one_joiner : (ps : List Process) (j : Process) (js : List Process) → with_joiners ps (j ∷ js) ≡ with_joiners (admitted ps j) js
@@ -199,10 +199,10 @@ pub none_held : (ps : List Process) (j : Process) (i : ℕ) → identifiers_asce
 none_held ps j i up h =
     let parted = h (rising ps j up) in
     any_none (same_identifier j) ps (λ k d m.
-      elim (cases_lt k i) [
-        | inl below ↦ ap is_eq (flipped (identifier (get_or ps k d)) (identifier j) Less (parted.0 k d (omega arith) below))
-        | inr above ↦ ap is_eq (flipped (identifier (get_or ps k d)) (identifier j) Greater (parted.1 k d above m))
-      ])
+    elim (cases_lt k i) [
+      | inl below ↦ ap is_eq (flipped (identifier (get_or ps k d)) (identifier j) Less (parted.0 k d (omega arith) below))
+      | inr above ↦ ap is_eq (flipped (identifier (get_or ps k d)) (identifier j) Greater (parted.1 k d above m))
+    ])
 
 -- and its end is the place
 pub place_of_joiner : (ps : List Process) (j : Process) (i : ℕ) → identifiers_ascend ps ≡ true → i ≤ length ps → IsBinarySearchResult (by_identifier j) ps (Err i) → insert ps i j ≡ insert_process j ps

@@ -5,3 +5,4 @@ pub mod Spelled
 pub mod Differing
 pub mod Insertions
 pub mod Kept
+pub mod Announced

@@ -71,7 +71,7 @@ pub rising : (ps : List Process) (p : Process) → identifiers_ascend ps ≡ tru
 rising ps p up =
     searchable_from_sorted bytes_total identifier ps (identifier p)
     (λ k d z l. ap is_lt (bytes_total.antisymm (identifier (get_or ps (k + 1) d)) (identifier (get_or ps k d))
-      ∙ ap ordering_reverse (later_less (λ x y. bytes_cmp (identifier x) (identifier y)) identifiers_ascend (λ _ _. refl) ps up k (k + 1) d (omega arith) l)))
+    ∙ ap ordering_reverse (later_less (λ x y. bytes_cmp (identifier x) (identifier y)) identifiers_ascend (λ _ _. refl) ps up k (k + 1) d (omega arith) l)))
 
 -- a search by identifier that finds the process
 pub found_at : (ps : List Process) (p : Process) (i : ℕ) → identifiers_ascend ps ≡ true → i < length ps → IsBinarySearchResult (by_identifier p) ps (Ok i) → same_bytes p (get_or ps i p) ≡ true → position (same_bytes p) ps ≡ Some i
@@ -81,20 +81,20 @@ found_at ps p i up l h t = position_at (same_bytes p) ps i p l (λ k m. apart ps
 pub found_other : (ps : List Process) (p : Process) (i : ℕ) → identifiers_ascend ps ≡ true → i < length ps → IsBinarySearchResult (by_identifier p) ps (Ok i) → same_bytes p (get_or ps i p) ≡ false → position (same_bytes p) ps ≡ None
 found_other ps p i up l h t =
     position_none (same_bytes p) ps (λ k d m.
-      elim (cases_eq k i) [
-        | inl e ↦ subst (λ x. same_bytes p x ≡ false) (get_or_default ps i p d l ∙ ap (λ j. get_or ps j d) (sym e)) t
-        | inr ne ↦ apart ps p up i k d l m (h d) ne
-      ])
+    elim (cases_eq k i) [
+      | inl e ↦ subst (λ x. same_bytes p x ≡ false) (get_or_default ps i p d l ∙ ap (λ j. get_or ps j d) (sym e)) t
+      | inr ne ↦ apart ps p up i k d l m (h d) ne
+    ])
 
 -- a search by identifier that finds none
 pub found_none : (ps : List Process) (p : Process) (i : ℕ) → identifiers_ascend ps ≡ true → IsBinarySearchResult (by_identifier p) ps (Err i) → position (same_bytes p) ps ≡ None
 found_none ps p i up h =
     let parted = h (rising ps p up) in
     position_none (same_bytes p) ps (λ k d m.
-      elim (cases_lt k i) [
-        | inl below ↦ others p (get_or ps k d) Less (parted.0 k d (omega arith) below) refl
-        | inr above ↦ others p (get_or ps k d) Greater (parted.1 k d above m) refl
-      ])
+    elim (cases_lt k i) [
+      | inl below ↦ others p (get_or ps k d) Less (parted.0 k d (omega arith) below) refl
+      | inr above ↦ others p (get_or ps k d) Greater (parted.1 k d above m) refl
+    ])
 
 -- among these is exactly what has a place
 pub in_by_place : (t : Process → Bool) (ps : List Process) → is_some (position t ps) ≡ list_any t ps
@@ -137,9 +137,9 @@ search_finds ps p i l h = any_at (same_bytes p) ps i p l (ap is_eq (flipped (get
 pub search_misses : (ps : List Process) (p : Process) (i : ℕ) → is_ascending ps ≡ true → IsBinarySearchResult (λ q. process_cmp q p) ps (Err i) → is_in ps p ≡ false
 search_misses ps p i up h =
     let parted = h (searchable_from_sorted bytes_total (λ q. q) ps p
-      (λ k d z l. ap is_lt (flipped (get_or ps k d) (get_or ps (k + 1) d) Less (later_less process_cmp is_ascending (λ _ _. refl) ps up k (k + 1) d (omega arith) l)))) in
+    (λ k d z l. ap is_lt (flipped (get_or ps k d) (get_or ps (k + 1) d) Less (later_less process_cmp is_ascending (λ _ _. refl) ps up k (k + 1) d (omega arith) l)))) in
     any_none (same_bytes p) ps (λ k d m.
-      elim (cases_lt k i) [
-        | inl below ↦ ap is_eq (flipped (get_or ps k d) p Less (parted.0 k d (omega arith) below))
-        | inr above ↦ ap is_eq (flipped (get_or ps k d) p Greater (parted.1 k d above m))
-      ])
+    elim (cases_lt k i) [
+      | inl below ↦ ap is_eq (flipped (get_or ps k d) p Less (parted.0 k d (omega arith) below))
+      | inr above ↦ ap is_eq (flipped (get_or ps k d) p Greater (parted.1 k d above m))
+    ])

@@ -18,7 +18,7 @@ code_of HeightFull = 9
 code_of OutOfMemory = 99
 
 -- The error reports exactly this fault. Want of memory is reported only where there is none, or where
--- just the endpoints, which are looked at last, are at fault.
+-- just the order or the endpoints, which are looked at last, are at fault.
 abbrev pub Reports : Option fault.ConfigurationFault → ConfigError → Type 0
 Reports f BadParams = f ≡ Some fault.BadParams
 Reports f Truncated = f ≡ Some fault.Truncated
@@ -29,4 +29,4 @@ Reports f EndpointTwice = f ≡ Some fault.EndpointTwice
 Reports f TooMany = f ≡ Some fault.TooMany
 Reports f EmptyCut = f ≡ Some fault.EmptyCut
 Reports f HeightFull = ⊥
-Reports f OutOfMemory = (f ≡ None) ⊎ (f ≡ Some fault.EndpointTwice)
+Reports f OutOfMemory = (f ≡ None) ⊎ ((f ≡ Some fault.NotSorted) ⊎ (f ≡ Some fault.EndpointTwice))

@@ -5,11 +5,12 @@ ghost use Rattle.rapid_model.specs.Apply.{apply};
 ghost use Rattle.std.specs.Arc.{arc_slice_items};
 ghost use Rattle.rapid_model.specs.Configuration as model;
 ghost use Rattle.rapid_model.specs.Configuration.{AreMembers, IsConfiguration, founding, configuration_bytes, configuration_id, position_of};
-ghost use Rattle.rapid_model.specs.Reading.{members_fault};
+ghost use Rattle.rapid_model.specs.Reading.{members_fault, bytes_fault, configuration_in};
 ghost use Rattle.rapid_config.specs.Faults.{Reports};
 
 use crate::joining::members_after;
 use crate::members::{check_members, place_of};
+use crate::reading::{check_head, chunk_at, members_in};
 use crate::spelling::spell;
 use crate::{ConfigError, ConfigId, Cut, Params, Stamp};
 use rapid_endpoint::Process;
@@ -76,7 +77,11 @@ impl Configuration {
     /// The founding configuration of these members, of whom there is at least one. The first that
     /// holds: `TooMany` where there are more than 1,024, `NotSorted` where their identifiers do not
     /// strictly ascend, `EndpointTwice` where two have one endpoint.
-    pub fn seed(alloc: Global, params: Params, founders: &[Process]) -> Result<Configuration, ConfigError>
+    pub fn seed(
+        alloc: Global,
+        params: Params,
+        founders: &[Process],
+    ) -> Result<Configuration, ConfigError>
         requires { 1 ≤ length founders.now }
         ensures value { IfOk result (λ c. c ≡ founding params founders.now) }
         ensures valid { IfOk result IsConfiguration }
@@ -86,6 +91,26 @@ impl Configuration {
         check_members(alloc, founders)?;
         let members = ArcSlice::from_slice(alloc, founders)?;
         let configuration = assemble(alloc, params, 0, ConfigId::zero(), members)?;
+        configuration.tell();
+        Ok(configuration)
+    }
+
+    /// The configuration in these bytes. The first that holds: `Truncated` below 4 bytes, `BadMagic`
+    /// where they do not begin with `RPC1`, `Truncated` below 49 bytes, `BadParams`, `TooMany` where
+    /// they announce more than 1,024 members, `Truncated` or `Trailing` where there are fewer or more
+    /// bytes than these members have, `NotSorted` where their identifiers do not strictly ascend,
+    /// `EndpointTwice` where two have one endpoint.
+    pub fn from_bytes(alloc: Global, bytes: &[u8]) -> Result<Configuration, ConfigError>
+        ensures value { IfOk result (λ c. c ≡ configuration_in bytes.now) }
+        ensures valid { IfOk result IsConfiguration }
+        ensures allowed { OnOk result (bytes_fault bytes.now ≡ None) }
+        ensures refused { IfErr result (Reports (bytes_fault bytes.now)) }
+    {
+        let (params, count) = check_head(bytes)?;
+        let members = members_in(alloc, count, bytes)?;
+        let previous = ConfigId::new(chunk_at(bytes, 4));
+        let height = u64::from_be_bytes(chunk_at(bytes, 36));
+        let configuration = assemble(alloc, params, height, previous, members)?;
         configuration.tell();
         Ok(configuration)
     }
@@ -159,7 +184,13 @@ impl Configuration {
     pub fn to_bytes(&self, alloc: Global) -> Result<Vec<u8>, AllocError>
         ensures { IfOk result (λ bytes. bytes.items ≡ configuration_bytes self.now) }
     {
-        spell(alloc, self.params, self.height, self.previous, self.members.as_slice())
+        spell(
+            alloc,
+            self.params,
+            self.height,
+            self.previous,
+            self.members.as_slice(),
+        )
     }
 
     /// The configuration after a cut: the members in it are removed, then its other processes join in

@@ -1,6 +1,6 @@
 // Cuts: the processes that a view change removes or adds.
 
-ghost use Rattle.std.specs.Prelude.{◌≡◌, None, All, length, IfOk, IfErr, OnOk, MatchBool};
+ghost use Rattle.std.specs.Prelude.{◌≡◌, None, Err, All, length, IfOk, IfErr, OnOk, MatchBool};
 ghost use Rattle.std.specs.Ordering.{as_partial_cmp};
 ghost use Rattle.std.specs.Cmp.{partial_equiv_from_equiv, partial_order_from_total};
 ghost use Rattle.std.proofs.lemmas.Cmp.{eq_by_cmp_equiv};
@@ -56,6 +56,7 @@ impl Cut {
         ensures valid { IfOk result IsCut }
         ensures allowed { OnOk result (cut_fault processes.items ≡ None) }
         ensures refused { IfErr result (Reports (cut_fault processes.items)) }
+        ensures memory { result ≡ Err ConfigError.OutOfMemory → cut_fault processes.items ≡ None }
     {
         if processes.is_empty() {
             return Err(ConfigError::EmptyCut);

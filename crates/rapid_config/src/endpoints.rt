@@ -15,7 +15,7 @@ pub(crate) fn endpoints_of(
 ) -> Result<Option<BTreeSet<Endpoint>>, AllocError>
     ensures { IfOk result
         (λ o. MatchOption o (endpoints_differ processes.now ≡ false)
-            (λ set. (endpoints_differ processes.now ≡ true) × AreEndpointsOf processes.now set)) }
+        (λ set. (endpoints_differ processes.now ≡ true) × AreEndpointsOf processes.now set)) }
 {
     let mut seen = BTreeSet::new(alloc);
     for process in processes {

@@ -9,6 +9,7 @@ mod error;
 mod joining;
 mod members;
 mod params;
+mod reading;
 mod spelling;
 mod stamp;
 #[cfg(test)]

@@ -9,7 +9,7 @@ unfolding configuration_id
 invariant_of-result c = (
   record { params = c.tell.ensures; height = omega arith; previous = (c.tell-2.ensures.length, c.tell-2.ensures.bytes); members = c.requires },
   c.new-id.ensures ∙ c.digest.ensures ∙ ap sha256 (c.as_slice-2.ensures.value ∙ c.in_ok-bytes.ensures)
-  ∙ ap
-    (λ (ps : List Process). sha256 (configuration_bytes (record { params = c.args.params; height = c.args.height; previous = c.args.previous; members = ps })))
-    c.as_slice.ensures.value
+      ∙ ap
+      (λ (ps : List Process). sha256 (configuration_bytes (record { params = c.args.params; height = c.args.height; previous = c.args.previous; members = ps })))
+      c.as_slice.ensures.value,
 )

@@ -42,7 +42,7 @@ returns-clause-members c =
     let few : length ps < 1024 = omega arith in
     subst AreMembers (sym (inserted ps c.insert-2.new.self.items c.as_slice.result.now j c.in-Some.place c.as_slice.ensures.value c.in_ok-insert-2.ensures.items c.in-Some.ensures.2))
     (members_insert j ps c.requires.members c.tell.ensures few (subst (λ (qs : List Process). list_any (same_identifier j) qs ≡ false) c.as_slice.ensures.value c.in-Some.ensures.1)
-      (subst (λ (e : List ℕ). list_any (λ p. same_bytes e (endpoint p)) ps ≡ false) c.endpoint.ensures (sym (c.requires.endpoints c.endpoint.result) ∙ absent)))
+    (subst (λ (e : List ℕ). list_any (λ p. same_bytes e (endpoint p)) ps ≡ false) c.endpoint.ensures (sym (c.requires.endpoints c.endpoint.result) ∙ absent)))
 
 pub returns-clause-endpoints : goal.returns-clause-endpoints
 returns-clause-endpoints c =

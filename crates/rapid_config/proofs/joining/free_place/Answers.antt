@@ -18,5 +18,5 @@ returns-in-Err c =
     let k = subst (λ (x : List ℕ). IsBinarySearchResult (λ y. bytes_cmp (identifier y) x) c.args.members.now (Err c.in-Err.place)) c.id.ensures h in (
       c.in-Err.ensures.bound,
       none_held c.args.members.now c.args.joiner.now c.in-Err.place c.requires k,
-      place_of_joiner c.args.members.now c.args.joiner.now c.in-Err.place c.requires c.in-Err.ensures.bound k
+      place_of_joiner c.args.members.now c.args.joiner.now c.in-Err.place c.requires c.in-Err.ensures.bound k,
     )

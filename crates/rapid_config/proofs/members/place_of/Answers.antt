@@ -14,7 +14,7 @@ returns-then-eq c =
     let at = c.index-members-place.is ∙ get_or_default c.args.members.now c.in-Ok.place c.index-members-place.result c.args.process.now c.in-Ok.ensures.bound in
     sym
     (found_at c.args.members.now c.args.process.now c.in-Ok.place c.requires c.in-Ok.ensures.bound k
-      (subst (λ (q : List ℕ). same_bytes c.args.process.now q ≡ true) at (sym c.if-eq.ensures)))
+    (subst (λ (q : List ℕ). same_bytes c.args.process.now q ≡ true) at (sym c.if-eq.ensures)))
 
 pub returns-else-eq : goal.returns-else-eq
 returns-else-eq c =
@@ -23,7 +23,7 @@ returns-else-eq c =
     let at = c.index-members-place.is ∙ get_or_default c.args.members.now c.in-Ok.place c.index-members-place.result c.args.process.now c.in-Ok.ensures.bound in
     sym
     (found_other c.args.members.now c.args.process.now c.in-Ok.place c.requires c.in-Ok.ensures.bound k
-      (subst (λ (q : List ℕ). same_bytes c.args.process.now q ≡ false) at (sym c.if-eq.ensures)))
+    (subst (λ (q : List ℕ). same_bytes c.args.process.now q ≡ false) at (sym c.if-eq.ensures)))
 
 pub returns-in-Err : goal.returns-in-Err
 returns-in-Err c =
