@@ -1,6 +1,6 @@
 -- The bytes of a configuration are read back, and no others are taken for it.
-use Rattle.std.proofs.Common.{◌≡◌, ℕ, zero, suc, ◌+◌, ◌*◌, ◌-◌, ◌^◌, ◌<◌, ◌≤◌, Bool, true, false, not, ◌&&◌, cond, List, [], ◌∷◌, ◌++◌, length, take, drop, get_or, refl, sym, ap, subst, ◌∙◌, Option, Some, None, inl, inr, append_assoc, length-append, arith}
-use Rattle.std.specs.Prelude.{All, IsTrue, nat_lt, nat_le}
+use Rattle.std.proofs.Common.{◌≡◌, ℕ, zero, suc, ◌+◌, ◌*◌, ◌<◌, ◌≤◌, Bool, true, false, not, ◌&&◌, cond, List, [], ◌∷◌, ◌++◌, length, take, drop, get_or, refl, sym, ap, subst, ◌∙◌, Option, Some, None, inl, inr, append_assoc, length-append, arith}
+use Rattle.std.specs.Prelude.{All, nat_lt, nat_le}
 use Rattle.std.specs.List.{concat}
 use Rattle.std.specs.Int.{w16, w64, to_be_bytes, from_be_bytes}
 use Rattle.std.proofs.lemmas.Bool.{le-ltb, le-leb, and_from, ltb-false, not-false, cases_lt}
