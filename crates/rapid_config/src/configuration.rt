@@ -1,6 +1,6 @@
 // Configurations: views of who the members are.
 
-ghost use Rattle.std.specs.Prelude.{◌≡◌, ◌+◌, ◌^◌, ◌≤◌, ◌↔◌, ◌⊎◌, None, Err, length, IfOk, IfErr, OnOk, IfSome};
+ghost use Rattle.std.specs.Prelude.{◌≡◌, ◌+◌, ◌^◌, ◌<◌, ◌≤◌, ◌↔◌, ◌⊎◌, None, Err, length, IfOk, IfErr, OnOk, IfSome};
 ghost use Rattle.rapid_model.specs.Apply.{apply};
 ghost use Rattle.std.specs.Arc.{arc_slice_items};
 ghost use Rattle.rapid_model.specs.Configuration as model;
@@ -9,7 +9,7 @@ ghost use Rattle.rapid_model.specs.Reading.{members_fault, bytes_fault, configur
 ghost use Rattle.rapid_config.specs.Faults.{Reports};
 
 use crate::joining::members_after;
-use crate::members::{check_members, place_of};
+use crate::members::{MOST_MEMBERS, check_members, place_of};
 use crate::reading::{check_head, chunk_at, members_in};
 use crate::spelling::spell;
 use crate::{ConfigError, ConfigId, Cut, Params, Stamp};
@@ -72,7 +72,7 @@ pub(crate) fn assemble(
 
 impl Configuration {
     /// The most members of a configuration.
-    pub const MOST: usize = 1024;
+    pub const MOST: usize = MOST_MEMBERS;
 
     /// The founding configuration of these members, of whom there is at least one. The first that
     /// holds: `TooMany` where there are more than 1,024, `NotSorted` where their identifiers do not
@@ -162,6 +162,7 @@ impl Configuration {
     /// The place of a member, from 0, by identifier; none for another process.
     pub fn position(&self, process: &Process) -> Option<usize>
         ensures place { result ≡ position_of self.now process.now }
+        ensures within { IfSome result (λ place. place < length self.now.members) }
     {
         place_of(self.members.as_slice(), process)
     }
@@ -184,13 +185,8 @@ impl Configuration {
     pub fn to_bytes(&self, alloc: Global) -> Result<Vec<u8>, AllocError>
         ensures { IfOk result (λ bytes. bytes.items ≡ configuration_bytes self.now) }
     {
-        spell(
-            alloc,
-            self.params,
-            self.height,
-            self.previous,
-            self.members.as_slice(),
-        )
+        let (params, height, previous) = (self.params, self.height, self.previous);
+        spell(alloc, params, height, previous, self.members.as_slice())
     }
 
     /// The configuration after a cut: the members in it are removed, then its other processes join in

@@ -1,6 +1,6 @@
 // Lists of members: whether they may be one, and where a process stands in one.
 
-ghost use Rattle.std.specs.Prelude.{◌≡◌, ◌≤◌, true, None, position, length, IsTrue, IfOk, IfErr, OnOk};
+ghost use Rattle.std.specs.Prelude.{◌≡◌, ◌<◌, ◌≤◌, true, None, position, length, IsTrue, IfOk, IfErr, IfSome, OnOk};
 ghost use Rattle.rapid_model.specs.Process.{same_bytes};
 ghost use Rattle.rapid_model.specs.Configuration.{AreMembers, identifiers_ascend};
 ghost use Rattle.rapid_model.specs.Reading.{members_fault};
@@ -46,7 +46,8 @@ pub(crate) fn check_members(alloc: Global, processes: &[Process]) -> Result<(), 
 /// The place of a process among members, from 0.
 pub(crate) fn place_of(members: &[Process], process: &Process) -> Option<usize>
     requires { IsTrue (identifiers_ascend members.now) }
-    ensures { result ≡ position (same_bytes process.now) members.now }
+    ensures place { result ≡ position (same_bytes process.now) members.now }
+    ensures within { IfSome result (λ place. place < length members.now) }
 {
     match members.binary_search_by_key(&process.id(), |member| member.id()) {
         Ok(place) => {
