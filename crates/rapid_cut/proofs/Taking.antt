@@ -1,0 +1,160 @@
+-- Taking the alerts of a batch one after another.
+use Rattle.std.proofs.Common.{◌≡◌, ℕ, zero, suc, ◌+◌, ◌≤◌, ◌<◌, Bool, true, false, cond, not, ◌&&◌, ◌||◌, List, [], ◌∷◌, length, map, drop, get_or, add-one, refl, sym, ap, subst, ◌∙◌, ◌⊎◌, inl, inr, arith, Option, Some, None, IsSome, nat_lt}
+use Rattle.std.specs.Option.{option_eq}
+use Rattle.std.specs.List.{list_any}
+use Rattle.std.specs.Ordering.{eq_by_cmp}
+use Rattle.std.specs.BTreeSet.{insert_key}
+use Rattle.std.specs.FinSet as set
+use Rattle.rapid_model.specs.Process.{Process, process_cmp, is_in, same_bytes}
+use Rattle.rapid_model.specs.Ring.{Observers, IsObserved, observes}
+use Rattle.rapid_model.specs.Alert.{Alert, is_well_formed, kind_fits}
+use Rattle.rapid_model.specs.Reports.{Report, report_cmp, Reports, report_of, subjects}
+use Rattle.rapid_model.specs.Detector.{joiners, is_taken, taken, with_alerts}
+use Rattle.rapid_model.proofs.Orders.{reports_total, reports_exact, same_bytes_decides}
+use Rattle.rapid_cut.specs.Limits.{IsWithinLimits}
+use Rattle.rapid_cut.proofs.Joiners.{in_subjects_more, joiners_more, joiners_same, length_insert, insert_again, sorted_joiners}
+
+both : (a b : Bool) → (a && b) ≡ true → (a ≡ true) × (b ≡ true)
+both true b h = (refl, h)
+both false b h = cc
+
+or_split : (a b : Bool) → (a || b) ≡ true → (a ≡ true) ⊎ (b ≡ true)
+or_split true b h = inl refl
+or_split false b h = inr h
+
+or_false : (b : Bool) → (b || false) ≡ b
+or_false true = refl
+or_false false = refl
+
+or_turn : (a b c : Bool) → (a || (b || c)) ≡ ((b || a) || c)
+or_turn true true c = refl
+or_turn true false c = refl
+or_turn false true c = refl
+or_turn false false c = refl
+
+-- ---- sets with alerts
+
+pub with_none : (r : Reports) → with_alerts r [] ≡ r
+with_none r =
+    set.same_set reports_total reports_exact _ _ (λ q.
+    set.contains-union reports_total r (set.from_list []) q ∙ ap (λ b. set.contains r q || b) (set.contains-from_list reports_total [] q) ∙ or_false (set.contains r q))
+
+pub with_more : (r : Reports) (a : Alert) (xs : List Alert) → with_alerts r (a ∷ xs) ≡ with_alerts (set.insert r (report_of a)) xs
+with_more r a xs =
+    let x = report_of a in
+    let rest : Reports = set.from_list (map report_of xs) in
+    set.same_set reports_total reports_exact _ _ (λ q.
+    set.contains-union reports_total r (set.insert rest x) q
+    ∙ ap (λ b. set.contains r q || b) (set.contains-insert reports_total rest x q)
+    ∙ or_turn (set.contains r q) (eq_by_cmp report_cmp q x) (set.contains rest q)
+    ∙ ap (λ b. b || set.contains rest q) (sym (set.contains-insert reports_total r x q))
+    ∙ sym (set.contains-union reports_total (set.insert r x) rest q))
+
+-- ---- a report that is taken keeps the limits
+
+is_observed : (t : Observers) (a : Alert) → is_well_formed t a ≡ true → IsObserved t a.subject
+is_observed t a h =
+    let p = both (nat_lt a.ring t.params.k && observes t a.observer a.ring a.subject && same_bytes a.config t.id) (kind_fits t a) h in
+    let q = both (nat_lt a.ring t.params.k && observes t a.observer a.ring a.subject) (same_bytes a.config t.id) p.0 in
+    let r = both (nat_lt a.ring t.params.k) (observes t a.observer a.ring a.subject) q.0 in
+    (a.ring, some (t.observer a.ring a.subject) r.1)
+  where
+    some : (o : Option Process) → option_eq same_bytes o (Some a.observer) ≡ true → IsSome o
+    some None e = cc
+    some (Some p) e = refl
+
+few_joiners : (t : Observers) (r : Reports) (a : Alert) → is_taken t r a ≡ true → length (joiners t r) ≤ 512 → length (joiners t (set.insert r (report_of a))) ≤ 512
+few_joiners t r a h few =
+    let p = both (is_well_formed t a) (t.is_member a.subject || is_in (joiners t r) a.subject || nat_lt (length (joiners t r)) 512) h in
+    elim (t.is_member a.subject) as (λ m. t.is_member a.subject ≡ m → (m || is_in (joiners t r) a.subject || nat_lt (length (joiners t r)) 512) ≡ true → length (joiners t (set.insert r (report_of a))) ≤ 512) [
+      | true ↦ λ m _. subst (λ l. length l ≤ 512) (sym (joiners_same t r (report_of a) m)) few
+      | false ↦ λ m k.
+          elim (or_split (is_in (joiners t r) a.subject) (nat_lt (length (joiners t r)) 512) k) [
+            | inl there ↦ subst (λ l. length l ≤ 512) (sym (joiners_more t r (report_of a) m ∙ insert_again (joiners t r) a.subject there (sorted_joiners t r))) few
+            | inr room ↦ (
+                let l = length_insert (joiners t r) a.subject in
+                let b : length (joiners t r) < 512 = below (length (joiners t r)) room in
+                subst (λ l. length l ≤ 512) (sym (joiners_more t r (report_of a) m)) (omega (arith, l, b))
+                )
+          ]
+    ] refl p.1
+  where
+    below : (n : ℕ) → nat_lt n 512 ≡ true → n < 512
+    below n e = grind arith
+
+pub limits_kept : (t : Observers) (r : Reports) (a : Alert) → is_taken t r a ≡ true → IsWithinLimits t r → IsWithinLimits t (set.insert r (report_of a))
+limits_kept t r a h w =
+    record {
+      observed = λ s k.
+          elim (or_split (same_bytes s a.subject) (is_in (subjects r) s) (sym (in_subjects_more r (report_of a) s) ∙ k)) [
+            | inl e ↦ subst (IsObserved t) (sym ((same_bytes_decides s a.subject).0 e)) (is_observed t a (both (is_well_formed t a) _ h).0)
+            | inr old ↦ w.observed s old
+          ];
+      joiners = few_joiners t r a h w.joiners;
+    }
+
+-- ---- the loop
+
+-- what was taken so far, and what is still taken of the rest, make up what is taken of all
+pub record IsTaking (t : Observers) (start : Reports) (all : List Alert) (i : ℕ) (direct : Reports) (joined : List Process) (count : ℕ) : Type 0 where
+  pub reports : with_alerts start (taken t start all) ≡ with_alerts direct (taken t direct (drop i all))
+  pub number : length (taken t start all) ≡ count + length (taken t direct (drop i all))
+  pub joining : joined ≡ joiners t direct
+  pub limits : IsWithinLimits t start → IsWithinLimits t direct
+  pub bound : count ≤ i
+
+pub drop_map : {A B : Type 0} (f : A → B) (xs : List A) (i : ℕ) (a : A) → i < length xs → a ≡ get_or xs i a → drop i (map f xs) ≡ f a ∷ drop (i + 1) (map f xs)
+drop_map f xs i a h e = drop_suc f xs i a h e ∙ ap (λ j. f a ∷ drop j (map f xs)) (sym (add-one i))
+  where
+    drop_suc : {A B : Type 0} (f : A → B) (xs : List A) (i : ℕ) (a : A) → i < length xs → a ≡ get_or xs i a → drop i (map f xs) ≡ f a ∷ drop (suc i) (map f xs)
+    drop_suc f [] i a h e = absurd (omega arith)
+    drop_suc f (x ∷ xs) zero a h e = ap (λ y. f y ∷ map f xs) (sym e)
+    drop_suc f (x ∷ xs) (suc i) a h e = drop_suc f xs i a (omega (arith, h)) e
+
+pub drop_done : {A B : Type 0} (f : A → B) (xs : List A) (i : ℕ) → length xs ≤ i → drop i (map f xs) ≡ []
+drop_done f [] zero h = refl
+drop_done f [] (suc i) h = refl
+drop_done f (x ∷ xs) zero h = absurd (omega (arith, h))
+drop_done f (x ∷ xs) (suc i) h = drop_done f xs i (omega (arith, h))
+
+pub taking_none : (t : Observers) (start direct : Reports) (all : List Alert) (joined : List Process) → direct ≡ start → joined ≡ joiners t start → IsTaking t start all 0 direct joined 0
+taking_none t start direct all joined e j =
+    subst (λ d. IsTaking t start all 0 d joined 0) (sym e) (record { reports = refl; number = omega arith; joining = j; limits = λ h. h; bound = omega arith })
+
+pub taking_more : (t : Observers) (start : Reports) (all : List Alert) (i : ℕ) (direct more : Reports) (joined joined' : List Process) (count count' : ℕ) (a : Alert) (b : Bool) →
+    drop i all ≡ a ∷ drop (i + 1) all → b ≡ is_taken t direct a → more ≡ cond b (set.insert direct (report_of a)) direct → joined' ≡ joiners t more → count' ≡ cond b (count + 1) count →
+    IsTaking t start all i direct joined count → IsTaking t start all (i + 1) more joined' count'
+taking_more t start all i direct more joined joined' count count' a b at is m j n h =
+    elim (is_taken t direct a) as (λ c. is_taken t direct a ≡ c → IsTaking t start all (i + 1) more joined' count') [
+      | true ↦ λ e.
+          let m' : more ≡ set.insert direct (report_of a) = m ∙ ap (λ c. cond c (set.insert direct (report_of a)) direct) (is ∙ e) in
+          let n' : count' ≡ count + 1 = n ∙ ap (λ c. cond c (count + 1) count) (is ∙ e) in
+          let rest = drop (i + 1) all in
+          let next : taken t direct (drop i all) ≡ a ∷ taken t (set.insert direct (report_of a)) rest = ap (taken t direct) at ∙ ap (λ c. cond c (a ∷ taken t (set.insert direct (report_of a)) rest) (taken t direct rest)) e in
+          record {
+            reports = h.reports ∙ ap (with_alerts direct) next ∙ with_more direct a (taken t (set.insert direct (report_of a)) rest) ∙ ap (λ r. with_alerts r (taken t r rest)) (sym m');
+            number = (let l = ap length next in let k = ap (λ r. length (taken t r rest)) m' in omega (arith, h.number, l, k, n'));
+            joining = j;
+            limits = λ w. subst (IsWithinLimits t) (sym m') (limits_kept t direct a e (h.limits w));
+            bound = omega (arith, h.bound, n');
+          }
+      | false ↦ λ e.
+          let m' : more ≡ direct = m ∙ ap (λ c. cond c (set.insert direct (report_of a)) direct) (is ∙ e) in
+          let n' : count' ≡ count = n ∙ ap (λ c. cond c (count + 1) count) (is ∙ e) in
+          let rest = drop (i + 1) all in
+          let next : taken t direct (drop i all) ≡ taken t direct rest = ap (taken t direct) at ∙ ap (λ c. cond c (a ∷ taken t (set.insert direct (report_of a)) rest) (taken t direct rest)) e in
+          record {
+            reports = h.reports ∙ ap (with_alerts direct) next ∙ ap (λ r. with_alerts r (taken t r rest)) (sym m');
+            number = (let l = ap length next in let k = ap (λ r. length (taken t r rest)) m' in omega (arith, h.number, l, k, n'));
+            joining = j;
+            limits = λ w. subst (IsWithinLimits t) (sym m') (h.limits w);
+            bound = omega (arith, h.bound, n');
+          }
+    ] refl
+
+pub taking_all : (t : Observers) (start : Reports) (all : List Alert) (i : ℕ) (direct : Reports) (joined : List Process) (count : ℕ) → drop i all ≡ [] → IsTaking t start all i direct joined count →
+    (direct ≡ with_alerts start (taken t start all)) × (count ≡ length (taken t start all))
+taking_all t start all i direct joined count e h = (
+  sym (h.reports ∙ ap (λ l. with_alerts direct (taken t direct l)) e ∙ with_none direct),
+  (let l = ap (λ l. length (taken t direct l)) e in omega (arith, h.number, l)),
+)

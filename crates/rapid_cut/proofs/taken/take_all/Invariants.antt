@@ -1,0 +1,7 @@
+use Rattle.std.proofs.Common.{map}
+use Rattle.rapid_alerts.specs.Alerts.{alert_of}
+use Rattle.rapid_cut.proofs.Taking.{IsTaking}
+use Rattle.rapid_cut.proofs.taken.take_all.Given as goal
+
+abbrev pub invariant-loop-alert : goal.invariant-loop-alert
+invariant-loop-alert g l = IsTaking (g.T.ObserverTable.observers l.table) l.fn.direct (map alert_of l.alerts) l.alert-index l.direct l.joiners.keys l.count

@@ -1,0 +1,17 @@
+-- What is known of the reports that were taken.
+use Rattle.std.specs.Prelude.{◌≡◌, ◌≤◌, true, length}
+use Rattle.rapid_model.specs.Process.{Process, is_in}
+use Rattle.rapid_model.specs.Ring.{Observers, AreObservers, IsObserved}
+use Rattle.rapid_model.specs.Reports.{Reports, subjects, reports}
+use Rattle.rapid_model.specs.Detector.{joiners}
+
+-- Each subject has an observer, and at most 512 of them are joiners.
+pub record IsWithinLimits (t : Observers) (r : Reports) : Type 0 where
+  pub observed : (s : Process) → is_in (subjects r) s ≡ true → IsObserved t s
+  pub joiners : length (joiners t r) ≤ 512
+
+-- What a detector keeps beside its value: all that the direct reports imply.
+pub record IsDetecting (t : Observers) (direct all : Reports) : Type 0 where
+  pub rules : AreObservers t
+  pub closure : all ≡ reports t direct
+  pub limits : IsWithinLimits t direct
