@@ -1,0 +1,9 @@
+pub mod Commands
+pub mod Endings
+pub mod Front
+pub mod Phases
+pub mod Replies
+pub mod Spelled
+pub mod Statuses
+pub mod Underway
+pub mod TooLong

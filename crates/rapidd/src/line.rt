@@ -1,0 +1,88 @@
+// The words and numbers of a line.
+
+ghost use Rattle.std.specs.Prelude.{◌≡◌, ◌≤◌, length, take, drop, [], ◌∷◌, not, MatchOption, IfSome};
+ghost use Rattle.rapid_model.specs.Lines.{words, number_up_to};
+ghost use Rattle.rapid_model.specs.EndpointText.{has_no_needless_zero};
+ghost use Rattle.rapidd.specs.Front.{without_spaces, before_space, from_space};
+ghost use Rattle.rapidd.specs.Spelled.{spelled_from};
+
+/// The first word of a line and what follows it; none where the line has no words.
+pub fn split_word(line: &[u8]) -> Option<(&[u8], &[u8])>
+    ensures { MatchOption result (words line.now ≡ [])
+        (λ r. words line.now ≡ r.0.now ∷ words r.1.now) }
+{
+    let rest = without_spaces(line);
+    if rest.is_empty() {
+        return None;
+    }
+    let end = word_len(rest);
+    Some((&rest[..end], &rest[end..]))
+}
+
+/// The line without the spaces in front.
+fn without_spaces(line: &[u8]) -> &[u8]
+    ensures { result.now ≡ without_spaces line.now }
+{
+    let mut rest = line;
+    while let [b' ', others @ ..] = rest {
+        rest = others;
+    }
+    rest
+}
+
+/// How many bytes stand before the first space.
+fn word_len(line: &[u8]) -> usize
+    ensures word { take result line.now ≡ before_space line.now }
+    ensures rest { drop result line.now ≡ from_space line.now }
+    ensures within { result ≤ length line.now }
+{
+    for (i, byte) in line.iter().enumerate() {
+        if *byte == b' ' {
+            return i;
+        }
+    }
+    line.len()
+}
+
+/// The number that a word spells, without a needless zero in front, if it is one up to the limit.
+pub fn number(word: &[u8], limit: u64) -> Option<u64>
+    ensures value { result ≡ number_up_to limit word.now }
+    ensures small { IfSome result (λ n. n ≤ limit) }
+{
+    if word.is_empty() || word.len() > 20 || has_needless_zero(word) {
+        return None;
+    }
+    let value = digits(word)?;
+    if value <= limit { Some(value) } else { None }
+}
+
+/// Whether a zero stands in front of other digits.
+fn has_needless_zero(word: &[u8]) -> bool
+    ensures { result ≡ not (has_no_needless_zero word.now) }
+{
+    match word {
+        [first, _, ..] => *first == b'0',
+        _ => false,
+    }
+}
+
+/// The number that digits spell, if these are digits and it is below 2^64.
+fn digits(word: &[u8]) -> Option<u64>
+    ensures { result ≡ spelled_from 0 word.now }
+{
+    let mut value = 0u64;
+    for digit in word {
+        value = with_digit(value, *digit)?;
+    }
+    Some(value)
+}
+
+/// The number with one more digit, if that is a digit and the number is below 2^64.
+fn with_digit(value: u64, digit: u8) -> Option<u64>
+    ensures { result ≡ spelled_from value (digit ∷ []) }
+{
+    if !digit.is_ascii_digit() {
+        return None;
+    }
+    value.checked_mul(10)?.checked_add(u64::from(digit - b'0'))
+}

@@ -1,0 +1,37 @@
+//! The program of the membership service: `rapidd detect` reads who observes whom and alerts, and
+//! prints the cuts that they make (Rapid, USENIX ATC 2018).
+#![tactic(auto)]
+
+mod command;
+mod detect;
+mod engine;
+mod fault;
+mod line;
+mod line_buffer;
+mod reply;
+mod stream;
+mod words;
+
+use std::process::ExitCode;
+use std::{env, io};
+
+fn main(rt: HostRuntime) -> ExitCode {
+    match arguments(&rt) {
+        Ok(words) => ExitCode::from(words::run_words(
+            rt.alloc(),
+            words.as_slice(),
+            &mut rt.reader(),
+            &mut io::writer(&rt),
+            &mut rt.stderr(),
+        )),
+        Err(error) => ExitCode::from(words::without_words(&error, &mut rt.stderr())),
+    }
+}
+
+/// The words that the program was given, its name first.
+fn arguments(rt: &HostRuntime) -> io::Result<Vec<String>> {
+    Ok(env::args(rt)?.collect(rt.alloc())?)
+}
+
+#[cfg(test)]
+mod tests;
