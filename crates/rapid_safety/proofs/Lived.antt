@@ -392,7 +392,7 @@ lived_kept w _ (ends i p at) old = crashed_lived w old i p at
 
 -- ---- the opening
 
-get_map : {A B : Type 0} (f : A → B) (xs : List A) (i : ℕ) (y : B) → slice_get (map f xs) i ≡ Some y → (x : A) × (slice_get xs i ≡ Some x) × (y ≡ f x)
+pub get_map : {A B : Type 0} (f : A → B) (xs : List A) (i : ℕ) (y : B) → slice_get (map f xs) i ≡ Some y → (x : A) × (slice_get xs i ≡ Some x) × (y ≡ f x)
 get_map f [] i y h = cc
 get_map f (x ∷ xs) zero y h = (x, refl, sym (some_peer h))
 get_map f (x ∷ xs) (suc i) y h = get_map f xs i y h
@@ -402,7 +402,7 @@ all_at f [] i x e h = cc
 all_at f (y ∷ ys) zero x e h = subst (λ z. f z ≡ true) (some_peer h) (and_parts _ _ e).0
 all_at f (y ∷ ys) (suc i) x e h = all_at f ys i x (and_parts _ _ e).1 h
 
-not_below_itself : (x y : List ℕ) → x ≡ y → is_lt (bytes_cmp x y) ≡ true → ⊥
+pub not_below_itself : (x y : List ℕ) → x ≡ y → is_lt (bytes_cmp x y) ≡ true → ⊥
 not_below_itself x y e h = let g : is_lt (bytes_cmp x x) ≡ true = subst (λ z. is_lt (bytes_cmp x z) ≡ true) (sym e) h in let t : is_lt (bytes_cmp x x) ≡ false = ap is_lt (tied_itself processes_total x) in let wrong : true ≡ false = sym g ∙ t in cc
 
 pub apart_names : (ms : List Process) (i j : ℕ) (a b : Process) → identifiers_ascend ms ≡ true → slice_get ms i ≡ Some a → slice_get ms j ≡ Some b → identifier a ≡ identifier b → i ≡ j

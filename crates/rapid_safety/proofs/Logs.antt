@@ -91,7 +91,7 @@ acts_elsewhere log p c n xs e = acts-append log (map (entry n) xs) p c ∙ ap (�
 pub here_from : (c : Configuration) (n : Node) → member_in n ≡ Some c → is_here n.me c n ≡ true
 here_from c n h = and_from _ _ ((same_bytes_decides n.me n.me).1 refl) (ap (λ o. option_eq same_configuration o (Some c)) h ∙ (same_configuration_decides c c).1 refl)
 
-of_option : (o : Option Configuration) (c : Configuration) → option_eq same_configuration o (Some c) ≡ true → o ≡ Some c
+pub of_option : (o : Option Configuration) (c : Configuration) → option_eq same_configuration o (Some c) ≡ true → o ≡ Some c
 of_option None c h = cc
 of_option (Some d) c h = ap Some ((same_configuration_decides d c).0 h)
 

@@ -56,7 +56,7 @@ none_said b h = h.1
 -- ---- a cut is proposed once, and a fast vote is for it
 
 -- the detector is closed just where there is a proposal
-batch_open : (t : Observers) (d : Detector) (xs : List Alert) (o : Option Cut) → batch_cut t d xs ≡ o → is_some o ≡ true → d.closed ≡ false
+pub batch_open : (t : Observers) (d : Detector) (xs : List Alert) (o : Option Cut) → batch_cut t d xs ≡ o → is_some o ≡ true → d.closed ≡ false
 unfolding batch_cut
 batch_open t d xs o e s = by d.closed refl e
   where
