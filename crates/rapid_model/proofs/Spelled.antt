@@ -111,12 +111,12 @@ module _ (c : Configuration) (h : IsConfiguration c) where
       let count = count_is in
       skip (nat_lt (length (whole c)) 4) (Some Truncated) _ (le-ltb (length (whole c)) 4 (omega arith))
       (skip (not (same_bytes (take 4 (whole c)) magic)) (Some BadMagic) _ (ap not ((same_bytes_decides magic magic).1 refl))
-        (skip (nat_lt (length (whole c)) 49) (Some Truncated) _ (le-ltb (length (whole c)) 49 (omega arith))
-          (skip (not (are_params (params_in (whole c)))) (Some BadParams) _ (ap (λ p. not (are_params p)) params_are ∙ ap not (params_pass c.params h.params))
-            (skip (nat_lt 1024 (count_in (whole c))) (Some TooMany) _ (ap (λ n. nat_lt 1024 n) count_is ∙ le-ltb 1024 (length c.members) few)
-              (skip (nat_lt (length (whole c)) (49 + 22 * count_in (whole c))) (Some Truncated) _ (ap (λ n. nat_lt (length (whole c)) (49 + 22 * n)) count_is ∙ le-ltb (length (whole c)) (49 + 22 * length c.members) (omega arith))
-                (skip (nat_lt (49 + 22 * count_in (whole c)) (length (whole c))) (Some Trailing) _ (ap (λ n. nat_lt (49 + 22 * n) (length (whole c))) count_is ∙ le-ltb (49 + 22 * length c.members) (length (whole c)) (omega arith))
-                  (ap members_fault members_are ∙ no_members_fault c.members h.members)))))))
+      (skip (nat_lt (length (whole c)) 49) (Some Truncated) _ (le-ltb (length (whole c)) 49 (omega arith))
+      (skip (not (are_params (params_in (whole c)))) (Some BadParams) _ (ap (λ p. not (are_params p)) params_are ∙ ap not (params_pass c.params h.params))
+      (skip (nat_lt 1024 (count_in (whole c))) (Some TooMany) _ (ap (λ n. nat_lt 1024 n) count_is ∙ le-ltb 1024 (length c.members) few)
+      (skip (nat_lt (length (whole c)) (49 + 22 * count_in (whole c))) (Some Truncated) _ (ap (λ n. nat_lt (length (whole c)) (49 + 22 * n)) count_is ∙ le-ltb (length (whole c)) (49 + 22 * length c.members) (omega arith))
+      (skip (nat_lt (49 + 22 * count_in (whole c)) (length (whole c))) (Some Trailing) _ (ap (λ n. nat_lt (49 + 22 * n) (length (whole c))) count_is ∙ le-ltb (49 + 22 * length c.members) (length (whole c)) (omega arith))
+      (ap members_fault members_are ∙ no_members_fault c.members h.members)))))))
 
 pub spelling_read : (c : Configuration) → IsConfiguration c → (bytes_fault (configuration_bytes c) ≡ None) × (configuration_in (configuration_bytes c) ≡ c)
 spelling_read c h = (ap bytes_fault (regrouped c) ∙ no_fault c h, ap configuration_in (regrouped c) ∙ read_is c h)
@@ -172,9 +172,9 @@ respelled b h m l =
     let x5 : concat ps ≡ drop 49 b = joined (count_in b) (drop 49 b) (omega arith) in
     let x4 : to_be_bytes w16 (length ps) ++ concat ps ≡ drop 47 b = ap (λ x. to_be_bytes w16 (length ps) ++ x) x5 ∙ ap (λ x. x ++ drop 49 b) e4 ∙ seam 47 2 b in
     let x3 : (get_or b 44 0 ∷ get_or b 45 0 ∷ get_or b 46 0 ∷ []) ++ (to_be_bytes w16 (length ps) ++ concat ps) ≡ drop 44 b =
-        ap (λ x. (get_or b 44 0 ∷ get_or b 45 0 ∷ get_or b 46 0 ∷ []) ++ x) x4 ∙ ap (λ x. x ++ drop 47 b) e3 ∙ seam 44 3 b in
+    ap (λ x. (get_or b 44 0 ∷ get_or b 45 0 ∷ get_or b 46 0 ∷ []) ++ x) x4 ∙ ap (λ x. x ++ drop 47 b) e3 ∙ seam 44 3 b in
     let x2 : after (configuration_in b) ≡ drop 36 b =
-        ap (λ x. to_be_bytes w64 (from_be_bytes w64 (take 8 (drop 36 b))) ++ x) x3 ∙ ap (λ x. x ++ drop 44 b) e2 ∙ seam 36 8 b in
+    ap (λ x. to_be_bytes w64 (from_be_bytes w64 (take 8 (drop 36 b))) ++ x) x3 ∙ ap (λ x. x ++ drop 44 b) e2 ∙ seam 36 8 b in
     let x1 : take 32 (drop 4 b) ++ after (configuration_in b) ≡ drop 4 b = ap (λ x. take 32 (drop 4 b) ++ x) x2 ∙ seam 4 32 b in
     regrouped (configuration_in b) ∙ ap (λ x. magic ++ x) x1 ∙ ap (λ x. x ++ drop 4 b) e1 ∙ take-append-drop 4 b
   where

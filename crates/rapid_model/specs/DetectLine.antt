@@ -65,8 +65,3 @@ command_named name ws =
     else if bytes_eq name (codes "join") then option_map (Report Join) (place_in ws)
     else if bytes_eq name (codes "batch") then batch_in ws
     else None
-
--- The command that words spell, if they do.
-abbrev pub command_of : List (List ℕ) → Option DetectLine
-command_of [] = None
-command_of (name ∷ ws) = command_named name ws

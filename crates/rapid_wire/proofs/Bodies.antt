@@ -2,17 +2,17 @@
 use Rattle.std.proofs.Common.{◌≡◌, ℕ, ◌+◌, ◌^◌, ◌<◌, inl, inr, List, [], ◌∷◌, ◌++◌, length, refl, sym, ap, subst, ◌∙◌, arith, length-append}
 use Rattle.std.specs.Prelude.{All, map, Option, Some, None}
 use Rattle.std.specs.List.{concat}
-use Rattle.std.specs.Int.{w16, w64, to_be_bytes, from_be_bytes}
-use Rattle.std.proofs.lemmas.Nat.{from_be_bytes-to_be_bytes_8}
+use Rattle.std.specs.Int.{w16, w64, to_be_bytes}
 use Rattle.std.proofs.lemmas.List.Elements.{All-weaker, All-map}
 use Rattle.std.proofs.lemmas.List.{length-map}
 use Rattle.rapid_model.specs.Process.{Process, IsProcess}
 use Rattle.rapid_model.specs.Cut.{Cut, IsCut, cut_bytes}
-use Rattle.rapid_model.specs.Configuration.{Params, Configuration, IsConfiguration, configuration_bytes, magic}
+use Rattle.rapid_model.specs.Configuration.{Configuration, IsConfiguration, magic}
 use Rattle.rapid_model.specs.Alert.{Kind, Remove, Join}
 use Rattle.rapid_model.specs.Ballot.{Ballot, Vote, IsBallot}
 use Rattle.rapid_model.specs.Message.{AlertItem, Answer, Safe, EndpointInUse, ConfigurationChanged, TooManyJoiners, Body, Batch, FastVote, Prepare, Promise, Accept, Accepted, Decision, PreJoin, Reply, JoinRequest, Confirm, Probe, ProbeAck}
 use Rattle.rapid_model.specs.Frame.{IsId, IsItem, IsBatch, IsReport, IsAnswer, IsBody, ballot_bytes, kind_byte, item_bytes, report_bytes, answer_bytes, kind_number, body_bytes}
+use Rattle.rapid_model.proofs.Spelled.{spelling_tell}
 use Rattle.rapid_wire.proofs.Pieces.{head_same, tail_same, split, same_16, same_concat, same_map}
 
 -- two arguments that are the same
@@ -116,9 +116,6 @@ same_answer_bytes TooManyJoiners EndpointInUse h k e = let n = head_same 4 2 [] 
 same_answer_bytes TooManyJoiners ConfigurationChanged h k e = let n = head_same 4 3 [] [] e in absurd (omega (arith, n))
 same_answer_bytes TooManyJoiners TooManyJoiners h k e = refl
 
-same_64 : (m n : ℕ) → m < 2 ^ 64 → n < 2 ^ 64 → to_be_bytes w64 m ≡ to_be_bytes w64 n → m ≡ n
-same_64 m n h k e = sym (from_be_bytes-to_be_bytes_8 m h) ∙ ap (from_be_bytes w64) e ∙ from_be_bytes-to_be_bytes_8 n k
-
 -- the parts of a configuration's bytes in front of the members
 abbrev pub prefix : Configuration → List ℕ
 prefix c = magic ++ c.previous
@@ -136,39 +133,6 @@ front_size c h =
     let height : length (to_be_bytes w64 c.height) ≡ 8 = refl in
     let first : length magic ≡ 4 = refl in
     omega (arith, p, one, two, three, last, height, first)
-
-same_params : (p q : Params) → p.k ∷ p.h ∷ p.l ∷ [] ≡ q.k ∷ q.h ∷ q.l ∷ [] → p ≡ q
-same_params p q e =
-    let ks = head_same p.k q.k (p.h ∷ p.l ∷ []) (q.h ∷ q.l ∷ []) e in
-    let rest = tail_same p.k q.k (p.h ∷ p.l ∷ []) (q.h ∷ q.l ∷ []) e in
-    let hs = head_same p.h q.h (p.l ∷ []) (q.l ∷ []) rest in
-    let ls = head_same p.l q.l [] [] (tail_same p.h q.h (p.l ∷ []) (q.l ∷ []) rest) in
-    let make : ℕ → ℕ → ℕ → Params = λ k h l. record { k = k; h = h; l = l } in
-    ap (λ k. make k p.h p.l) ks ∙ ap2 (make q.k) p.h q.h p.l q.l hs ls
-
-pub same_configuration_bytes : (c d : Configuration) → IsConfiguration c → IsConfiguration d → configuration_bytes c ≡ configuration_bytes d → c ≡ d
-same_configuration_bytes c d h k e =
-    let few = h.members.few in
-    let few' = k.members.few in
-    let count = to_be_bytes w16 (length c.members) in
-    let count' = to_be_bytes w16 (length d.members) in
-    let fronts : length (front c) ≡ length (front d) = front_size c h ∙ sym (front_size d k) in
-    let whole : length (front c ++ count) ≡ length (front d ++ count') = length-append (front c) count ∙ ap (λ n. n + 2) fronts ∙ sym (length-append (front d) count') in
-    let parts = split (front c ++ count) (front d ++ count') (concat c.members) (concat d.members) whole e in
-    let inner = split (front c) (front d) count count' fronts parts.0 in
-    let number = same_16 (length c.members) (length d.members) (omega (arith, few)) (omega (arith, few')) inner.1 in
-    let members = same_concat 22 c.members d.members (sizes c.members h.members.processes) (sizes d.members k.members.processes) number parts.1 in
-    let previous_size : length c.previous ≡ length d.previous = h.previous.0 ∙ sym k.previous.0 in
-    let prefixes : length (prefix c) ≡ length (prefix d) = length-append magic c.previous ∙ ap (λ n. length magic + n) previous_size ∙ sym (length-append magic d.previous) in
-    let heights : length (prefix c ++ to_be_bytes w64 c.height) ≡ length (prefix d ++ to_be_bytes w64 d.height) = length-append (prefix c) (to_be_bytes w64 c.height) ∙ ap (λ n. n + 8) prefixes ∙ sym (length-append (prefix d) (to_be_bytes w64 d.height)) in
-    let a = split (prefix c ++ to_be_bytes w64 c.height) (prefix d ++ to_be_bytes w64 d.height) (c.params.k ∷ c.params.h ∷ c.params.l ∷ []) (d.params.k ∷ d.params.h ∷ d.params.l ∷ []) heights inner.0 in
-    let b = split (prefix c) (prefix d) (to_be_bytes w64 c.height) (to_be_bytes w64 d.height) prefixes a.0 in
-    let height = same_64 c.height d.height h.height k.height b.1 in
-    let previous = (split magic magic c.previous d.previous refl b.0).1 in
-    let params = same_params c.params d.params a.1 in
-    let make : Params → ℕ → List ℕ → List Process → Configuration = λ p n before ms. record { params = p; height = n; previous = before; members = ms } in
-    ap (λ p. make p c.height c.previous c.members) params ∙ ap (λ n. make d.params n c.previous c.members) height
-    ∙ ap2 (make d.params d.height) c.previous d.previous c.members d.members previous members
 
 -- the identifier in front
 ids_split : (id jd xs ys : List ℕ) → IsId id → IsId jd → id ++ xs ≡ jd ++ ys → (id ≡ jd) × (xs ≡ ys)
@@ -265,6 +229,6 @@ same_body (Reply j a) c n h = if_reply (Same (Reply j a)) (λ i z k e.
     (let parts = split j i (answer_bytes a) (answer_bytes z) (h.0.length ∙ sym k.0.length) e in ap2 Reply j i a z parts.0 (same_answer_bytes a z h.1 k.1 parts.1))) c (sym n)
 same_body (JoinRequest id r) c n h = if_joinrequest (Same (JoinRequest id r)) (λ jd s k e.
     (let parts = ids_split id jd (r ∷ []) (s ∷ []) h.0 k.0 e in ap2 JoinRequest id jd r s parts.0 (head_same r s [] [] parts.1))) c (sym n)
-same_body (Confirm d) c n h = if_confirm (Same (Confirm d)) (λ x k e. ap Confirm (same_configuration_bytes d x h k e)) c (sym n)
+same_body (Confirm d) c n h = if_confirm (Same (Confirm d)) (λ x k e. ap Confirm (spelling_tell d x h k e)) c (sym n)
 same_body (Probe id) c n h = if_probe (Same (Probe id)) (λ jd k e. ap Probe e) c (sym n)
 same_body (ProbeAck id) c n h = if_probeack (Same (ProbeAck id)) (λ jd k e. ap ProbeAck e) c (sym n)
