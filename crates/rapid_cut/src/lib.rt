@@ -7,3 +7,6 @@ mod reports;
 mod taken;
 
 pub use detector::Detector;
+
+#[cfg(test)]
+mod tests;
