@@ -1,14 +1,15 @@
 -- The rings by number.
-use Rattle.std.proofs.Common.{◌≡◌, ℕ, zero, suc, ◌+◌, ◌<◌, ◌≤◌, List, [], ◌∷◌, ◌++◌, map, length, get_or, refl, sym, ap, ◌∙◌, Option, Some, None, cond, nat_lt, Bool, true, false, add-one, zero-add, arith}
-use Rattle.std.specs.Prelude.{filter_map}
+use Rattle.std.proofs.Common.{◌≡◌, ℕ, zero, suc, ◌+◌, ◌<◌, ◌≤◌, List, [], ◌∷◌, ◌++◌, map, length, get_or, slice_get, refl, sym, ap, ◌∙◌, Option, Some, None, cond, nat_lt, Bool, true, false, add-one, zero-add, arith}
+use Rattle.std.specs.Prelude.{filter_map, IfSome}
 use Rattle.std.specs.Option.{option_to_list}
 use Rattle.std.specs.List.{range_with_len, cons_option}
 use Rattle.std.proofs.lemmas.List.{map-append}
 use Rattle.std.proofs.lemmas.List.Elements.{filter_map-append}
 use Rattle.rapid_model.specs.Process.{Process}
 use Rattle.rapid_model.specs.Configuration.{Configuration}
-use Rattle.rapid_model.specs.Ring.{observers_of, ring_observer}
-use Rattle.rapid_rings.specs.Seats.{Seats, seats_of, rings_of}
+use Rattle.rapid_model.specs.Ring.{observers_of, ring_key, ring_observer}
+use Rattle.rapid_rings.specs.Seats.{Seat, Seats, seat, seats_of, rings_of, seatings_of}
+use Rattle.rapid_rings.proofs.Rounds.{seat_at}
 use Rattle.std.proofs.lemmas.List.FromFn.{length-map-range_with_len, get_or-map-range_with_len}
 
 range_push : (a n : ℕ) → range_with_len a (suc n) ≡ range_with_len a n ++ (a + n) ∷ []
@@ -53,3 +54,18 @@ unfolding observers_of
 observer_missing c xs i k s is same past =
     let long : length xs ≡ c.params.k = ap length is ∙ length-map-range_with_len (λ k. seats_of k c.members) 0 c.params.k in
     ap (λ b. cond b (ring_observer c.members k s) None) (sym (not_tested k c.params.k (omega (arith, long, past, same))))
+
+-- a kept key is that of its process
+pub kept_key : (c : Configuration) (xs : List (List Seat)) (i k place : ℕ) (p : Process) (x : List Seat) (key : List ℕ)
+    → xs ≡ seatings_of c → i ≡ k → i < length xs → x ≡ get_or xs i x → slice_get x place ≡ Some (key, p) → key ≡ ring_key k p
+kept_key c xs i k place p x key is same below at h =
+    let long : length xs ≡ c.params.k = ap length is ∙ length-map-range_with_len (λ k. map (seat k) c.members) 0 c.params.k in
+    let there : i < c.params.k = omega (arith, long, below) in
+    let seats : x ≡ map (seat k) c.members = at ∙ ap (λ ys. get_or ys i x) is ∙ get_or-map-range_with_len (λ k. map (seat k) c.members) 0 c.params.k i k x there (omega (arith, same)) in
+    seat_at k c.members place key p (ap (λ ys. slice_get ys place) (sym seats) ∙ h)
+
+pub kept_if_any : (c : Configuration) (xs : List (List Seat)) (i k place : ℕ) (p : Process) (x : List Seat)
+    → xs ≡ seatings_of c → i ≡ k → i < length xs → x ≡ get_or xs i x
+    → (o : Option (List ℕ)) → IfSome o (λ key. slice_get x place ≡ Some (key, p)) → IfSome o (λ key. key ≡ ring_key k p)
+kept_if_any c xs i k place p x is same below at None h = h
+kept_if_any c xs i k place p x is same below at (Some key) h = kept_key c xs i k place p x key is same below at h

@@ -1,5 +1,5 @@
 -- Going round a ring: the member next before a process is the one with none between.
-use Rattle.std.proofs.Common.{◌≡◌, ℕ, ◌+◌, ◌<◌, ◌≤◌, length, get_or, take, ◌++◌, Bool, true, false, cond, not, ◌&&◌, ◌||◌, List, [], ◌∷◌, map, refl, sym, ap, subst, ◌∙◌, Option, Some, None, arith}
+use Rattle.std.proofs.Common.{◌≡◌, ℕ, ◌+◌, ◌<◌, ◌≤◌, length, get_or, take, ◌++◌, Bool, true, false, cond, not, ◌&&◌, ◌||◌, List, [], ◌∷◌, map, refl, sym, ap, subst, ◌∙◌, Option, Some, None, arith, zero, suc, slice_get}
 use Rattle.std.specs.Option.{option_map}
 use Rattle.std.specs.List.{list_any, list_all, find}
 use Rattle.std.specs.declared.cmp.Ordering.{Ordering}
@@ -263,9 +263,9 @@ seat_insert_seen ks ns p h =
       ∙ sym (set.contains-insert seats_total (set.from_list ks) p q))
 
 -- no seats yet
-pub no_seats : (k : ℕ) (ks : List Seat) → ks ≡ [] → ◌≡◌ {A = Seats} (set.from_list ks) (seats_of k [])
+pub no_seats : (k : ℕ) → ◌≡◌ {A = Seats} set.empty (seats_of k [])
 unfolding seats_of
-no_seats k ks e = ap (set.from_list {R = seat_cmp}) e
+no_seats k = refl
 
 -- the seats with that of one more member
 pub seats_push : (k : ℕ) (ms : List Process) (i : ℕ) (m : Process) → i < length ms → m ≡ get_or ms i m → seats_of k (take (i + 1) ms) ≡ set.insert (seats_of k (take i ms)) (seat k m)
@@ -305,7 +305,26 @@ seen_none_below ks s none q there =
       | false ↦ λ e. refl
     ] refl
 
-pub observer_on_ring : (r : Seats) (k : ℕ) (ms : List Process) (s : Process) (key : List ℕ) (x : Option Seat) → r ≡ seats_of k ms → key ≡ ring_key k s → IsNextBefore r (key, s) x → option_map (λ y. y.1) x ≡ ring_observer ms k s
-observer_on_ring r k ms s key x is keyed h =
-    observer_in_seat k ms s x (subst (λ (q : Seats). IsNextBefore q (seat k s) x) is (subst (λ (b : List ℕ). IsNextBefore r (b, s) x) keyed h))
+pub observer_on_ring : (r : Seats) (k : ℕ) (ms : List Process) (s : Process) (y : Seat) (x : Option Seat) → r ≡ seats_of k ms → y.0 ≡ ring_key k s → y.1 ≡ s → IsNextBefore r y x → option_map (λ z. z.1) x ≡ ring_observer ms k s
+observer_on_ring r k ms s y x is keyed own h =
+    let same : y ≡ seat k s = λ i. (keyed i, own i) in
+    observer_in_seat k ms s x (subst (λ (q : Seats). IsNextBefore q (seat k s) x) is (subst (λ (z : Seat). IsNextBefore r z x) same h))
 
+-- a seat at a place of the seating has the key of its process
+pub seat_at : (k : ℕ) (ms : List Process) (i : ℕ) (key : List ℕ) (p : Process) → slice_get (map (seat k) ms) i ≡ Some (key, p) → key ≡ ring_key k p
+seat_at k [] i key p h = cc
+seat_at k (m ∷ ms) zero key p h =
+    let same : seat k m ≡ (key, p) = inside h in
+    sym (ap (λ (z : Seat). z.0) same) ∙ ap (λ (z : Seat). ring_key k z.1) same
+  where
+    inside : {x y : Seat} → ◌≡◌ {A = Option Seat} (Some x) (Some y) → x ≡ y
+    inside e = cc
+seat_at k (m ∷ ms) (suc i) key p h = seat_at k ms i key p h
+
+-- one more member in the seating
+pub seating_push : (k : ℕ) (ms : List Process) (i : ℕ) (m : Process) → i < length ms → m ≡ get_or ms i m → map (seat k) (take (i + 1) ms) ≡ map (seat k) (take i ms) ++ seat k m ∷ []
+seating_push k ms i m lt is =
+    ap (map (seat k)) (take_more ms i m lt ∙ ap (λ p. take i ms ++ p ∷ []) (sym is)) ∙ map-append (seat k) (take i ms) (m ∷ [])
+
+pub seating_all : (k : ℕ) (ms : List Process) (i : ℕ) → length ms ≤ i → map (seat k) (take i ms) ≡ map (seat k) ms
+seating_all k ms i le = ap (map (seat k)) (take_all i ms le)

@@ -42,6 +42,15 @@ seats_of k ps = set.from_list (map (seat k) ps)
 abbrev pub rings_of : Configuration → List Seats
 rings_of c = map (λ k. seats_of k c.members) (range_with_len 0 c.params.k)
 
+-- The seats of the members on each ring of a configuration, by place.
+abbrev pub seatings_of : Configuration → List (List Seat)
+seatings_of c = map (λ k. map (seat k) c.members) (range_with_len 0 c.params.k)
+
+-- What rings keep.
+pub record HasRings (c : Configuration) (rings : List Seats) (seatings : List (List Seat)) : Type 0 where
+  pub by_key : rings ≡ rings_of c
+  pub by_place : seatings ≡ seatings_of c
+
 -- x is before y.
 abbrev pub is_below : Seat → Seat → Bool
 is_below x y = is_lt (seat_cmp x y)

@@ -9,6 +9,7 @@ mod observer_table;
 mod process_set;
 mod ring;
 mod rings;
+mod seating;
 mod table;
 mod table_error;
 #[cfg(test)]

@@ -1,6 +1,6 @@
 // One ring.
 
-ghost use Rattle.std.specs.Prelude.{◌≡◌, List, None, IfOk, OnOk, OnErr};
+ghost use Rattle.std.specs.Prelude.{◌≡◌, ℕ, List, None, OnOk, OnErr};
 ghost use Rattle.std.specs.FinSet as set;
 ghost use Rattle.rapid_model.specs.Process.{Process as ModelProcess};
 ghost use Rattle.rapid_model.specs.Ring as model;
@@ -44,17 +44,34 @@ impl Model for Ring {
 }
 
 impl Ring {
-    /// The ring with this number of these members.
-    pub(crate) fn new(alloc: Global, number: u8, members: &[Process]) -> Result<Ring, AllocError>
-        ensures { IfOk result (λ ring. ring ≡ seats_of number members.now) }
+    /// A ring with no seats.
+    pub(crate) fn new(alloc: Global) -> Ring
+        ensures { result ≡ set.empty }
     {
-        let mut ring = Ring {
+        Ring {
             seats: BTreeSet::new(alloc),
-        };
-        for member in members {
-            ring.insert((ring_key(number, member), *member))?;
         }
-        Ok(ring)
+    }
+
+    /// Adds a seat.
+    pub(crate) fn insert(&mut self, seat: Seat) -> Result<(), AllocError>
+        ensures ok { OnOk result (self.new ≡ set.insert self.old seat) }
+        ensures unchanged { OnErr result (self.new ≡ self.old) }
+    {
+        self.seats.insert(seat)?;
+        Ok(())
+    }
+
+    /// The process in the seat next before this one, going round.
+    pub(crate) fn observer(&self, seat: &Seat) -> Option<Process>
+        ensures { (ring : ℕ) (members : List ModelProcess) (subject : ModelProcess) →
+            self.now ≡ seats_of ring members → seat.now.0 ≡ model.ring_key ring subject → seat.now.1 ≡ subject →
+            result ≡ model.ring_observer members ring subject }
+    {
+        match self.next_before(seat) {
+            Some(before) => Some(before.1),
+            None => None,
+        }
     }
 
     // The seat next before this one, going round; none where no other seat is there.
@@ -65,25 +82,6 @@ impl Ring {
             Some(below) => Some(below),
             None => self.last_but(seat),
         }
-    }
-
-    /// The member that observes the subject on this ring, whose number it is.
-    pub(crate) fn observer(&self, number: u8, subject: &Process) -> Option<Process>
-        ensures { (members : List ModelProcess) → self.now ≡ seats_of number members → result ≡ model.ring_observer members number subject.now }
-    {
-        let seat = (ring_key(number, subject), *subject);
-        match self.next_before(&seat) {
-            Some(before) => Some(before.1),
-            None => None,
-        }
-    }
-
-    fn insert(&mut self, seat: Seat) -> Result<(), AllocError>
-        ensures ok { OnOk result (self.new ≡ set.insert self.old seat) }
-        ensures unchanged { OnErr result (self.new ≡ self.old) }
-    {
-        self.seats.insert(seat)?;
-        Ok(())
     }
 
     // The last seat below this one.

@@ -1,20 +1,20 @@
 // The rings of configurations.
 
+ghost use Rattle.std.specs.Prelude.{◌≤◌, length};
+
 use super::process;
 use crate::{ObserverTable, Rings};
 use rapid_config::{Configuration, Params};
+use rapid_endpoint::Process;
 use std::alloc::Global;
 use std::process::Abort;
 use std::test::Fail;
 
-/// The rings of the members with these numbers, which ascend.
-fn rings_of(alloc: Global, first: u16, others: &[u16]) -> Result<Rings, Fail> {
-    let mut members = Vec::new(alloc);
-    members.push(process(first))?;
-    for number in others {
-        members.push(process(*number))?;
-    }
-    let configuration = Configuration::seed(alloc, Params::new(3, 3, 1)?, &members)?;
+/// The rings of these members, who ascend.
+fn rings_of(alloc: Global, members: &[Process]) -> Result<Rings, Fail>
+    requires { 1 ≤ length members.now }
+{
+    let configuration = Configuration::seed(alloc, Params::new(3, 3, 1)?, members)?;
     Ok(Rings::new(alloc, &configuration)?)
 }
 
@@ -29,7 +29,7 @@ fn assert_observers(rt: &impl Abort, rings: &Rings, subject: u16, observers: [u1
 
 #[test]
 fn two_members_observe_each_other(rt: HostRuntime) -> Result<(), Fail> {
-    let rings = rings_of(rt.alloc(), 1, &[2])?;
+    let rings = rings_of(rt.alloc(), &[process(1), process(2)])?;
     assert_observers(&rt, &rings, 1, [2, 2, 2]);
     assert_observers(&rt, &rings, 2, [1, 1, 1]);
     assert_eq!(rt; rings.observer(3, &process(1)), None);
@@ -39,7 +39,7 @@ fn two_members_observe_each_other(rt: HostRuntime) -> Result<(), Fail> {
 
 #[test]
 fn a_member_alone_is_not_observed(rt: HostRuntime) -> Result<(), Fail> {
-    let rings = rings_of(rt.alloc(), 1, &[])?;
+    let rings = rings_of(rt.alloc(), &[process(1)])?;
     assert_observers(&rt, &rings, 1, [0, 0, 0]);
     assert_observers(&rt, &rings, 5, [1, 1, 1]);
     Ok(())
@@ -49,7 +49,7 @@ fn a_member_alone_is_not_observed(rt: HostRuntime) -> Result<(), Fail> {
 
 #[test]
 fn five_members_have_their_observers(rt: HostRuntime) -> Result<(), Fail> {
-    let rings = rings_of(rt.alloc(), 1, &[2, 3, 4, 5])?;
+    let rings = rings_of(rt.alloc(), &[process(1), process(2), process(3), process(4), process(5)])?;
     assert_observers(&rt, &rings, 1, [3, 5, 2]);
     assert_observers(&rt, &rings, 2, [1, 1, 5]);
     assert_observers(&rt, &rings, 3, [4, 4, 1]);
@@ -60,7 +60,7 @@ fn five_members_have_their_observers(rt: HostRuntime) -> Result<(), Fail> {
 
 #[test]
 fn joiners_have_their_observers(rt: HostRuntime) -> Result<(), Fail> {
-    let rings = rings_of(rt.alloc(), 1, &[2, 3, 4, 5])?;
+    let rings = rings_of(rt.alloc(), &[process(1), process(2), process(3), process(4), process(5)])?;
     assert_observers(&rt, &rings, 6, [4, 1, 3]);
     assert_observers(&rt, &rings, 7, [3, 1, 2]);
     assert_observers(&rt, &rings, 40_000, [2, 3, 1]);
@@ -69,7 +69,7 @@ fn joiners_have_their_observers(rt: HostRuntime) -> Result<(), Fail> {
 
 #[test]
 fn members_have_their_subjects(rt: HostRuntime) -> Result<(), Fail> {
-    let rings = rings_of(rt.alloc(), 1, &[2, 3, 4, 5])?;
+    let rings = rings_of(rt.alloc(), &[process(1), process(2), process(3), process(4), process(5)])?;
     let subjects = rings.subjects_of(rt.alloc(), &process(2))?;
     assert!(rt; subjects.as_slice() == [(0, process(5)), (1, process(4)), (2, process(1))].as_slice());
     let subjects = rings.subjects_of(rt.alloc(), &process(6))?;
@@ -86,5 +86,17 @@ fn rings_tell_of_their_configuration(rt: HostRuntime) -> Result<(), Fail> {
     assert_eq!(rt; rings.id(), configuration.id());
     assert!(rt; rings.is_member(&process(2)));
     assert!(rt; !rings.is_member(&process(3)));
+    Ok(())
+}
+
+#[test]
+fn the_next_rings_keep_the_keys(rt: HostRuntime) -> Result<(), Fail> {
+    let before = rings_of(rt.alloc(), &[process(1), process(3), process(4), process(6)])?;
+    let members = [process(1), process(2), process(3), process(4), process(5)];
+    let configuration = Configuration::seed(rt.alloc(), Params::new(3, 3, 1)?, &members)?;
+    let rings = before.next(rt.alloc(), &configuration)?;
+    assert_observers(&rt, &rings, 1, [3, 5, 2]);
+    assert_observers(&rt, &rings, 2, [1, 1, 5]);
+    assert_observers(&rt, &rings, 6, [4, 1, 3]);
     Ok(())
 }

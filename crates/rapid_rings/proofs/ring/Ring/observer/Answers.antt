@@ -3,7 +3,7 @@ use Rattle.rapid_rings.proofs.Rounds.{observer_on_ring}
 use Rattle.rapid_rings.proofs.ring.Ring.observer.Goals as goal
 
 pub returns-in-Some : goal.returns-in-Some
-returns-in-Some c members is = observer_on_ring c.args.self.now c.args.number members c.args.subject.now c.ring_key.result (Some c.in-Some.before) is c.ring_key.ensures c.in-Some.ensures
+returns-in-Some c ring members subject is keyed own = observer_on_ring c.args.self.now ring members subject c.args.seat.now (Some c.in-Some.before) is keyed own c.in-Some.ensures
 
 pub returns-in-None : goal.returns-in-None
-returns-in-None c members is = observer_on_ring c.args.self.now c.args.number members c.args.subject.now c.ring_key.result None is c.ring_key.ensures c.in-None.ensures
+returns-in-None c ring members subject is keyed own = observer_on_ring c.args.self.now ring members subject c.args.seat.now None is keyed own c.in-None.ensures
