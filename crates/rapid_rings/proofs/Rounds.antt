@@ -94,9 +94,12 @@ lt_not_same Equal h = cc
 lt_not_same Greater h = refl
 
 pub next_before_below : (r : Seats) (s x : Seat) → IsLastBelow r s (Some x) → IsNextBefore r s (Some x)
-next_before_below r s x h =
-    (h.0, lt_not_same (seat_cmp x s) h.1, λ q at.
-      none_of_three (is_below x q) (is_below q s) (is_below s x) (ap is_lt (turned x s) ∙ lt_not_back (seat_cmp x s) h.1) (λ e. h.2 q at e))
+next_before_below r s x h = (
+  h.0,
+  lt_not_same (seat_cmp x s) h.1,
+  λ q at.
+      none_of_three (is_below x q) (is_below q s) (is_below s x) (ap is_lt (turned x s) ∙ lt_not_back (seat_cmp x s) h.1) (λ e. h.2 q at e),
+)
 
 pub next_before_last : (r : Seats) (s x : Seat) → IsLastBelow r s None → IsLast r (Some x) → same_seat x s ≡ false → IsNextBefore r s (Some x)
 next_before_last r s x none last other =
@@ -218,8 +221,8 @@ apart k p s h =
 pub observer_in_seat : (k : ℕ) (ms : List Process) (s : Process) (r : Option Seat) → IsNextBefore (seats_of k ms) (seat k s) r → option_map (λ x. x.1) r ≡ ring_observer ms k s
 observer_in_seat k ms s None h =
     sym (not_found (is_next_before ms k s) ms (λ m at.
-      let same = same_seat_is (seat k m) (seat k s) (h (seat k m) (contains-seats k ms (seat k m) ∙ seats_have k ms m at)) in
-      ap (λ b. not b && list_all (λ q. not (is_between k m q s)) ms) ((same_bytes_decides m s).1 (ap (λ (y : Seat). y.1) same))))
+    let same = same_seat_is (seat k m) (seat k s) (h (seat k m) (contains-seats k ms (seat k m) ∙ seats_have k ms m at)) in
+    ap (λ b. not b && list_all (λ q. not (is_between k m q s)) ms) ((same_bytes_decides m s).1 (ap (λ (y : Seat). y.1) same))))
 observer_in_seat k ms s (Some x) h =
     let is = seated k ms x (sym (contains-seats k ms x) ∙ h.0) in
     sym (found (is_next_before ms k s) ms x.1 is.1 (passes is.0) (λ m at next. only is.0 is.1 m at next))
@@ -258,9 +261,9 @@ any_of_tied ks ns p q h = h ∙ if_true (same_seat p q) (list_any (same_seat q) 
 pub seat_insert_seen : (ks ns : List Seat) (p : Seat) → ((q : Seat) → list_any (same_seat q) ns ≡ cond (same_seat p q) true (list_any (same_seat q) ks)) → ◌≡◌ {A = Seats} (set.from_list ns) (set.insert (set.from_list ks) p)
 seat_insert_seen ks ns p h =
     set.same_set seats_total seats_exact _ _ (λ q.
-      set.contains-from_list seats_total ns q ∙ any_of_tied ks ns p q (h q)
-      ∙ ap (λ b. same_seat q p || b) (sym (set.contains-from_list seats_total ks q))
-      ∙ sym (set.contains-insert seats_total (set.from_list ks) p q))
+    set.contains-from_list seats_total ns q ∙ any_of_tied ks ns p q (h q)
+    ∙ ap (λ b. same_seat q p || b) (sym (set.contains-from_list seats_total ks q))
+    ∙ sym (set.contains-insert seats_total (set.from_list ks) p q))
 
 -- no seats yet
 pub no_seats : (k : ℕ) → ◌≡◌ {A = Seats} set.empty (seats_of k [])

@@ -52,7 +52,11 @@ impl Rings {
     }
 
     /// The pairs of a ring and the member that the process observes on it, by ring.
-    pub fn subjects_of(&self, alloc: Global, process: &Process) -> Result<Vec<(u8, Process)>, AllocError>
+    pub fn subjects_of(
+        &self,
+        alloc: Global,
+        process: &Process,
+    ) -> Result<Vec<(u8, Process)>, AllocError>
         ensures { IfOk result (λ subjects. subjects.items ≡ subjects_of self.now process.now) }
     {
         let mut subjects = Vec::new(alloc);
@@ -108,7 +112,11 @@ impl Rings {
 }
 
 // The rings of a configuration, with the keys that rings before it have.
-fn build(alloc: Global, configuration: &Configuration, before: Option<&Rings>) -> Result<Rings, AllocError>
+fn build(
+    alloc: Global,
+    configuration: &Configuration,
+    before: Option<&Rings>,
+) -> Result<Rings, AllocError>
     ensures { IfOk result (λ rings. rings ≡ configuration.now) }
 {
     let mut rings = Vec::new(alloc);
@@ -156,7 +164,11 @@ fn known_key(before: Option<&Rings>, ring: u8, process: &Process) -> [u8; 32]
 }
 
 // Adds the pair of a ring and the subject on it, if there is one.
-fn push_any(subjects: &mut Vec<(u8, Process)>, ring: u8, subject: Option<Process>) -> Result<(), AllocError>
+fn push_any(
+    subjects: &mut Vec<(u8, Process)>,
+    ring: u8,
+    subject: Option<Process>,
+) -> Result<(), AllocError>
     ensures { OnOk result (subjects.new.items ≡ subjects.old.items ++ option_to_list (option_map (λ s. (ring, s)) subject)) }
 {
     if let Some(subject) = subject {

@@ -22,8 +22,15 @@ fn rings_of(alloc: Global, members: &[Process]) -> Result<Rings, Fail>
 fn assert_observers(rt: &impl Abort, rings: &Rings, subject: u16, observers: [u16; 3]) {
     for ring in 0..3u8 {
         let number = observers[usize::from(ring)];
-        let observer = if number == 0 { None } else { Some(process(number)) };
-        assert!(rt; rings.observer(ring, &process(subject)) == observer, "of {subject} on {ring}");
+        let observer = if number == 0 {
+            None
+        } else {
+            Some(process(number))
+        };
+        assert!(rt;
+            rings.observer(ring, &process(subject)) == observer,
+            "of {subject} on {ring}"
+        );
     }
 }
 
@@ -49,7 +56,10 @@ fn a_member_alone_is_not_observed(rt: HostRuntime) -> Result<(), Fail> {
 
 #[test]
 fn five_members_have_their_observers(rt: HostRuntime) -> Result<(), Fail> {
-    let rings = rings_of(rt.alloc(), &[process(1), process(2), process(3), process(4), process(5)])?;
+    let rings = rings_of(
+        rt.alloc(),
+        &[process(1), process(2), process(3), process(4), process(5)],
+    )?;
     assert_observers(&rt, &rings, 1, [3, 5, 2]);
     assert_observers(&rt, &rings, 2, [1, 1, 5]);
     assert_observers(&rt, &rings, 3, [4, 4, 1]);
@@ -60,7 +70,10 @@ fn five_members_have_their_observers(rt: HostRuntime) -> Result<(), Fail> {
 
 #[test]
 fn joiners_have_their_observers(rt: HostRuntime) -> Result<(), Fail> {
-    let rings = rings_of(rt.alloc(), &[process(1), process(2), process(3), process(4), process(5)])?;
+    let rings = rings_of(
+        rt.alloc(),
+        &[process(1), process(2), process(3), process(4), process(5)],
+    )?;
     assert_observers(&rt, &rings, 6, [4, 1, 3]);
     assert_observers(&rt, &rings, 7, [3, 1, 2]);
     assert_observers(&rt, &rings, 40_000, [2, 3, 1]);
@@ -69,9 +82,14 @@ fn joiners_have_their_observers(rt: HostRuntime) -> Result<(), Fail> {
 
 #[test]
 fn members_have_their_subjects(rt: HostRuntime) -> Result<(), Fail> {
-    let rings = rings_of(rt.alloc(), &[process(1), process(2), process(3), process(4), process(5)])?;
+    let rings = rings_of(
+        rt.alloc(),
+        &[process(1), process(2), process(3), process(4), process(5)],
+    )?;
     let subjects = rings.subjects_of(rt.alloc(), &process(2))?;
-    assert!(rt; subjects.as_slice() == [(0, process(5)), (1, process(4)), (2, process(1))].as_slice());
+    assert!(rt;
+        subjects.as_slice() == [(0, process(5)), (1, process(4)), (2, process(1))].as_slice()
+    );
     let subjects = rings.subjects_of(rt.alloc(), &process(6))?;
     assert!(rt; subjects.is_empty());
     Ok(())
@@ -91,7 +109,10 @@ fn rings_tell_of_their_configuration(rt: HostRuntime) -> Result<(), Fail> {
 
 #[test]
 fn the_next_rings_keep_the_keys(rt: HostRuntime) -> Result<(), Fail> {
-    let before = rings_of(rt.alloc(), &[process(1), process(3), process(4), process(6)])?;
+    let before = rings_of(
+        rt.alloc(),
+        &[process(1), process(3), process(4), process(6)],
+    )?;
     let members = [process(1), process(2), process(3), process(4), process(5)];
     let configuration = Configuration::seed(rt.alloc(), Params::new(3, 3, 1)?, &members)?;
     let rings = before.next(rt.alloc(), &configuration)?;

@@ -48,8 +48,14 @@ fn an_edge_is_refused_by_name(rt: HostRuntime) -> Result<(), Fail> {
     let mut table = Table::new(rt.alloc(), Params::new(1, 1, 1)?);
     table.joiner(process(9))?;
     table.add(0, process(1), process(9))?;
-    assert_eq!(rt; table.add(0, process(2), process(9)), Err(TableError::EdgeTwice));
-    assert_eq!(rt; table.add(1, process(2), process(9)), Err(TableError::RingRange));
+    assert_eq!(rt;
+        table.add(0, process(2), process(9)),
+        Err(TableError::EdgeTwice)
+    );
+    assert_eq!(rt;
+        table.add(1, process(2), process(9)),
+        Err(TableError::RingRange)
+    );
     assert_eq!(rt; table.observer(0, &process(9)), Some(process(1)));
     Ok(())
 }
@@ -74,7 +80,10 @@ fn full_table(alloc: Global) -> Result<Table, Fail> {
 #[test]
 fn a_1025th_member_is_not_observed(rt: HostRuntime) -> Result<(), Fail> {
     let mut table = full_table(rt.alloc())?;
-    assert_eq!(rt; table.add(0, process(1), process(1026)), Err(TableError::TooMany));
+    assert_eq!(rt;
+        table.add(0, process(1), process(1026)),
+        Err(TableError::TooMany)
+    );
     assert_eq!(rt; table.observer(0, &process(1026)), None);
     Ok(())
 }
@@ -82,9 +91,18 @@ fn a_1025th_member_is_not_observed(rt: HostRuntime) -> Result<(), Fail> {
 #[test]
 fn the_first_error_is_told(rt: HostRuntime) -> Result<(), Fail> {
     let mut table = full_table(rt.alloc())?;
-    assert_eq!(rt; table.add(2, process(1), process(1026)), Err(TableError::TooMany));
-    assert_eq!(rt; table.add(2, process(1), process(2)), Err(TableError::RingRange));
-    assert_eq!(rt; table.add(0, process(1), process(2)), Err(TableError::EdgeTwice));
+    assert_eq!(rt;
+        table.add(2, process(1), process(1026)),
+        Err(TableError::TooMany)
+    );
+    assert_eq!(rt;
+        table.add(2, process(1), process(2)),
+        Err(TableError::RingRange)
+    );
+    assert_eq!(rt;
+        table.add(0, process(1), process(2)),
+        Err(TableError::EdgeTwice)
+    );
     Ok(())
 }
 
@@ -104,7 +122,10 @@ fn a_subject_that_becomes_a_joiner_counts_no_more(rt: HostRuntime) -> Result<(),
     table.joiner(process(3))?;
     table.joiner(process(3))?;
     table.add(0, process(1), process(1026))?;
-    assert_eq!(rt; table.add(0, process(1), process(1027)), Err(TableError::TooMany));
+    assert_eq!(rt;
+        table.add(0, process(1), process(1027)),
+        Err(TableError::TooMany)
+    );
     assert_eq!(rt; table.observer(0, &process(3)), Some(process(1)));
     Ok(())
 }

@@ -17,5 +17,5 @@ loop-number-preserved c =
           c.in_ok-push-2.ensures.items
           ∙ ap (λ seating. c.loop-number.seatings.items ++ seating ∷ []) (c.in_ok-ring.ensures.seating ∙ ap (map (seat number)) c.members.ensures.value)
           ∙ ap (λ seatings. seatings ++ map (seat number) members ∷ []) c.loop-number.invariant.by_place
-          ∙ sym (map_more (λ k. map (seat k) members) number)
+          ∙ sym (map_more (λ k. map (seat k) members) number);
     }

@@ -22,7 +22,7 @@ loop-member-preserved c =
           c.in_ok-push.ensures.ok
           ∙ ap (λ key. c.loop-member.seating ++ (key, member) ∷ []) c.known_key-key.ensures
           ∙ ap (λ s. s ++ seat k member ∷ []) c.loop-member.invariant.by_place
-          ∙ sym (seating_push k c.args.members.now c.loop-member.member-index member below c.member-item.is)
+          ∙ sym (seating_push k c.args.members.now c.loop-member.member-index member below c.member-item.is);
     }
 
 pub returns-clause-ring : goal.returns-clause-ring

@@ -6,5 +6,5 @@ abbrev pub invariant-loop-member : goal.invariant-loop-member
 invariant-loop-member l =
     record {
       by_key : l.ring ≡ seats_of l.number (take l.member-index l.members);
-      by_place : l.seating ≡ map (seat l.number) (take l.member-index l.members)
+      by_place : l.seating ≡ map (seat l.number) (take l.member-index l.members);
     }
