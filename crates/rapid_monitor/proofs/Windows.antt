@@ -1,10 +1,12 @@
 -- How a window of probe results slides.
-use Rattle.std.proofs.Common.{◌≡◌, ℕ, zero, suc, ◌+◌, ◌-◌, ◌≤◌, ◌↔◌, ◌∙◌, Bool, true, false, cond, not, ◌||◌, List, [], ◌∷◌, ◌++◌, length, take, arith, refl, sym, ap, subst, nat_le}
-use Rattle.std.specs.Prelude.{slice_get, IsTrue, unwrap_or, if◌then◌else◌, Option}
+use Rattle.std.proofs.Common.{◌≡◌, ℕ, zero, suc, ◌+◌, ◌-◌, ◌<◌, ◌≤◌, get_or, ◌↔◌, ◌∙◌, Bool, true, false, cond, not, ◌||◌, List, [], ◌∷◌, ◌++◌, length, take, arith, refl, sym, ap, subst, nat_le}
+use Rattle.std.specs.Prelude.{slice_get, IsTrue, unwrap_or, if◌then◌else◌, Option, Some, None}
+use Rattle.std.specs.Option.{option_map}
 use mir.Val.{bool_byte}
 use Rattle.std.proofs.lemmas.List.Sums.{sum_by-cons}
 use Rattle.rapid_model.specs.Edge.{Edge, fresh_edge, failures, probed, edge_after, HasDownStretch}
 use Rattle.rapid_model.proofs.Edges.{down_is_stretch}
+use Rattle.rapid_monitor.specs.declared.edge.Verdict.{Verdict}
 use Rattle.rapid_monitor.specs.declared.edge.Verdict.TheVariants.{Up, Down}
 
 abbrev one : Bool → ℕ
@@ -69,3 +71,21 @@ verdict_so_far e ok oks is =
       λ h. law.0 (subst IsTrue (sym same) (down_true (probed e ok).is_down h)),
       λ h. true_down (probed e ok).is_down (subst IsTrue same (law.1 h)),
     )
+
+some_is : {A : Type 0} {a b : A} → Some a ≡ Some b → a ≡ b
+some_is e = cc
+
+-- where there is an edge, its verdict is that of the results so far
+pub slot_so_far : (slot : Option Edge) (ok : Bool) (oks : List Bool) (result : Option Verdict) → result ≡ option_map (λ (e : Edge). if (probed e ok).is_down then Down else Up) slot → slot ≡ Some (edge_after fresh_edge oks) → (result ≡ Some Down) ↔ HasDownStretch (oks ++ ok ∷ [])
+slot_so_far slot ok oks result is slot_is =
+    let law = verdict_so_far (edge_after fresh_edge oks) ok oks refl in
+    let verdict : result ≡ Some (if (probed (edge_after fresh_edge oks) ok).is_down then Down else Up) = is ∙ ap (option_map (λ (e : Edge). if (probed e ok).is_down then Down else Up)) slot_is in (
+      λ h. law.0 (some_is (sym verdict ∙ h)),
+      λ h. verdict ∙ ap Some (law.1 h),
+    )
+
+-- the edge at a place
+pub slot_at : (m : List (Option Edge)) (i : ℕ) (d : Option Edge) → i < length m → unwrap_or (slice_get m i) None ≡ get_or m i d
+slot_at [] i d l = absurd (omega arith)
+slot_at (x ∷ xs) zero d l = refl
+slot_at (x ∷ xs) (suc i) d l = slot_at xs i d (omega arith)

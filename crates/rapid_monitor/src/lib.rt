@@ -2,8 +2,10 @@
 #![tactic(auto)]
 
 mod edge;
+mod monitors;
 
 pub use edge::{Edge, Verdict};
+pub use monitors::Monitors;
 
 #[cfg(test)]
 mod tests;

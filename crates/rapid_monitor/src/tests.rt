@@ -1,5 +1,8 @@
 //! Worked rows of the probe window, and copies.
-use crate::{Edge, Verdict};
+use crate::{Edge, Monitors, Verdict};
+use rapid_config::{Configuration, Params};
+use rapid_endpoint::{Endpoint, Process, ProcessId};
+use rapid_rings::Rings;
 use std::test::Fail;
 
 /// The verdicts of an edge after these runs of equal results, each a result and how often it comes.
@@ -45,5 +48,33 @@ fn a_copy_goes_on_by_itself(rt: HostRuntime) -> Result<(), Fail> {
     assert_eq!(rt; copy.probe(false), Verdict::Down);
     assert_eq!(rt; edge.probe(true), Verdict::Up);
     assert_eq!(rt; edge.probe(false), Verdict::Down);
+    Ok(())
+}
+
+/// The process of a number below 256: 127.0.0.1 with that number as identifier and port.
+fn process(number: u8) -> Process {
+    let mut bytes = [0; 16];
+    bytes[15] = number;
+    Process::new(ProcessId::new(bytes), Endpoint::new([127, 0, 0, 1], u16::from(number)))
+}
+
+#[test]
+fn the_edges_of_a_member_are_probed_by_ring(rt: HostRuntime) -> Result<(), Fail> {
+    let params = Params::new(3, 3, 1).ok().ok_or("parameters")?;
+    let pair = [process(1), process(2)];
+    let configuration = Configuration::seed(rt.alloc(), params, &pair).ok().ok_or("a configuration")?;
+    let rings = Rings::new(rt.alloc(), &configuration)?;
+    let mut monitors = Monitors::new(rt.alloc(), &rings, &process(1))?;
+    for _ in 0..3 {
+        assert_eq!(rt; monitors.probe(0, false), Some(Verdict::Up));
+    }
+    let mut copy = monitors.try_copy(rt.alloc())?;
+    assert_eq!(rt; copy.probe(0, false), Some(Verdict::Down));
+    assert_eq!(rt; monitors.probe(1, false), Some(Verdict::Up));
+    assert_eq!(rt; monitors.probe(2, false), Some(Verdict::Up));
+    assert_eq!(rt; monitors.probe(3, false), None);
+    assert_eq!(rt; monitors.probe(0, false), Some(Verdict::Down));
+    let mut stranger = Monitors::new(rt.alloc(), &rings, &process(9))?;
+    assert_eq!(rt; stranger.probe(0, true), None);
     Ok(())
 }
