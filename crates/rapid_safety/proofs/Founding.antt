@@ -1,5 +1,5 @@
 -- In the founding configuration at most one cut is chosen.
-use Rattle.std.proofs.Common.{◌≡◌, ◌≤◌, inl, inr, ℕ, Bool, true, false, ◌||◌, List, [], ◌∷◌, ◌++◌, map, length, refl, sym, ap, subst, ◌∙◌, Option, Some, None, arith}
+use Rattle.std.proofs.Common.{◌≡◌, ◌≤◌, inl, inr, Bool, true, false, ◌||◌, List, [], ◌∷◌, map, length, refl, sym, subst, None, arith}
 use Rattle.std.specs.List.{list_any, list_all}
 use Rattle.std.specs.Ordering.{is_lt}
 use Rattle.std.proofs.lemmas.Bool.{and_parts}
@@ -7,7 +7,7 @@ use Rattle.rapid_model.specs.Process.{Process, identifier, bytes_cmp, same_bytes
 use Rattle.rapid_model.specs.Cut.{Cut}
 use Rattle.rapid_model.specs.Configuration.{Configuration, AreMembers, identifiers_ascend}
 use Rattle.rapid_model.specs.FastPaxos.{KeepsRules}
-use Rattle.rapid_model.specs.World.{World, Entry, Installed, MarkedEvent}
+use Rattle.rapid_model.specs.World.{Installed, MarkedEvent}
 use Rattle.rapid_model.specs.Run.{run, founded}
 use Rattle.rapid_model.specs.Chosen.{Chosen, said_about}
 use Rattle.rapid_model.specs.Agreement.{NoCollision}
