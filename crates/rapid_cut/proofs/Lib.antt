@@ -4,3 +4,4 @@ pub mod Joiners
 pub mod Taking
 pub mod Cuts
 pub mod Batches
+pub mod Repeats

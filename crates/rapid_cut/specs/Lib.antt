@@ -1,3 +1,4 @@
 pub mod Closing
+pub mod Laws
 pub mod Limits
 pub mod Watching

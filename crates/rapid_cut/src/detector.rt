@@ -182,4 +182,22 @@ impl<T: ObserverTable> Detector<T> {
         let subjects = self.direct.subjects()?;
         unstable_ones(self.alloc, &self.table, &self.all, &subjects)
     }
+
+    /// An equal detector over a table that says the same, as another share of one table does.
+    pub fn try_copy(&self, table: T) -> Result<Detector<T>, AllocError>
+    where
+        T: Drop,
+        requires { T.observers table ≡ T.observers self.now.table }
+        ensures table { IfOk result (λ copy. copy.table ≡ table) }
+        ensures state { IfOk result (λ copy. copy.detector ≡ self.now.detector) }
+    {
+        Ok(Detector {
+            table,
+            direct: self.direct.try_copy()?,
+            all: self.all.try_copy()?,
+            closed: self.closed,
+            skipped: self.skipped,
+            alloc: self.alloc,
+        })
+    }
 }

@@ -1,0 +1,51 @@
+-- Two lists of the same alerts make one set.
+use Rattle.std.proofs.Common.{◌≡◌, Bool, true, false, ◌||◌, List, [], ◌∷◌, map, refl, sym, ap, ◌∙◌, ◌⊎◌, inl, inr, ◌↔◌}
+use Rattle.std.specs.Prelude.{Contains}
+use Rattle.std.specs.List.{list_any}
+use Rattle.std.specs.Cmp.{both_ways}
+use Rattle.std.specs.Ordering.{eq_by_cmp}
+use Rattle.std.specs.FinSet as set
+use Rattle.rapid_model.specs.Alert.{Alert}
+use Rattle.rapid_model.specs.Ring.{Observers}
+use Rattle.rapid_model.specs.Reports.{Report, report_cmp, Reports, report_of, cut_of}
+use Rattle.rapid_model.specs.Detector.{with_alerts}
+use Rattle.rapid_model.proofs.Lists.{In, in_from, contains_from}
+use Rattle.rapid_model.proofs.Orders.{reports_total, reports_exact, tie_decides}
+
+or_split : (a b : Bool) → (a || b) ≡ true → (a ≡ true) ⊎ (b ≡ true)
+or_split true b h = inl refl
+or_split false b h = inr h
+
+or_left : (a b : Bool) → a ≡ true → (a || b) ≡ true
+or_left true b h = refl
+or_left false b h = cc
+
+or_right : (a b : Bool) → b ≡ true → (a || b) ≡ true
+or_right true b h = refl
+or_right false b h = h
+
+abbrev reports_on : List Alert → Report → Bool
+reports_on xs x = list_any (eq_by_cmp report_cmp x) (map report_of xs)
+
+by_one : (xs : List Alert) (x : Report) → reports_on xs x ≡ true → (a : Alert) × In xs a × (x ≡ report_of a)
+by_one [] x h = cc
+by_one (a ∷ xs) x h =
+    elim (or_split (eq_by_cmp report_cmp x (report_of a)) (reports_on xs x) h) [
+      | inl e ↦ (a, inl refl, (tie_decides reports_total reports_exact x (report_of a)).0 e)
+      | inr later ↦ (let r = by_one xs x later in (r.0, inr r.1, r.2))
+    ]
+
+one_by : (xs : List Alert) (x : Report) (a : Alert) → In xs a → x ≡ report_of a → reports_on xs x ≡ true
+one_by [] x a h e = absurd h
+one_by (b ∷ xs) x a (inl h) e = or_left _ _ ((tie_decides reports_total reports_exact x (report_of b)).1 (e ∙ ap report_of (sym h)))
+one_by (b ∷ xs) x a (inr h) e = or_right _ _ (one_by xs x a h e)
+
+half : (xs ys : List Alert) → ((a : Alert) → Contains xs a → Contains ys a) → (x : Report) → reports_on xs x ≡ true → reports_on ys x ≡ true
+half xs ys same x h = let r = by_one xs x h in one_by ys x r.0 (in_from ys r.0 (same r.0 (contains_from xs r.0 r.1))) r.2
+
+pub same_alerts : (t : Observers) (r : Reports) (xs ys : List Alert) → ((a : Alert) → Contains xs a ↔ Contains ys a) → cut_of t (with_alerts r xs) ≡ cut_of t (with_alerts r ys)
+same_alerts t r xs ys same =
+    ap (cut_of t) (set.same_set reports_total reports_exact _ _ (λ x.
+        set.contains-union reports_total r (set.from_list (map report_of xs)) x
+        ∙ ap (λ b. set.contains r x || b) (set.contains-from_list reports_total (map report_of xs) x ∙ both_ways _ _ (half xs ys (λ a. (same a).0) x) (half ys xs (λ a. (same a).1) x) ∙ sym (set.contains-from_list reports_total (map report_of ys) x))
+        ∙ sym (set.contains-union reports_total r (set.from_list (map report_of ys)) x)))
