@@ -46,6 +46,6 @@ half xs ys same x h = let r = by_one xs x h in one_by ys x r.0 (in_from ys r.0 (
 pub same_alerts : (t : Observers) (r : Reports) (xs ys : List Alert) → ((a : Alert) → Contains xs a ↔ Contains ys a) → cut_of t (with_alerts r xs) ≡ cut_of t (with_alerts r ys)
 same_alerts t r xs ys same =
     ap (cut_of t) (set.same_set reports_total reports_exact _ _ (λ x.
-        set.contains-union reports_total r (set.from_list (map report_of xs)) x
-        ∙ ap (λ b. set.contains r x || b) (set.contains-from_list reports_total (map report_of xs) x ∙ both_ways _ _ (half xs ys (λ a. (same a).0) x) (half ys xs (λ a. (same a).1) x) ∙ sym (set.contains-from_list reports_total (map report_of ys) x))
-        ∙ sym (set.contains-union reports_total r (set.from_list (map report_of ys)) x)))
+    set.contains-union reports_total r (set.from_list (map report_of xs)) x
+    ∙ ap (λ b. set.contains r x || b) (set.contains-from_list reports_total (map report_of xs) x ∙ both_ways _ _ (half xs ys (λ a. (same a).0) x) (half ys xs (λ a. (same a).1) x) ∙ sym (set.contains-from_list reports_total (map report_of ys) x))
+    ∙ sym (set.contains-union reports_total r (set.from_list (map report_of ys)) x)))

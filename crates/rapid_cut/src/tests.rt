@@ -295,7 +295,12 @@ fn a_known_joiner_is_taken_when_512_are_there(rt: HostRuntime) -> Result<(), Fai
     let edges = edges_of_one(rt.alloc(), 0, 512)?;
     let cut = cut_of(rt.alloc(), &mut detector, Kind::Join, edges.as_slice())?;
     assert_eq!(rt; cut.len(), 0);
-    let later = cut_of(rt.alloc(), &mut detector, Kind::Join, &[(1, 1, 514), (1, 1, 2)])?;
+    let later = cut_of(
+        rt.alloc(),
+        &mut detector,
+        Kind::Join,
+        &[(1, 1, 514), (1, 1, 2)],
+    )?;
     assert_eq!(rt; later.len(), 0);
     assert_eq!(rt; detector.skipped(), 1);
     assert_eq!(rt; detector.tally(&process(2)), 2);
@@ -306,7 +311,11 @@ fn a_known_joiner_is_taken_when_512_are_there(rt: HostRuntime) -> Result<(), Fai
 #[test]
 fn want_of_memory_leaves_the_detector_as_it_was(rt: HostRuntime) -> Result<(), Fail> {
     let mut detector = detector(rt.alloc(), &FIVE)?;
-    let first = removed(rt.alloc(), &mut detector, &[(2, 3, 5), (1, 2, 5), (0, 2, 5)])?;
+    let first = removed(
+        rt.alloc(),
+        &mut detector,
+        &[(2, 3, 5), (1, 2, 5), (0, 2, 5)],
+    )?;
     assert_eq!(rt; first.len(), 0);
     let last = [alert(Kind::Remove, (0, 1, 5))];
     if detector.batch(&last).is_err() {
