@@ -38,6 +38,9 @@ impl RoundsUsed {
 
 /// The coordinator of one member: the ballot that it began last, who promised it, and how many of them reported each
 /// cut at the highest ballot of a vote.
+///
+/// That it asks only for what the rule of Fast Paxos lets it ask for, and once a ballot, is the contract of
+/// `rapid_agreement::coordinators_ask_lawfully`.
 #[derive(Debug, Drop)]
 pub struct Coordinator {
     size: usize,

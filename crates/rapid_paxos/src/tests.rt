@@ -67,6 +67,7 @@ fn asked(
 #[test]
 fn sizes(rt: HostRuntime) {
     for (n, size) in [(1, 1), (2, 2), (3, 2), (4, 3), (5, 3), (8, 5), (9, 5)] {
+        assert!(rt; n <= 1024);
         assert_eq!(rt; classic_size(n), size, "of {n}");
     }
 }
@@ -162,18 +163,21 @@ fn an_accept_comes_once(rt: HostRuntime) -> Result<(), Fail> {
         coordinator.hear_promise(0, &other, None)?.is_none(),
         "another ballot"
     );
-    for position in [0, 0, 1] {
-        assert!(rt; coordinator.hear_promise(position, &report, None)?.is_none());
-    }
+    assert!(rt; coordinator.hear_promise(0, &report, None)?.is_none());
+    assert!(rt;
+        coordinator.hear_promise(0, &report, None)?.is_none(),
+        "heard already"
+    );
+    assert!(rt; coordinator.hear_promise(1, &report, None)?.is_none());
     let mut copy = coordinator.try_copy()?;
-    for coordinator in [&mut coordinator, &mut copy] {
-        let accept = coordinator.hear_promise(4, &report, None)?;
-        assert!(rt; accept.map(|accept| accept.cut) == Some(x.try_copy(alloc)?));
-        assert!(rt;
-            coordinator.hear_promise(2, &report, None)?.is_none(),
-            "it asked already"
-        );
-    }
+    let accept = coordinator.hear_promise(4, &report, None)?;
+    assert!(rt; accept.map(|accept| accept.cut) == Some(x.try_copy(alloc)?));
+    assert!(rt;
+        coordinator.hear_promise(2, &report, None)?.is_none(),
+        "it asked already"
+    );
+    let accept = copy.hear_promise(2, &report, None)?;
+    assert!(rt; accept.map(|accept| accept.cut) == Some(x));
     Ok(())
 }
 
