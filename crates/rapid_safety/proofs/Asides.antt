@@ -176,9 +176,11 @@ words_same acts o s t config me new taken k =
     record {
       ids = λ b h off. either b off (said_body acts o b h) ∙ ap (λ c. Some (configuration_id c)) (sym config);
       asked = λ b v h.
-          let r = accepted b v (said_body acts o _ (subst (λ c. Said (push acts o) (Accepted (configuration_id c) b v)) config h)) in
-          (r.0, subst (λ c. In (Rattle.rapid_safety.proofs.Atoms.taken_in t.me (push acts o)) (message r.0 (Accept (configuration_id c) b v))) (sym config)
-          (subst (λ x. In (Rattle.rapid_safety.proofs.Atoms.taken_in x (push acts o)) (message r.0 (Accept (current_id s) b v))) (sym me) (taken_more s.me acts o _ r.1)));
+          let r = accepted b v (said_body acts o _ (subst (λ c. Said (push acts o) (Accepted (configuration_id c) b v)) config h)) in (
+            r.0,
+            subst (λ c. In (Rattle.rapid_safety.proofs.Atoms.taken_in t.me (push acts o)) (message r.0 (Accept (configuration_id c) b v))) (sym config)
+                (subst (λ x. In (Rattle.rapid_safety.proofs.Atoms.taken_in x (push acts o)) (message r.0 (Accept (current_id s) b v))) (sym me) (taken_more s.me acts o _ r.1)),
+          );
     }
   where
     either : (b : Body) → (IsAside b → ⊥) → Said acts b ⊎ (body_of o ≡ Some b) → caught_up_by b ≡ Some (current_id s)

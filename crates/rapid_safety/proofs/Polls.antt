@@ -361,7 +361,6 @@ module _ (members : List Process) (distinct : Distinct members) (d : Coordinator
       quorum : (n q l : ℕ) → q ≡ l → l ≡ classic_size n → n < 2 * q
       quorum n q l h g = omega arith
 
-
   reported_in : (x : Vote Cut) (r : IsReported members (in_poll rs) (report rs) x) → In rs (r.who, Some x)
   reported_in x r = by (lookup rs r.who) refl r.inside r.says
     where
@@ -489,11 +488,11 @@ module _ (members : List Process) (distinct : Distinct members) (d : Coordinator
             (free t top several
             (none_forced members (in_poll rs) (report rs) t (λ w a. is_vote_at (Some t) w (report rs a)) classic (λ w a m q. vote_is t w (report rs a))
             (λ w r.
-                let c = top_counted t w at r in
-                let i = subst (λ es. In es (w, c.0)) e (entry_of w c.0 c.1) in
-                let off = none_found (λ (z : Cut × ℕ). is_forced d.size (set.len d.heard) z.1) (x ∷ y ∷ ys) (w, c.0) f i in
-                let test : nat_le (fast_size (length members) + size members (in_poll rs)) (c.0 + length members) ≡ false = subst (λ n. nat_le (fast_size n + size members (in_poll rs)) (c.0 + n) ≡ false) size_is (subst (λ q. nat_le (fast_size d.size + q) (c.0 + d.size) ≡ false) promised_is off) in
-                subst (λ n. n < fast_size (length members) + size members (in_poll rs) - length members) (sym (says_count t w at ∙ ap (λ o. unwrap_or o 0) c.1)) (falls (length members) (size members (in_poll rs)) c.0 test)))
+            let c = top_counted t w at r in
+            let i = subst (λ es. In es (w, c.0)) e (entry_of w c.0 c.1) in
+            let off = none_found (λ (z : Cut × ℕ). is_forced d.size (set.len d.heard) z.1) (x ∷ y ∷ ys) (w, c.0) f i in
+            let test : nat_le (fast_size (length members) + size members (in_poll rs)) (c.0 + length members) ≡ false = subst (λ n. nat_le (fast_size n + size members (in_poll rs)) (c.0 + n) ≡ false) size_is (subst (λ q. nat_le (fast_size d.size + q) (c.0 + d.size) ≡ false) promised_is off) in
+            subst (λ n. n < fast_size (length members) + size members (in_poll rs) - length members) (sym (says_count t w at ∙ ap (λ o. unwrap_or o 0) c.1)) (falls (length members) (size members (in_poll rs)) c.0 test)))
             (top_ok t x.0 several rx))
 
     -- what the promises allow is safe
