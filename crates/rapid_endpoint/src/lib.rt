@@ -14,6 +14,7 @@ mod process;
 mod process_id;
 
 pub use endpoint::Endpoint;
+pub use endpoint_text::endpoints_have_one_spelling;
 pub use parse_error::ParseError;
 pub use process::Process;
 pub use process_id::ProcessId;

@@ -200,6 +200,11 @@ fn processes_are_ordered_by_identifier_first(rt: HostRuntime) {
 }
 
 #[test]
+fn the_law_of_texts_can_be_called() {
+    crate::endpoints_have_one_spelling();
+}
+
+#[test]
 fn errors_have_numbers(rt: HostRuntime) {
     assert_eq!(rt; ParseError::NotFourParts.code(), 1);
     assert_eq!(rt; ParseError::PartRange.code(), 2);
