@@ -1,5 +1,5 @@
 // Worked cases of the fast round, and growths that are refused.
-use crate::{CutCounts, FastRound, HearError, PositionSet, fast_size};
+use crate::{FastRound, HearError, PositionSet, fast_size};
 use rapid_config::{ConfigError, Cut};
 use rapid_endpoint::{Endpoint, Process, ProcessId};
 use std::alloc::Global;
@@ -101,18 +101,4 @@ fn positions(rt: HostRuntime) {
     let copy = positions.copy();
     assert_eq!(rt; copy.len(), 2);
     assert!(rt; copy.contains(1023) && !copy.contains(65));
-}
-
-#[test]
-fn counters(rt: HostRuntime) -> Result<(), Fail> {
-    let x = cut(rt.alloc(), 6)?;
-    let mut counts = CutCounts::new(rt.alloc());
-    assert_eq!(rt; counts.count(&x), 0);
-    counts.add(&x)?;
-    let copy = counts.try_copy()?;
-    counts.clear();
-    assert_eq!(rt; copy.count(&x), 1);
-    assert_eq!(rt; counts.count(&x), 0);
-    assert_eq!(rt; copy.entries().len(), 1);
-    Ok(())
 }
