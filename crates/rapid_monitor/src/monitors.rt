@@ -29,7 +29,11 @@ impl Model for Monitors {
 }
 
 /// An edge for each ring that these pairs name.
-fn fresh_slots(alloc: Global, rings: u8, subjects: &[(u8, Process)]) -> Result<Vec<Option<Edge>>, AllocError>
+fn fresh_slots(
+    alloc: Global,
+    rings: u8,
+    subjects: &[(u8, Process)],
+) -> Result<Vec<Option<Edge>>, AllocError>
     ensures { IfOk result (λ slots. slots.items ≡ map (slot_for subjects.now) (range_with_len 0 rings)) }
 {
     let mut slots = Vec::with_capacity(alloc, usize::from(rings))?;
@@ -40,7 +44,11 @@ fn fresh_slots(alloc: Global, rings: u8, subjects: &[(u8, Process)]) -> Result<V
 }
 
 /// An edge, where a pair names the ring.
-fn fresh_slot(alloc: Global, ring: u8, subjects: &[(u8, Process)]) -> Result<Option<Edge>, AllocError>
+fn fresh_slot(
+    alloc: Global,
+    ring: u8,
+    subjects: &[(u8, Process)],
+) -> Result<Option<Edge>, AllocError>
     ensures { IfOk result (λ slot. slot ≡ slot_for subjects.now ring) }
 {
     if is_named(ring, subjects) {

@@ -55,14 +55,19 @@ fn a_copy_goes_on_by_itself(rt: HostRuntime) -> Result<(), Fail> {
 fn process(number: u8) -> Process {
     let mut bytes = [0; 16];
     bytes[15] = number;
-    Process::new(ProcessId::new(bytes), Endpoint::new([127, 0, 0, 1], u16::from(number)))
+    Process::new(
+        ProcessId::new(bytes),
+        Endpoint::new([127, 0, 0, 1], u16::from(number)),
+    )
 }
 
 #[test]
 fn the_edges_of_a_member_are_probed_by_ring(rt: HostRuntime) -> Result<(), Fail> {
     let params = Params::new(3, 3, 1).ok().ok_or("parameters")?;
     let pair = [process(1), process(2)];
-    let configuration = Configuration::seed(rt.alloc(), params, &pair).ok().ok_or("a configuration")?;
+    let configuration = Configuration::seed(rt.alloc(), params, &pair)
+        .ok()
+        .ok_or("a configuration")?;
     let rings = Rings::new(rt.alloc(), &configuration)?;
     let mut monitors = Monitors::new(rt.alloc(), &rings, &process(1))?;
     for _ in 0..3 {

@@ -8,9 +8,9 @@ pub returns-clause-so_far : goal.returns-clause-so_far
 returns-clause-so_far c oks is =
     let within : c.from-place.result < length c.self.inside.edges.items = omega arith in
     slot_so_far c.index_mut.result.now c.args.ok oks c.probe_slot.result c.probe_slot.ensures.verdict (
-      c.index_mut.ensures.value
-      ∙ sym (slot_at c.self.inside.edges.items c.from-place.result c.index_mut.result.now within)
-      ∙ ap (λ k. edge_at c.self.inside.edges.items k) c.from-place.ensures
-      ∙ ap (λ (m : List (Option Edge)). edge_at m c.args.ring) c.self.view_is
-      ∙ is
+    c.index_mut.ensures.value
+    ∙ sym (slot_at c.self.inside.edges.items c.from-place.result c.index_mut.result.now within)
+    ∙ ap (λ k. edge_at c.self.inside.edges.items k) c.from-place.ensures
+    ∙ ap (λ (m : List (Option Edge)). edge_at m c.args.ring) c.self.view_is
+    ∙ is
     )
