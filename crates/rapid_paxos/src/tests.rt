@@ -1,10 +1,12 @@
 // Worked cases of classic recovery, and growths that are refused.
 use crate::{
-    Acceptor, AcceptorError, Ballot, Coordinator, Learner, Promise, RoundsUsed, classic_size,
+    Accept, Acceptor, AcceptorError, Ballot, Coordinator, Learner, Promise, RoundsUsed,
+    classic_size,
 };
 use rapid_config::Cut;
 use rapid_endpoint::{Endpoint, Process, ProcessId};
 use std::alloc::Global;
+use std::process::Abort;
 use std::test::Fail;
 
 /// The process with the number n: the identifier n, and the endpoint 127.0.0.1:n.
@@ -33,12 +35,93 @@ fn promise(alloc: Global, ballot: Ballot, vote: Option<u8>) -> Result<Promise, F
     Ok(Promise { ballot, vote })
 }
 
+/// What the coordinator of so many members asks for, where these promises come in turn.
+fn asked(
+    rt: &impl Abort,
+    alloc: Global,
+    size: usize,
+    votes: &[Option<u8>],
+    own: Option<u8>,
+) -> Result<Option<Cut>, Fail> {
+    assert!(rt; 1 <= size && size <= 9);
+    let own = match own {
+        Some(n) => Some(cut(alloc, n)?),
+        None => None,
+    };
+    let mut coordinator = Coordinator::new(alloc, size, 0);
+    let Ok(ballot) = coordinator.begin(Ballot::FAST) else {
+        return Ok(None);
+    };
+    let mut answer = None;
+    for (position, vote) in votes.iter().enumerate() {
+        assert!(rt;
+            position < size && answer.is_none(),
+            "nothing is asked before the quorum"
+        );
+        let promise = promise(alloc, ballot, *vote)?;
+        answer = coordinator.hear_promise(position, &promise, own.as_ref())?;
+    }
+    Ok(answer.map(|accept: Accept| accept.cut))
+}
+
 #[test]
 fn sizes(rt: HostRuntime) {
     for (n, size) in [(1, 1), (2, 2), (3, 2), (4, 3), (5, 3), (8, 5), (9, 5)] {
         assert!(rt; n <= 1024);
         assert_eq!(rt; classic_size(n), size, "of {n}");
     }
+}
+
+/// Fast votes for x = {P(6)} and y = {P(7)}, and which of them the coordinator asks for.
+#[test]
+fn values(rt: HostRuntime) -> Result<(), Fail> {
+    let x = Some(6);
+    let y = Some(7);
+    let alloc = rt.alloc();
+    let cases = [
+        (
+            8,
+            [x, x, x, x, y],
+            None,
+            x,
+            "four of five are forced among eight",
+        ),
+        (
+            8,
+            [y, y, y, x, x],
+            None,
+            x,
+            "none is forced: the least by its bytes",
+        ),
+        (
+            9,
+            [y, y, y, x, x],
+            None,
+            y,
+            "three of five are forced among nine",
+        ),
+        (
+            9,
+            [y, y, x, x, None],
+            None,
+            x,
+            "two are not forced among nine",
+        ),
+        (8, [y, None, None, None, y], x, y, "the only cut reported"),
+    ];
+    for (size, votes, own, want, why) in cases {
+        let want = match want {
+            Some(n) => Some(cut(alloc, n)?),
+            None => None,
+        };
+        assert!(rt; asked(&rt, alloc, size, &votes, own)? == want, "{why}");
+    }
+    let only_x = asked(&rt, alloc, 5, &[x, None, None], None)?;
+    assert!(rt; only_x == Some(cut(alloc, 6)?));
+    let own_y = asked(&rt, alloc, 5, &[None, None, None], y)?;
+    assert!(rt; own_y == Some(cut(alloc, 7)?));
+    assert!(rt; asked(&rt, alloc, 5, &[None, None, None], None)?.is_none());
+    Ok(())
 }
 
 #[test]
