@@ -1,0 +1,69 @@
+-- Messages as the definitions see them.
+use Rattle.std.specs.Prelude.{◌≡◌, ◌≤◌, ℕ, List, length, map, All}
+use Rattle.rapid_model.specs.Process.{Process}
+use Rattle.rapid_model.specs.Alert.{Alert}
+use Rattle.rapid_model.specs.Ballot.{IsClassicBallot}
+use Rattle.rapid_model.specs.Message as model
+use Rattle.rapid_paxos.specs.Reported.{last_of}
+use Rattle.rapid_node.specs.declared.answer.Answer.{Answer}
+use Rattle.rapid_node.specs.declared.answer.Answer.TheVariants.{Safe, EndpointInUse, ConfigurationChanged, TooManyJoiners}
+use Rattle.rapid_node.specs.declared.message.Body.{Body}
+use Rattle.rapid_node.specs.declared.message.Body.TheVariants.{Batch, FastVote, Prepare, Promise, Accept, Accepted, Decision, PreJoin, Reply, JoinRequest, Confirm, Probe, ProbeAck}
+
+-- An answer.
+abbrev pub answer_of : Answer → model.Answer
+answer_of (Safe id os) = model.Safe id os
+answer_of EndpointInUse = model.EndpointInUse
+answer_of ConfigurationChanged = model.ConfigurationChanged
+answer_of TooManyJoiners = model.TooManyJoiners
+
+-- The number of an answer.
+abbrev pub answer_code : model.Answer → ℕ
+answer_code (model.Safe id os) = 1
+answer_code model.EndpointInUse = 2
+answer_code model.ConfigurationChanged = 3
+answer_code model.TooManyJoiners = 4
+
+-- What a message says.
+abbrev pub body_of : Body → model.Body
+body_of (Batch id xs) = model.Batch id (map model.item_of xs)
+body_of (FastVote id v) = model.FastVote id v
+body_of (Prepare id b) = model.Prepare id b
+body_of (Promise id b vote) = model.Promise id b (last_of vote)
+body_of (Accept id b v) = model.Accept id b v
+body_of (Accepted id b v) = model.Accepted id b v
+body_of (Decision id v) = model.Decision id v
+body_of PreJoin = model.PreJoin
+body_of (Reply j a) = model.Reply j (answer_of a)
+body_of (JoinRequest id k) = model.JoinRequest id k
+body_of (Confirm c) = model.Confirm c
+body_of (Probe id) = model.Probe id
+body_of (ProbeAck id) = model.ProbeAck id
+
+-- The alert is of this observer and for this configuration.
+abbrev pub IsFrom : Process → List ℕ → Alert → Type 0
+IsFrom observer id a = (a.observer ≡ observer) × (a.config ≡ id)
+
+-- This can be answered: the answer Safe names an observer.
+abbrev pub CanAnswer : Answer → Type 0
+CanAnswer (Safe id os) = 1 ≤ length os
+CanAnswer EndpointInUse = Unit {0}
+CanAnswer ConfigurationChanged = Unit {0}
+CanAnswer TooManyJoiners = Unit {0}
+
+-- The process can say this: a batch has its own alerts for the configuration that it names, and what is asked, promised
+-- or accepted after a Prepare is at a classic ballot.
+abbrev pub CanSay : Process → Body → Type 0
+CanSay sender (Batch id xs) = All (IsFrom sender id) xs
+CanSay sender (FastVote id v) = Unit {0}
+CanSay sender (Prepare id b) = IsClassicBallot b
+CanSay sender (Promise id b vote) = IsClassicBallot b
+CanSay sender (Accept id b v) = IsClassicBallot b
+CanSay sender (Accepted id b v) = IsClassicBallot b
+CanSay sender (Decision id v) = Unit {0}
+CanSay sender PreJoin = Unit {0}
+CanSay sender (Reply j a) = CanAnswer a
+CanSay sender (JoinRequest id k) = Unit {0}
+CanSay sender (Confirm c) = Unit {0}
+CanSay sender (Probe id) = Unit {0}
+CanSay sender (ProbeAck id) = Unit {0}
