@@ -18,7 +18,7 @@ use Rattle.rapid_safety.proofs.Polls.{Distinct}
 use Rattle.rapid_safety.proofs.Lived.{lived_run, not_below_itself}
 use Rattle.rapid_safety.proofs.Spoken.{took_said}
 use Rattle.rapid_safety.proofs.Asides.{Asides, asides_run}
-use Rattle.rapid_safety.proofs.Present.{present_run, WasInstalled}
+use Rattle.rapid_safety.proofs.Present.{present_run, WasInstalled, was_installed}
 use Rattle.rapid_safety.proofs.Rules.{keeps_rules}
 use Rattle.rapid_safety.proofs.StepLemmas.{run_keeps, log_grows}
 
@@ -59,7 +59,7 @@ pub founding_keeps_rules : (c : Configuration) (es : List MarkedEvent) → AreMe
 unfolding Asides
 founding_keeps_rules c es are some apart =
     let f = founding_installed c es some in
-    keeps_rules (run es (founded c)) (lived_run c es are) (took_said c es) (asides_run c es) (present_run c es are).at apart c f.0 f.1 f.2 (founders_differ c.members are.identifiers)
+    keeps_rules (run es (founded c)) (lived_run c es are) (took_said c es) (asides_run c es) (λ e d h is. was_installed _ e.who d ((present_run c es are).at e d h is)) apart c f.0 f.1 f.2 (founders_differ c.members are.identifiers)
 
 pub founding_chooses_once : (c : Configuration) (es : List MarkedEvent) → AreMembers c.members → 1 ≤ length c.members → NoCollision (run es (founded c)) → (v u : Cut) → Chosen (run es (founded c)) c v → Chosen (run es (founded c)) c u → v ≡ u
 founding_chooses_once c es are some apart v u h g = one_chosen c.members (said_about (run es (founded c)) c) (founding_keeps_rules c es are some apart) h.0 g.0 v u h.1 g.1
