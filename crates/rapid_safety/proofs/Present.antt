@@ -110,7 +110,7 @@ moves_present w lived rises i p before e o comes h k = by p.node.phase refl
     by (Removed d) at = λ c m. let is : member_in o.node ≡ None = ap member_in (removed_stays p.node d e o at h) ∙ ap member_config at in let z : None ≡ Some c = sym is ∙ m in cc
     by (Halted d) at = λ c m. let is : member_in o.node ≡ None = ap member_in (halted_stays p.node d e o at h) ∙ ap member_config at in let z : None ≡ Some c = sym is ∙ m in cc
 
-present_kept : (w v : World) → Steps w v → Lived w → Nodes Rises w → Present w → Present v
+pub present_kept : (w v : World) → Steps w v → Lived w → Nodes Rises w → Present w → Present v
 present_kept w _ stays lived rises k = k
 present_kept w _ (starts p seed r) lived rises k =
     record {
@@ -137,7 +137,7 @@ get_in [] i x h = cc
 get_in (y ∷ ys) Rattle.std.proofs.Common.zero x h = inl (cc)
 get_in (y ∷ ys) (Rattle.std.proofs.Common.suc i) x h = inr (get_in ys i x h)
 
-present_founded : (c : Configuration) → Present (founded c)
+pub present_founded : (c : Configuration) → Present (founded c)
 unfolding fresh_member
 present_founded c =
     record {
