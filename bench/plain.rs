@@ -1,4 +1,5 @@
-//! The same work in plain Rust, as something to measure against: each figure is printed as `NAME NANOSECONDS`, for one unit of work.
+//! The same work in plain Rust, as something to measure against: each figure is printed as `NAME NUMBER`, in nanoseconds for one unit of
+//! work or in bytes.
 use std::collections::BTreeMap;
 use std::hint::black_box;
 use std::time::Instant;
@@ -162,14 +163,37 @@ impl FastRound {
     }
 }
 
-/// Prints the time of one unit of work, of which each run does so many.
-fn measure(name: &str, units: u32, runs: u32, mut work: impl FnMut()) {
+/// Prints how many nanoseconds one unit of the work takes, of which each run does so many, in the fastest of so many runs.
+fn measure(name: &str, units: u128, runs: u32, mut work: impl FnMut()) {
     work();
-    let start = Instant::now();
+    let mut least = u128::MAX;
     for _ in 0..runs {
+        let start = Instant::now();
         work();
+        least = least.min(start.elapsed().as_nanos());
     }
-    println!("{name} {}", start.elapsed().as_nanos() / u128::from(runs * units));
+    println!("{name} {}", least / units);
+}
+
+/// How many bytes of memory the process holds.
+fn held() -> u64 {
+    let statm = std::fs::read_to_string("/proc/self/statm").unwrap();
+    statm.split_whitespace().nth(1).unwrap().parse::<u64>().unwrap() * 4096
+}
+
+/// Prints how many bytes a fast round of 1,024 members holds after the vote of each, for these cuts in turn.
+fn measure_bytes(name: &str, cuts: &[Vec<Process>]) {
+    const ROUNDS: u64 = 1000;
+    let mut rounds = Vec::with_capacity(ROUNDS as usize);
+    let before = held();
+    for _ in 0..ROUNDS {
+        let mut round = FastRound { size: 1024, heard: [0; 16], counts: BTreeMap::new() };
+        for (position, cut) in (0..1024).zip(cuts.iter().cycle()) {
+            black_box(round.hear(position, cut));
+        }
+        rounds.push(round);
+    }
+    println!("{name} {}", (held() - before) / ROUNDS);
 }
 
 fn main() {
@@ -194,4 +218,7 @@ fn main() {
             }
         });
     }
+    let cuts: Vec<Vec<Process>> = (1..=1024).map(|first| (first..first + 10).map(process).collect()).collect();
+    measure_bytes("round_bytes_one_cut", &cuts[..1]);
+    measure_bytes("round_bytes_own_cuts", &cuts);
 }

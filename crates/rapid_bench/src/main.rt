@@ -1,0 +1,32 @@
+//! Measures the calls that a member makes most. `bench/plain.rs` does the same work in plain Rust, and `bench/README.md`
+//! has the figures of both.
+#![tactic(auto)]
+
+mod figure;
+mod members;
+mod memory;
+mod votes;
+
+use anyhow::{Result, bail};
+use std::env;
+
+/// What is printed where no word names a figure.
+const USAGE: &str = "rapid_bench WORD.. prints figures, a line each: NAME, a space, a number.
+  votes     nanoseconds of a vote among 1,024 members, for cuts of 1, 10 and 100 processes
+  memory    bytes of a fast round after 1,024 votes, for one cut and for a cut each";
+
+fn main(rt: HostRuntime) -> Result<()> {
+    let alloc = rt.alloc();
+    let words: Vec<String> = env::args(&rt)?.collect(alloc)?;
+    if words.len() < 2 {
+        println!(rt; "{USAGE}")?;
+    }
+    for word in words.iter().skip(1) {
+        match word.as_str() {
+            "votes" => votes::print(&rt, alloc)?,
+            "memory" => memory::print(&rt, alloc)?,
+            other => bail!("no figure is called {other}"),
+        }
+    }
+    Ok(())
+}
