@@ -38,7 +38,7 @@ move_present w v m c k h = come_member w m.place m.peer m.before m.event c m.com
 
 -- ---- Confirms
 
-pub Confirmed : World → Type 0
+unfoldable pub Confirmed : World → Type 0
 Confirmed w = (e : Entry) (to : Destination) (c : Configuration) → In w.log e → e.act ≡ Did (Says to (Confirm c)) → InstalledBy w.log e.who c
 
 pub confirmed_kept : (w v : World) → Steps w v → Present w → Confirmed w → Confirmed v

@@ -1,0 +1,5 @@
+use Rattle.rapid_safety.proofs.Installed.{accepts_are_lawful as law}
+use Rattle.rapid_safety.proofs.accepts_are_lawful.Goals as goal
+
+pub returns : goal.returns
+returns c = law

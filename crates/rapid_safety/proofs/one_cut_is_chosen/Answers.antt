@@ -1,0 +1,5 @@
+use Rattle.rapid_safety.proofs.Installed.{one_cut_is_chosen as law}
+use Rattle.rapid_safety.proofs.one_cut_is_chosen.Goals as goal
+
+pub returns : goal.returns
+returns c = law
