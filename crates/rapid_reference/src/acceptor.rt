@@ -1,0 +1,124 @@
+// The acceptor as lists of what it promised and of its votes.
+use crate::cuts::{Cuts, NUMBERS, Number, number_of};
+use anyhow::{Context, Result, bail};
+use rapid_paxos::{Acceptor, AcceptorError, Ballot};
+use std::alloc::Global;
+
+/// How many calls a sequence has.
+const LENGTH: usize = 4;
+
+/// How many sequences there are: each call is a fast vote, a promise or an accept, for one of two cuts, at one of two
+/// ballots.
+const SEQUENCES: usize = 20_736;
+
+/// A vote at a ballot.
+type Vote = (Ballot, Number);
+
+/// What was promised, and every vote in turn.
+#[derive(Drop)]
+struct BallotList {
+    promised: Vec<Ballot>,
+    votes: Vec<Vote>,
+}
+
+impl BallotList {
+    /// The highest ballot promised or voted at, or the fast one.
+    fn rnd(&self) -> Ballot {
+        let promised = self.promised.iter().max().copied().unwrap_or(Ballot::FAST);
+        let voted = self
+            .votes
+            .iter()
+            .map(|vote| vote.0)
+            .max()
+            .unwrap_or(Ballot::FAST);
+        promised.max(voted)
+    }
+
+    fn promise(&mut self, ballot: Ballot) -> Result<Result<Option<Vote>, AcceptorError>> {
+        if ballot <= self.rnd() {
+            return Ok(Err(AcceptorError::Promised(self.rnd())));
+        }
+        self.promised.push(ballot)?;
+        Ok(Ok(self.votes.last().copied()))
+    }
+
+    fn accept(&mut self, ballot: Ballot, number: Number) -> Result<Result<(), AcceptorError>> {
+        if ballot < self.rnd() {
+            return Ok(Err(AcceptorError::Promised(self.rnd())));
+        }
+        if self.votes.iter().any(|vote| vote.0 == ballot) {
+            return Ok(Err(AcceptorError::AlreadyVoted));
+        }
+        self.votes.push((ballot, number))?;
+        Ok(Ok(()))
+    }
+}
+
+/// Makes one call, and answers whether it cast a vote.
+fn call(
+    acceptor: &mut Acceptor,
+    list: &mut BallotList,
+    cuts: &Cuts,
+    ballot: Ballot,
+    number: Number,
+    kind: usize,
+) -> Result<bool> {
+    if kind == 1 {
+        let answer = acceptor.promise(ballot).map(|promise| promise
+            .vote
+            .map(|(voted, cut)| (voted, number_of(&cut))));
+        let expected = list.promise(ballot)?;
+        if answer != expected {
+            bail!("the promise of {ballot:?} is {answer:?} and not {expected:?}");
+        }
+        return Ok(false);
+    }
+    let (answer, expected) = if kind == 0 {
+        let expected = list.accept(Ballot::FAST, number)?;
+        (acceptor.fast_vote(cuts.of(number)), expected)
+    } else {
+        let expected = list.accept(ballot, number)?;
+        (acceptor.accept(ballot, cuts.of(number)), expected)
+    };
+    if answer != expected {
+        bail!("a vote is answered {answer:?} and not {expected:?}");
+    }
+    Ok(answer.is_ok())
+}
+
+/// Tries one sequence at these two ballots, and answers how many votes were cast in it.
+fn try_one(alloc: Global, cuts: &Cuts, ballots: [Ballot; 2], sequence: usize) -> Result<usize> {
+    let mut acceptor = Acceptor::new(alloc);
+    let mut list = BallotList {
+        promised: Vec::new(alloc),
+        votes: Vec::new(alloc),
+    };
+    let mut rest = sequence;
+    let mut votes: usize = 0;
+    for _ in 0..LENGTH {
+        let number = NUMBERS[rest % 2];
+        let ballot = ballots[rest / 2 % 2];
+        let voted = call(&mut acceptor, &mut list, cuts, ballot, number, rest / 4 % 3)?;
+        if acceptor.rnd() != list.rnd() {
+            bail!(
+                "acceptor, sequence {sequence}: {:?} and not {:?}",
+                acceptor.rnd(),
+                list.rnd()
+            );
+        }
+        votes = votes.saturating_add(usize::from(voted));
+        rest /= 12;
+    }
+    Ok(votes)
+}
+
+/// Tries every sequence, and answers how many votes were cast.
+pub fn compare(alloc: Global, cuts: &Cuts) -> Result<usize> {
+    let low = Ballot::classic(2, 1).context("a classic ballot")?;
+    let high = Ballot::classic(3, 0).context("a classic ballot")?;
+    let mut votes: usize = 0;
+    for sequence in 0..SEQUENCES {
+        votes = votes.saturating_add(try_one(alloc, cuts, [low, high], sequence)?);
+    }
+    Ok(votes)
+}

@@ -1,0 +1,51 @@
+// The two cuts that are voted for.
+use anyhow::Result;
+use rapid_config::Cut;
+use rapid_endpoint::{Endpoint, Process, ProcessId};
+use std::alloc::Global;
+
+/// A cut of one process, by the number of the process: 6 or 7.
+pub type Number = u16;
+
+/// Both numbers, which ascend as their cuts do.
+pub const NUMBERS: [Number; 2] = [6, 7];
+
+/// The cuts of both numbers.
+#[derive(Drop)]
+pub struct Cuts {
+    six: Cut,
+    seven: Cut,
+}
+
+/// The cut of the process with this number: the identifier n, and the endpoint 127.0.0.1:n.
+fn cut(alloc: Global, n: Number) -> Result<Cut> {
+    let [high, low] = n.to_be_bytes();
+    let mut id = [0; 16];
+    id[14] = high;
+    id[15] = low;
+    let mut processes = Vec::new(alloc);
+    processes.push(Process::new(ProcessId::new(id), Endpoint::new([127, 0, 0, 1], n)))?;
+    Ok(Cut::new(processes)?)
+}
+
+impl Cuts {
+    pub fn new(alloc: Global) -> Result<Cuts> {
+        Ok(Cuts {
+            six: cut(alloc, 6)?,
+            seven: cut(alloc, 7)?,
+        })
+    }
+
+    /// The cut of the number 6 or 7.
+    pub fn of(&self, number: Number) -> &Cut {
+        if number == 6 { &self.six } else { &self.seven }
+    }
+}
+
+/// The number of a cut's first process.
+pub fn number_of(cut: &Cut) -> Number {
+    match cut.processes() {
+        [] => 0,
+        [first, ..] => first.endpoint().port(),
+    }
+}
