@@ -1,3 +1,4 @@
 pub mod Pieces
 pub mod Bodies
 pub mod Frames
+pub mod Joined

@@ -3,6 +3,13 @@
 
 ghost use Rattle.rapid_wire.specs.Laws.{NoFrameBeginsAnother, EveryMessageFits};
 
+mod encoding;
+mod numbers;
+mod told;
+mod writing;
+
+pub use encoding::encode;
+
 /// No frame is the beginning of another, and no two messages have one frame.
 pub fn no_frame_begins_another()
     ensures { NoFrameBeginsAnother }

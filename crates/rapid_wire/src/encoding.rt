@@ -1,0 +1,37 @@
+// Messages as frames.
+
+ghost use Rattle.std.specs.Prelude.{◌≡◌, ◌++◌, IfOk, OnOk};
+ghost use Rattle.rapid_model.specs.Frame.{IsFrame, payload};
+
+use crate::numbers::write_length;
+use crate::told::tell_message;
+use crate::writing::{kind_of_body, put_body};
+use rapid_node::Message;
+use std::alloc::{AllocError, Global};
+
+/// The version of the format.
+pub(crate) const VERSION: u8 = 1;
+
+/// Version, kind, sender and body.
+fn put_payload(alloc: Global, out: &mut Vec<u8>, message: &Message) -> Result<(), AllocError>
+    ensures { OnOk result (out.new.items ≡ out.old.items ++ payload message.now) }
+{
+    let body = message.body();
+    out.extend_from_slice(&[VERSION, kind_of_body(body)])?;
+    out.extend_from_slice(&message.sender().to_bytes())?;
+    put_body(alloc, out, body)
+}
+
+/// The frame of a message: the length of what follows in four bytes, high byte first, then the version
+/// of the format, the message's kind, its sender and its body. It is the one spelling of the message.
+pub fn encode(alloc: Global, message: &Message) -> Result<Vec<u8>, AllocError>
+    ensures { IfOk result (λ bytes. IsFrame bytes.items message.now) }
+{
+    tell_message(message);
+    let mut frame = Vec::new(alloc);
+    frame.extend_from_slice(&[0; 4])?;
+    put_payload(alloc, &mut frame, message)?;
+    let length = frame.len() - 4;
+    write_length(frame.as_mut_slice(), length as u32);
+    Ok(frame)
+}

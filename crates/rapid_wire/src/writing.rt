@@ -1,0 +1,204 @@
+// How the parts of frames are written. Each function adds the bytes of one part.
+
+ghost use Rattle.std.specs.Prelude.{◌≡◌, ◌++◌, ◌≤◌, length, map, OnOk};
+ghost use Rattle.std.specs.List.{concat};
+ghost use Rattle.rapid_model.specs.Cut.{cut_bytes};
+ghost use Rattle.rapid_model.specs.Message.{item_of};
+ghost use Rattle.rapid_model.specs.Frame.{kind_byte, item_bytes, ballot_bytes, report_bytes, answer_bytes, body_bytes, kind_number};
+ghost use Rattle.std.specs.Int.{w16, to_be_bytes};
+ghost use Rattle.rapid_alerts.specs.Alerts.{alert_of, kind_of};
+ghost use Rattle.rapid_paxos.specs.Reported.{last_of};
+ghost use Rattle.rapid_node.specs.Bodies.{answer_of, body_of};
+
+use crate::numbers::two_bytes;
+use rapid_alerts::{Alert, Kind};
+use rapid_config::{ConfigId, Cut};
+use rapid_endpoint::Process;
+use rapid_node::{Answer, Batch, Body};
+use rapid_paxos::Ballot;
+use std::alloc::{AllocError, Global};
+
+/// An identifier of a configuration.
+fn put_id(out: &mut Vec<u8>, id: &ConfigId) -> Result<(), AllocError>
+    ensures { OnOk result (out.new.items ≡ out.old.items ++ id.now) }
+{
+    out.extend_from_slice(&id.bytes())
+}
+
+/// Processes, one after another.
+fn put_processes(out: &mut Vec<u8>, processes: &[Process]) -> Result<(), AllocError>
+    ensures { OnOk result (out.new.items ≡ out.old.items ++ concat processes.now) }
+{
+    for process in processes {
+        out.extend_from_slice(&process.to_bytes())?;
+    }
+    Ok(())
+}
+
+/// A cut: the number of its processes, then each.
+fn put_cut(out: &mut Vec<u8>, cut: &Cut) -> Result<(), AllocError>
+    ensures { OnOk result (out.new.items ≡ out.old.items ++ cut_bytes cut.now) }
+{
+    let processes = cut.processes();
+    let count = processes.len() as u16;
+    out.extend_from_slice(&two_bytes(count))?;
+    put_processes(out, processes)
+}
+
+/// A ballot: its round in one byte, its position in two.
+fn put_ballot(out: &mut Vec<u8>, ballot: &Ballot) -> Result<(), AllocError>
+    ensures { OnOk result (out.new.items ≡ out.old.items ++ ballot_bytes ballot.now) }
+{
+    let position = ballot.position() as u16;
+    out.push(ballot.round())?;
+    out.extend_from_slice(&two_bytes(position))
+}
+
+/// The byte of a kind.
+fn byte_of_kind(kind: Kind) -> u8
+    ensures { result ≡ kind_byte (kind_of kind) }
+{
+    match kind {
+        Kind::Remove => 1,
+        Kind::Join => 2,
+    }
+}
+
+/// An alert of a batch.
+fn put_alert(out: &mut Vec<u8>, alert: &Alert) -> Result<(), AllocError>
+    ensures { OnOk result (out.new.items ≡ out.old.items ++ item_bytes (item_of (alert_of alert.now))) }
+{
+    out.push(alert.ring)?;
+    out.push(byte_of_kind(alert.kind))?;
+    out.extend_from_slice(&alert.subject.to_bytes())
+}
+
+/// Alerts, one after another.
+fn put_alerts(out: &mut Vec<u8>, alerts: &[Alert]) -> Result<(), AllocError>
+    ensures { OnOk result (out.new.items ≡ out.old.items ++ concat (map item_bytes (map item_of (map alert_of alerts.now)))) }
+{
+    for alert in alerts {
+        put_alert(out, alert)?;
+    }
+    Ok(())
+}
+
+/// The number of a batch's alerts, then each.
+fn put_batch(out: &mut Vec<u8>, batch: &Batch) -> Result<(), AllocError>
+    ensures { OnOk result
+        (out.new.items ≡ out.old.items ++ (to_be_bytes w16 (length (map item_of batch.now)) ++ concat (map item_bytes (map item_of batch.now)))) }
+{
+    let alerts = batch.alerts();
+    let count = alerts.len() as u16;
+    out.extend_from_slice(&two_bytes(count))?;
+    put_alerts(out, alerts)
+}
+
+/// The vote that a promise reports, or none.
+fn put_report(out: &mut Vec<u8>, vote: &Option<(Ballot, Cut)>) -> Result<(), AllocError>
+    ensures { OnOk result (out.new.items ≡ out.old.items ++ report_bytes (last_of vote.now)) }
+{
+    match vote {
+        None => Ok(out.push(0)?),
+        Some((ballot, cut)) => {
+            out.push(1)?;
+            put_ballot(out, ballot)?;
+            put_cut(out, cut)
+        }
+    }
+}
+
+/// An answer to a joiner.
+fn put_answer(out: &mut Vec<u8>, answer: &Answer) -> Result<(), AllocError>
+    ensures { OnOk result (out.new.items ≡ out.old.items ++ answer_bytes (answer_of answer.now)) }
+{
+    match answer {
+        Answer::Safe(id, observers) => {
+            let processes = observers.as_slice();
+            let count = processes.len() as u8;
+            out.push(1)?;
+            put_id(out, id)?;
+            out.push(count)?;
+            put_processes(out, processes)
+        }
+        Answer::EndpointInUse => Ok(out.push(2)?),
+        Answer::ConfigurationChanged => Ok(out.push(3)?),
+        Answer::TooManyJoiners => Ok(out.push(4)?),
+    }
+}
+
+/// The number of a message's kind.
+pub(crate) fn kind_of_body(body: &Body) -> u8
+    ensures { result ≡ kind_number (body_of body.now) }
+{
+    match body {
+        Body::Batch(..) => 1,
+        Body::FastVote(..) => 2,
+        Body::Prepare(..) => 3,
+        Body::Promise(..) => 4,
+        Body::Accept(..) => 5,
+        Body::Accepted(..) => 6,
+        Body::Decision(..) => 7,
+        Body::PreJoin => 8,
+        Body::Reply(..) => 9,
+        Body::JoinRequest(..) => 10,
+        Body::Confirm(_) => 11,
+        Body::Probe(_) => 12,
+        Body::ProbeAck(_) => 13,
+    }
+}
+
+/// An identifier, a ballot and a cut.
+fn put_choice(
+    out: &mut Vec<u8>,
+    id: &ConfigId,
+    ballot: &Ballot,
+    cut: &Cut,
+) -> Result<(), AllocError>
+    ensures { OnOk result (out.new.items ≡ out.old.items ++ (id.now ++ ballot_bytes ballot.now ++ cut_bytes cut.now)) }
+{
+    put_id(out, id)?;
+    put_ballot(out, ballot)?;
+    put_cut(out, cut)
+}
+
+/// What follows the sender.
+pub(crate) fn put_body(alloc: Global, out: &mut Vec<u8>, body: &Body) -> Result<(), AllocError>
+    ensures { OnOk result (out.new.items ≡ out.old.items ++ body_bytes (body_of body.now)) }
+{
+    match body {
+        Body::Batch(id, batch) => {
+            put_id(out, id)?;
+            put_batch(out, batch)
+        }
+        Body::FastVote(id, cut) | Body::Decision(id, cut) => {
+            put_id(out, id)?;
+            put_cut(out, cut)
+        }
+        Body::Prepare(id, ballot) => {
+            put_id(out, id)?;
+            put_ballot(out, ballot)
+        }
+        Body::Promise(id, ballot, vote) => {
+            put_id(out, id)?;
+            put_ballot(out, ballot)?;
+            put_report(out, vote)
+        }
+        Body::Accept(id, ballot, cut) | Body::Accepted(id, ballot, cut) => {
+            put_choice(out, id, ballot, cut)
+        }
+        Body::PreJoin => Ok(()),
+        Body::Reply(joiner, answer) => {
+            out.extend_from_slice(&joiner.to_bytes())?;
+            put_answer(out, answer)
+        }
+        Body::JoinRequest(id, ring) => {
+            put_id(out, id)?;
+            Ok(out.push(*ring)?)
+        }
+        Body::Confirm(configuration) => {
+            out.extend_from_slice(configuration.to_bytes(alloc)?.as_slice())
+        }
+        Body::Probe(id) | Body::ProbeAck(id) => put_id(out, id),
+    }
+}
