@@ -1,0 +1,201 @@
+// The side of a member in a join.
+
+ghost use Rattle.std.specs.Prelude.{◌≡◌, map, IfOk, OnOk, OnErr};
+ghost use Rattle.std.specs.Arc.{arc_value};
+ghost use Rattle.std.specs.FinSet as set;
+ghost use Rattle.rapid_model.specs.Apply as apply;
+ghost use Rattle.rapid_model.specs.Host as model;
+ghost use Rattle.rapid_model.specs.Ring.{observers_of, observes};
+ghost use Rattle.rapid_join.specs.Answers.{host_answer_of, answered_of, safe_for};
+ghost use Rattle.rapid_join.specs.Hosts.{fresh_host};
+
+use crate::pending::PendingSet;
+use crate::{HostAnswer, Reply, RingObservers};
+use rapid_config::{ConfigId, Configuration};
+use rapid_endpoint::Process;
+use rapid_rings::{ObserverTable, Rings};
+use std::alloc::{AllocError, Global};
+use std::marker::Model;
+use std::sync::Arc;
+
+/// The side of a member in its configuration: it answers joiners, and keeps those that asked it as an observer until
+/// the next change. At most 512 are pending.
+#[derive(Debug, Drop)]
+pub struct Host {
+    configuration: Configuration,
+    rings: Arc<Rings, Global>,
+    me: Process,
+    pending: PendingSet,
+    alloc: Global,
+}
+
+impl Model for Host {
+    ghost use Rattle.std.specs.Prelude.{◌≡◌};
+    ghost use Rattle.std.specs.Arc.{arc_value};
+    ghost use Rattle.rapid_model.specs.JoinSides.{HostSide};
+    ghost use Rattle.rapid_join.specs.Hosts.{host_code};
+
+    ghost Value = { HostSide };
+
+    ghost coded = { host_code };
+
+    ghost view = { λ h. record { config = h.configuration; me = h.me; pending = h.pending } };
+
+    ghost invariant = { λ h. arc_value h.rings ≡ h.configuration };
+}
+
+impl Host {
+    /// The most joiners that can be pending.
+    pub const MOST: usize = 512;
+
+    /// The host of a member in a configuration, at which nobody is pending. It computes the rings of the configuration.
+    pub fn new(
+        alloc: Global,
+        configuration: &Configuration,
+        process: &Process,
+    ) -> Result<Host, AllocError>
+        ensures { IfOk result (λ host. host ≡ fresh_host configuration.now process.now) }
+    {
+        let rings = Arc::new(alloc, Rings::new(alloc, configuration)?)?;
+        Host::with_rings(alloc, configuration, &rings, process)
+    }
+
+    /// The host of a member in the configuration of these rings, which it shares; nobody is pending.
+    pub fn with_rings(
+        alloc: Global,
+        configuration: &Configuration,
+        rings: &Arc<Rings, Global>,
+        process: &Process,
+    ) -> Result<Host, AllocError>
+        requires { arc_value rings.now ≡ configuration.now }
+        ensures { IfOk result (λ host. host ≡ fresh_host configuration.now process.now) }
+    {
+        Ok(Host {
+            configuration: configuration.try_copy(alloc)?,
+            rings: Arc::try_clone(rings)?,
+            me: *process,
+            pending: PendingSet::new(alloc),
+            alloc,
+        })
+    }
+
+    /// A joiner's first question. The answer is the first of these that holds: `Confirm` of the configuration where
+    /// the joiner is a member, `EndpointInUse` where a member has its identifier or its endpoint, `TooManyJoiners`
+    /// where 512 others are pending here, else `Safe` with its observers by ring.
+    #[tactic(auto, unfolding(rapid_model::specs::Host::pre_join))]
+    pub fn pre_join(&self, joiner: &Process) -> Result<HostAnswer, AllocError>
+        ensures { IfOk result (λ answer. host_answer_of answer ≡ model.pre_join self.now.config self.now.pending joiner.now) }
+    {
+        if self.configuration.is_member(joiner) {
+            return self.confirm();
+        }
+        if self.collides(joiner) {
+            return Ok(HostAnswer::Reply(Reply::EndpointInUse));
+        }
+        if self.is_full_for(joiner) {
+            return Ok(HostAnswer::Reply(Reply::TooManyJoiners));
+        }
+        self.safe(joiner)
+    }
+
+    /// A joiner's request to its observer on a ring, in the configuration with the identifier. The answer is the first
+    /// of these that holds: `Confirm` of the configuration where the joiner is a member, `ConfigurationChanged` where
+    /// the identifier is another, `EndpointInUse` where a member has the joiner's identifier or endpoint, `Nothing`
+    /// where this member does not observe it on the ring, `TooManyJoiners` where 512 others are pending here, else
+    /// `Raise`, and the joiner is pending. Want of memory leaves the host as it was.
+    #[tactic(auto, unfolding(rapid_model::specs::Host::join_request))]
+    pub fn join_request(
+        &mut self,
+        joiner: &Process,
+        id: ConfigId,
+        ring: u8,
+    ) -> Result<HostAnswer, AllocError>
+        ensures answer { IfOk result (λ answer. host_answer_of answer ≡ model.join_request self.old.config self.old.me self.old.pending joiner.now id ring) }
+        ensures pending { OnOk result (self.new ≡ record self.old {
+          pending = model.pending_after (model.join_request self.old.config self.old.me self.old.pending joiner.now id ring) self.old.pending joiner.now;
+        }) }
+        ensures unchanged { OnErr result (self.new ≡ self.old) }
+    {
+        if self.configuration.is_member(joiner) {
+            self.confirm()
+        } else if id != self.configuration.id() {
+            Ok(HostAnswer::Reply(Reply::ConfigurationChanged))
+        } else if self.collides(joiner) {
+            Ok(HostAnswer::Reply(Reply::EndpointInUse))
+        } else if !self.observes(joiner, ring) {
+            Ok(HostAnswer::Nothing)
+        } else if self.is_full_for(joiner) {
+            Ok(HostAnswer::Reply(Reply::TooManyJoiners))
+        } else {
+            self.pending.insert(*joiner)?;
+            Ok(HostAnswer::Raise)
+        }
+    }
+
+    /// What each pending joiner gets after a change to the next configuration, by ascending process: `Confirm` of it
+    /// where the joiner is a member there, else `ConfigurationChanged`. None is pending afterwards. Want of memory
+    /// leaves the host as it was.
+    pub fn confirms(
+        &mut self,
+        next: &Configuration,
+    ) -> Result<Vec<(Process, HostAnswer)>, AllocError>
+        ensures answers { IfOk result (λ answers. map answered_of answers.items ≡ model.confirms next.now self.old.pending) }
+        ensures none { OnOk result (self.new ≡ record self.old { pending = set.empty }) }
+        ensures unchanged { OnErr result (self.new ≡ self.old) }
+    {
+        let answers = self.pending.confirms(next)?;
+        self.pending.clear();
+        Ok(answers)
+    }
+
+    /// An equal host, which shares the configuration's members and the rings.
+    pub fn try_copy(&self) -> Result<Host, AllocError>
+        ensures { IfOk result (λ host. host ≡ self.now) }
+    {
+        Ok(Host {
+            configuration: self.configuration.try_copy(self.alloc)?,
+            rings: Arc::try_clone(&self.rings)?,
+            me: self.me,
+            pending: self.pending.try_copy()?,
+            alloc: self.alloc,
+        })
+    }
+
+    /// The own configuration, as confirmation.
+    fn confirm(&self) -> Result<HostAnswer, AllocError>
+        ensures { IfOk result (λ answer. host_answer_of answer ≡ model.Confirms self.now.config) }
+    {
+        Ok(HostAnswer::Confirm(self.configuration.try_copy(self.alloc)?))
+    }
+
+    /// The own identifier and the joiner's observers.
+    fn safe(&self, joiner: &Process) -> Result<HostAnswer, AllocError>
+        ensures { IfOk result (λ answer. host_answer_of answer ≡ safe_for self.now.config joiner.now) }
+    {
+        let observers = RingObservers::of(self.alloc, &self.rings, joiner)?;
+        Ok(HostAnswer::Reply(Reply::Safe(self.configuration.id(), observers)))
+    }
+
+    /// Whether a member has the joiner's identifier or its endpoint.
+    fn collides(&self, joiner: &Process) -> bool
+        ensures { result ≡ apply.collides self.now.config.members joiner.now }
+    {
+        self.configuration.members().iter().any(|member| {
+            joiner.has_same_identifier(member) || joiner.has_same_endpoint(member)
+        })
+    }
+
+    /// Whether this member observes the joiner on a ring.
+    fn observes(&self, joiner: &Process, ring: u8) -> bool
+        ensures { result ≡ observes (observers_of self.now.config) self.now.me ring joiner.now }
+    {
+        self.rings.observer(ring, joiner) == Some(self.me)
+    }
+
+    /// Whether 512 joiners are pending, and this one is not among them.
+    fn is_full_for(&self, joiner: &Process) -> bool
+        ensures { result ≡ model.is_full_for self.now.pending joiner.now }
+    {
+        !self.pending.contains(joiner) && self.pending.len() >= Host::MOST
+    }
+}
