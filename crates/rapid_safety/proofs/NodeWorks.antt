@@ -37,7 +37,7 @@ next_node n c v =
 pub data Stepped (c : Configuration) (acts : List Act) (n : Node) (more : List Act) : Node → Type 0 where
   goes_on : (heard : List Message) (s : MemberState) → Lives c n.me (acts ++ more) heard s None → heard ≡ taken_in n.me (acts ++ more) →
       Stepped c acts n more (record { me = n.me; phase = Member s; installed = n.installed; decisions = n.decisions })
-  installs : (heard : List Message) (s : MemberState) (v : Cut) → Lives c n.me (acts ++ more) heard s (Some v) → is_history_full n.installed c ≡ false →
+  installs : (heard : List Message) (s : MemberState) (v : Cut) → Lives c n.me (acts ++ more) heard s (Some v) → (is_history_full n.installed c ≡ false) × (heard ≡ taken_in n.me (acts ++ more)) →
       Stepped c acts n more (next_node n c v)
 
 AllMarks : List Act → Type 0
@@ -68,6 +68,21 @@ all_answers_mark [] = tt
 all_answers_mark (y ∷ ys) =
     subst AllMarks (sym (map-append Did (answer_to y.0 y.1) (flat_map (λ x. answer_to x.0 x.1) ys)))
     (marks_append (map Did (answer_to y.0 y.1)) _ (answers_mark y.0 y.1) (all_answers_mark ys))
+
+-- who answers takes nothing
+answers_taken : (me j : Process) (a : HostAnswer) → taken_in me (map Did (answer_to j a)) ≡ []
+answers_taken me j Nothing = refl
+answers_taken me j (Replies r) = refl
+answers_taken me j (Confirms n) = refl
+answers_taken me j Raises = refl
+
+all_answers_taken : (me : Process) (ys : List (Process × HostAnswer)) → taken_in me (map Did (flat_map (λ x. answer_to x.0 x.1) ys)) ≡ []
+all_answers_taken me [] = refl
+all_answers_taken me (y ∷ ys) =
+    ap (taken_in me) (map-append Did (answer_to y.0 y.1) (flat_map (λ x. answer_to x.0 x.1) ys))
+    ∙ filter_map-append (taken_by me) (map Did (answer_to y.0 y.1)) (map Did (flat_map (λ x. answer_to x.0 x.1) ys))
+    ∙ ap (λ l. l ++ taken_in me (map Did (flat_map (λ x. answer_to x.0 x.1) ys))) (answers_taken me y.0 y.1)
+    ∙ all_answers_taken me ys
 
 pub not_below : (n : ℕ) → nat_lt n n ≡ false
 not_below n = Prim.grind arith
@@ -133,11 +148,19 @@ module _ (c : Configuration) (n : Node) (acts before : List Act) (heard ms : Lis
           let l1 = leaves_all c n.me _ hs t v (map Did conf) (all_answers_mark (confirms (apply t.config v) t.pending)) l0 in
           let l2 = leaves _ hs t v (Installed (apply t.config v)) l1 tt in
           let at : t.config ≡ c = lives_config c n.me _ hs t (Some v) l0 in
+          let acts_are : (((acts ++ before) ++ map Did w.effects) ++ map Did conf) ++ Installed (apply t.config v) ∷ [] ≡ acts ++ acts_of before n out = regroup acts before (map Did w.effects) (map Did conf) (Installed (apply t.config v) ∷ []) ∙ ap (λ l. acts ++ l) (installed_acts n t.config v before w.effects conf) in
+          let done : List Act = ((acts ++ before) ++ map Did w.effects) ++ map Did conf in
+          let none_more : taken_in n.me (done ++ Installed (apply t.config v) ∷ []) ≡ taken_in n.me ((acts ++ before) ++ map Did w.effects) =
+          filter_map-append (taken_by n.me) done (Installed (apply t.config v) ∷ []) ∙ nil_end (taken_in n.me done)
+          ∙ filter_map-append (taken_by n.me) ((acts ++ before) ++ map Did w.effects) (map Did conf)
+          ∙ ap (λ l. taken_in n.me ((acts ++ before) ++ map Did w.effects) ++ l) (all_answers_taken n.me (confirms (apply t.config v) t.pending))
+          ∙ nil_end (taken_in n.me ((acts ++ before) ++ map Did w.effects)) in
+          let heard_all : hs ≡ taken_in n.me (acts ++ acts_of before n out) = all_heard ∙ sym none_more ∙ ap (taken_in n.me) acts_are in
           subst (λ (x : Outcome). Stepped c acts n (acts_of before n x) x.node) same
           (subst (λ d. Stepped c acts n (acts_of before n out) (next_node n d v)) (sym at)
           (installs hs t v
-          (subst (λ a. Lives c n.me a hs t (Some v)) (regroup acts before (map Did w.effects) (map Did conf) (Installed (apply t.config v) ∷ []) ∙ ap (λ l. acts ++ l) (installed_acts n t.config v before w.effects conf)) l2)
-          (subst (λ d. is_history_full n.installed d ≡ false) at full)))
+          (subst (λ a. Lives c n.me a hs t (Some v)) acts_are l2)
+          (subst (λ d. is_history_full n.installed d ≡ false) at full, heard_all)))
 
   -- what comes of a member's work
   pub settled_steps : (o : Outcome) → settle n.me n.installed n.decisions w ≡ Some o → Stepped c acts n (acts_of before n o) o.node

@@ -53,7 +53,7 @@ pub count_all : {A : Type 0} (xs : List A) → count_by (λ x. true) xs ≡ leng
 count_all [] = refl
 count_all (x ∷ xs) = let r = count_all xs in let c = count_cons (λ y. true) x xs in omega arith
 
-not_in : (ps : List Process) (p : Process) → is_in ps p ≡ false → In ps p → ⊥
+pub not_in : (ps : List Process) (p : Process) → is_in ps p ≡ false → In ps p → ⊥
 not_in [] p h i = i
 not_in (q ∷ ps) p h (inl e) = let t : same_bytes p q ≡ true = (same_bytes_decides p q).1 (sym e) in let wrong : true ≡ false = sym (ap (λ b. b || list_any (same_bytes p) ps) t) ∙ h in cc
 not_in (q ∷ ps) p h (inr i) = not_in ps p (rest (same_bytes p q) (list_any (same_bytes p) ps) h) i
@@ -317,7 +317,7 @@ in_found (y ∷ es) w n h = by (same_cut w y.0) refl h (in_found es w n)
     by true e k f = let one : y.1 ≡ n = cc in let two : w ≡ y.0 = (same_cut_decides w y.0).0 e in inl (λ i. (sym two i, one i))
     by false e k f = inr (f k)
 
-exists_counted : {A : Type 0} (p : A → Bool) (xs : List A) → 1 ≤ count_by p xs → (x : A) × In xs x × (p x ≡ true)
+pub exists_counted : {A : Type 0} (p : A → Bool) (xs : List A) → 1 ≤ count_by p xs → (x : A) × In xs x × (p x ≡ true)
 exists_counted p [] h = absurd (omega arith)
 exists_counted p (x ∷ xs) h = by (p x) refl (count_cons p x xs) (exists_counted p xs)
   where

@@ -81,16 +81,16 @@ module _ (c : Configuration) (me : Process) (acts : List Act) (heard : List Mess
 
   -- ---- what a host does
 
-  raised : (from : Process) (id : List ℕ) (k : ℕ) → same_bytes id (current_id s) ≡ true → Row from (JoinRequest id k) (host_work s from k Raises)
+  raised : (from : Process) (id : List ℕ) (k : ℕ) → is_member s.config from ≡ false → same_bytes id (current_id s) ≡ true → Row from (JoinRequest id k) (host_work s from k Raises)
   unfolding raise_alert
-  raised from id k e known =
+  raised from id k off e known =
       let pending : ProcessSet = pending_after Raises s.pending from in
       let m : Message = message from (JoinRequest id k) in
       let t : MemberState = record s { pending = pending } in
       let one = does acts heard s None _ _ _ lives (ignores from (JoinRequest id k) known tt) in
       let two = does acts (heard ++ m ∷ []) s None None t None one (waits pending) in
       let asked : Known acts t from (JoinRequest (current_id t) k) = subst (λ i. Known acts t from (JoinRequest i k)) ((same_bytes_decides id (current_id s)).0 e) known in
-      rests c me acts heard (m ∷ []) _ None (does acts (heard ++ m ∷ []) t None None _ None two (raises (alert_on t from k) (asked_to from k asked)))
+      rests c me acts heard (m ∷ []) _ None (does acts (heard ++ m ∷ []) t None None _ None two (raises (alert_on t from k) (asked_to from k off asked)))
 
   hosts : (from : Process) (b : Body) (k : ℕ) (a : HostAnswer) → IsIdle s from b → (a ≡ Raises → Row from b (host_work s from k Raises)) → Row from b (host_work s from k a)
   hosts from b k Nothing idle r known = ignored c me acts heard s lives from b known idle
@@ -108,13 +108,13 @@ module _ (c : Configuration) (me : Process) (acts : List Act) (heard : List Mess
       by false false true e = cc
       by false false false e = cc
 
-  raises_here : (j : Process) (id : List ℕ) (k : ℕ) → join_request s.config s.me s.pending j id k ≡ Raises → same_bytes id (current_id s) ≡ true
+  raises_here : (j : Process) (id : List ℕ) (k : ℕ) → join_request s.config s.me s.pending j id k ≡ Raises → (is_member s.config j ≡ false) × (same_bytes id (current_id s) ≡ true)
   unfolding join_request
   raises_here j id k h = by (is_member s.config j) (same_bytes id (configuration_id s.config)) (collides s.config.members j) (observes (observers_of s.config) s.me k j) (is_full_for s.pending j) h
     where
-      by : (b1 b2 b3 b4 b5 : Bool) → cond b1 (Confirms s.config) (cond (not b2) (Replies ConfigurationChanged) (cond b3 (Replies EndpointInUse) (cond (not b4) Nothing (cond b5 (Replies TooManyJoiners) Raises)))) ≡ Raises → b2 ≡ true
+      by : (b1 b2 b3 b4 b5 : Bool) → cond b1 (Confirms s.config) (cond (not b2) (Replies ConfigurationChanged) (cond b3 (Replies EndpointInUse) (cond (not b4) Nothing (cond b5 (Replies TooManyJoiners) Raises)))) ≡ Raises → (b1 ≡ false) × (b2 ≡ true)
       by true b2 b3 b4 b5 e = cc
-      by false true b3 b4 b5 e = refl
+      by false true b3 b4 b5 e = (refl, refl)
       by false false b3 b4 b5 e = cc
 
   -- ---- each message
@@ -146,7 +146,7 @@ module _ (c : Configuration) (me : Process) (acts : List Act) (heard : List Mess
   receive_works ds from (Decision id v) = if_decision from id v (same_bytes id (current_id s)) refl
   receive_works ds from PreJoin = hosts from PreJoin 0 (pre_join s.config s.pending from) tt (λ e. absurd (never_raises from e))
   receive_works ds from (Reply j a) = λ known. ignored c me acts heard s lives from (Reply j a) known tt
-  receive_works ds from (JoinRequest id k) = hosts from (JoinRequest id k) k (join_request s.config s.me s.pending from id k) tt (λ e. raised from id k (raises_here from id k e))
+  receive_works ds from (JoinRequest id k) = hosts from (JoinRequest id k) k (join_request s.config s.me s.pending from id k) tt (λ e. let r = raises_here from id k e in raised from id k r.0 r.1)
   receive_works ds from (Confirm n) = λ known. ignored c me acts heard s lives from (Confirm n) known tt
   receive_works ds from (Probe id) = probed ds from id (same_bytes id (current_id s))
   receive_works ds from (ProbeAck id) = either ds from (λ i. ProbeAck i) id (same_bytes id (current_id s)) refl (λ e. tt) (λ known. ignored c me acts heard s lives from (ProbeAck (current_id s)) known tt)

@@ -54,7 +54,7 @@ to_acts (x ∷ log) p c e (inr i) who at = by (is_act_in p c x) (to_acts log p c
     by true h = inr h
     by false h = h
 
-in_did : (xs : List Effect) (a : Act) → In (map Did xs) a → (x : Effect) × In xs x × (a ≡ Did x)
+pub in_did : (xs : List Effect) (a : Act) → In (map Did xs) a → (x : Effect) × In xs x × (a ≡ Did x)
 in_did [] a h = absurd h
 in_did (x ∷ xs) a (inl s) = (x, inl refl, sym s)
 in_did (x ∷ xs) a (inr i) = let r = in_did xs a i in (r.0, inr r.1, r.2)

@@ -68,7 +68,7 @@ AllReason acts s [] = Unit {0}
 AllReason acts s (a ∷ xs) = HasReason acts s a × AllReason acts s xs
 
 reason_kept : (acts : List Act) (s : MemberState) (o : Rattle.rapid_model.specs.Outbox.Outbox) (a : Alert) → HasReason acts s a → HasReason acts (record s { outbox = o }) a
-reason_kept acts s o _ (atoms.asked_to j k known) = atoms.asked_to j k known
+reason_kept acts s o _ (atoms.asked_to j k off known) = atoms.asked_to j k off known
 reason_kept acts s o _ (atoms.went_down id k q h) = atoms.went_down id k q h
 reason_kept acts s o _ (atoms.echoes q k h) = atoms.echoes q k h
 
@@ -138,18 +138,18 @@ module _ (c : Configuration) (me : Process) (acts : List Act) (heard : List Mess
   unfolding repeats
   repeat_works = repeat_if (s.tick % 20 == 0)
 
-own_drop : (me : Process) (id : List ℕ) (n : ℕ) (xs : List Alert) → AreOwn me id xs → AreOwn me id (drop n xs)
+pub own_drop : (me : Process) (id : List ℕ) (n : ℕ) (xs : List Alert) → AreOwn me id xs → AreOwn me id (drop n xs)
 own_drop me id zero xs h = h
 own_drop me id (suc n) [] h = h
 own_drop me id (suc n) (x ∷ xs) h = own_drop me id n xs h.1
 
-own_first : (me : Process) (id : List ℕ) (n : ℕ) (xs : List Alert) → AreOwn me id xs → AreOwn me id (first n xs)
+pub own_first : (me : Process) (id : List ℕ) (n : ℕ) (xs : List Alert) → AreOwn me id xs → AreOwn me id (first n xs)
 own_first me id zero xs h = tt
 own_first me id (suc n) [] h = h
 own_first me id (suc n) (x ∷ xs) h = (h.0, own_first me id n xs h.1)
 
 -- its own alerts are read from its batch as they are
-items_back : (me : Process) (id : List ℕ) (xs : List Alert) → AreOwn me id xs → batch_alerts me id (map item_of xs) ≡ xs
+pub items_back : (me : Process) (id : List ℕ) (xs : List Alert) → AreOwn me id xs → batch_alerts me id (map item_of xs) ≡ xs
 items_back me id [] h = refl
 items_back me id (a ∷ xs) h = Rattle.std.proofs.Common.ap₂ (λ y ys. y ∷ ys) (λ i. record { observer = sym h.0.0 i; subject = a.subject; ring = a.ring; kind = a.kind; config = sym h.0.1 i }) (items_back me id xs h.1)
 
