@@ -1,5 +1,5 @@
 -- The rings by number.
-use Rattle.std.proofs.Common.{◌≡◌, ℕ, zero, suc, ◌+◌, ◌<◌, ◌≤◌, List, [], ◌∷◌, ◌++◌, map, length, get_or, slice_get, refl, sym, ap, ◌∙◌, Option, Some, None, cond, nat_lt, Bool, true, false, add-one, zero-add, arith}
+use Rattle.std.proofs.Common.{◌≡◌, ℕ, zero, suc, ◌+◌, ◌<◌, ◌≤◌, List, [], ◌∷◌, ◌++◌, map, length, get_or, slice_get, refl, sym, ap, ◌∙◌, Option, Some, None, cond, nat_lt, true, false, add-one, zero-add, arith}
 use Rattle.std.specs.Prelude.{filter_map, IfSome}
 use Rattle.std.specs.Option.{option_to_list}
 use Rattle.std.specs.List.{range_with_len, cons_option}
@@ -32,10 +32,10 @@ filter_map_more f n =
     ap (filter_map f) (range_more n) ∙ filter_map-append f (range_with_len 0 n) (n ∷ [])
     ∙ ap (λ xs. filter_map f (range_with_len 0 n) ++ xs) (one_or_none (f n))
 
-tested : (k n : ℕ) → k < n → nat_lt k n ≡ true
+pub tested : (k n : ℕ) → k < n → nat_lt k n ≡ true
 tested k n h = grind arith
 
-not_tested : (k n : ℕ) → n ≤ k → nat_lt k n ≡ false
+pub not_tested : (k n : ℕ) → n ≤ k → nat_lt k n ≡ false
 not_tested k n h = grind arith
 
 -- the observer on a ring that there is

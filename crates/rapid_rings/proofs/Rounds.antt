@@ -1,12 +1,11 @@
 -- Going round a ring: the member next before a process is the one with none between.
-use Rattle.std.proofs.Common.{◌≡◌, ℕ, ◌+◌, ◌<◌, ◌≤◌, length, get_or, take, ◌++◌, Bool, true, false, cond, not, ◌&&◌, ◌||◌, List, [], ◌∷◌, map, refl, sym, ap, subst, ◌∙◌, Option, Some, None, arith, zero, suc, slice_get}
+use Rattle.std.proofs.Common.{◌≡◌, ℕ, Bool, true, false, cond, not, ◌&&◌, ◌||◌, List, [], ◌∷◌, map, refl, sym, ap, subst, ◌∙◌, Option, Some, None, zero, suc, slice_get}
 use Rattle.std.specs.Option.{option_map}
 use Rattle.std.specs.List.{list_any, list_all, find}
 use Rattle.std.specs.declared.cmp.Ordering.{Ordering}
 use Rattle.std.specs.declared.cmp.Ordering.TheVariants.{Less, Equal, Greater}
-use Rattle.std.specs.Ordering.{ordering_then, ordering_reverse, is_lt, is_eq, eq_by_cmp}
-use Rattle.std.specs.Cmp.{IsTotalOrder, then_total, on_total, eq_by_cmp_equiv}
-use Rattle.std.proofs.lemmas.List.{take_more, take_all, map-append}
+use Rattle.std.specs.Ordering.{ordering_reverse, is_lt, is_eq}
+use Rattle.std.specs.Cmp.{IsTotalOrder, then_total, on_total}
 use Rattle.std.specs.FinSet as set
 use Rattle.std.specs.FinSet.{IsAntisymmetric}
 use Rattle.rapid_model.specs.Process.{Process, bytes_cmp, process_cmp, same_bytes, is_in}
@@ -32,7 +31,7 @@ same_seat_is x y h = (tie_decides seats_total seats_exact x y).0 h
 pub own_seat : (x : Seat) → same_seat x x ≡ true
 own_seat x = (tie_decides seats_total seats_exact x x).1 refl
 
-turned : (x y : Seat) → seat_cmp y x ≡ ordering_reverse (seat_cmp x y)
+pub turned : (x y : Seat) → seat_cmp y x ≡ ordering_reverse (seat_cmp x y)
 turned x y = seats_total.antisymm y x
 
 -- ---- of two seats one is between the other and a third
@@ -56,7 +55,7 @@ one_between Greater Less Greater p q r h k = cc
 one_between Greater Greater Less p q r h k = cc
 one_between Greater Greater Greater p q r h k = cc
 
-only_one : (x y s : Seat) → same_seat x s ≡ false → same_seat y s ≡ false → sits_between x y s ≡ false → sits_between y x s ≡ false → x ≡ y
+pub only_one : (x y s : Seat) → same_seat x s ≡ false → same_seat y s ≡ false → sits_between x y s ≡ false → sits_between y x s ≡ false → x ≡ y
 only_one x y s p q h k =
     elim (same_seat x y) as (λ b. same_seat x y ≡ b → x ≡ y) [
       | true ↦ λ e. same_seat_is x y e
@@ -77,13 +76,13 @@ none_of_three true false false p h = refl
 none_of_three false false false p h = refl
 none_of_three a b true p h = cc
 
-none_below : (a b c : Bool) → a ≡ false → b ≡ false → ((a && b) || (b && c) || (c && a)) ≡ false
+pub none_below : (a b c : Bool) → a ≡ false → b ≡ false → ((a && b) || (b && c) || (c && a)) ≡ false
 none_below false false true p q = refl
 none_below false false false p q = refl
 none_below true b c p q = cc
 none_below false true c p q = cc
 
-lt_not_back : (o : Ordering) → is_lt o ≡ true → is_lt (ordering_reverse o) ≡ false
+pub lt_not_back : (o : Ordering) → is_lt o ≡ true → is_lt (ordering_reverse o) ≡ false
 lt_not_back Less h = refl
 lt_not_back Equal h = cc
 lt_not_back Greater h = cc
@@ -105,7 +104,7 @@ pub next_before_last : (r : Seats) (s x : Seat) → IsLastBelow r s None → IsL
 next_before_last r s x none last other =
     (last.0, other, λ q at. none_below (is_below x q) (is_below q s) (is_below s x) (last.1 q at) (none q at))
 
-neither : (o : Ordering) → is_lt o ≡ false → is_lt (ordering_reverse o) ≡ false → is_eq o ≡ true
+pub neither : (o : Ordering) → is_lt o ≡ false → is_lt (ordering_reverse o) ≡ false → is_eq o ≡ true
 neither Less p q = cc
 neither Equal p q = refl
 neither Greater p q = cc
@@ -120,11 +119,11 @@ next_before_empty r s none q at = let e : true ≡ false = sym at ∙ none q in 
 
 -- ---- the seats of the members
 
-contains-seats : (k : ℕ) (ms : List Process) (x : Seat) → set.contains (seats_of k ms) x ≡ list_any (same_seat x) (map (seat k) ms)
+pub contains-seats : (k : ℕ) (ms : List Process) (x : Seat) → set.contains (seats_of k ms) x ≡ list_any (same_seat x) (map (seat k) ms)
 unfolding seats_of
 contains-seats k ms x = set.contains-from_list seats_total (map (seat k) ms) x
 
-seated : (k : ℕ) (ms : List Process) (x : Seat) → list_any (same_seat x) (map (seat k) ms) ≡ true → (x ≡ seat k x.1) × (is_in ms x.1 ≡ true)
+pub seated : (k : ℕ) (ms : List Process) (x : Seat) → list_any (same_seat x) (map (seat k) ms) ≡ true → (x ≡ seat k x.1) × (is_in ms x.1 ≡ true)
 seated k [] x h = cc
 seated k (m ∷ ms) x h =
     elim (same_seat x (seat k m)) as (λ b. same_seat x (seat k m) ≡ b → (b || list_any (same_seat x) (map (seat k) ms)) ≡ true → (x ≡ seat k x.1) × ((same_bytes x.1 m || is_in ms x.1) ≡ true)) [
@@ -139,7 +138,7 @@ seated k (m ∷ ms) x h =
     or_late true b h = refl
     or_late false b h = h
 
-seats_have : (k : ℕ) (ms : List Process) (p : Process) → is_in ms p ≡ true → list_any (same_seat (seat k p)) (map (seat k) ms) ≡ true
+pub seats_have : (k : ℕ) (ms : List Process) (p : Process) → is_in ms p ≡ true → list_any (same_seat (seat k p)) (map (seat k) ms) ≡ true
 seats_have k [] p h = cc
 seats_have k (m ∷ ms) p h =
     elim (same_bytes p m) as (λ b. same_bytes p m ≡ b → (b || is_in ms p) ≡ true → (same_seat (seat k p) (seat k m) || list_any (same_seat (seat k p)) (map (seat k) ms)) ≡ true) [
@@ -163,7 +162,7 @@ all_pass p (m ∷ ms) h =
     or_late true b h = refl
     or_late false b h = h
 
-each_passes : (p : Process → Bool) (ms : List Process) (m : Process) → list_all p ms ≡ true → is_in ms m ≡ true → p m ≡ true
+pub each_passes : (p : Process → Bool) (ms : List Process) (m : Process) → list_all p ms ≡ true → is_in ms m ≡ true → p m ≡ true
 each_passes p [] m h at = cc
 each_passes p (q ∷ ms) m h at =
     let parts = both (p q) (list_all p ms) h in
@@ -172,7 +171,7 @@ each_passes p (q ∷ ms) m h at =
       | false ↦ λ e at. each_passes p ms m parts.1 at
     ] refl at
 
-found : (p : Process → Bool) (ms : List Process) (o : Process) → is_in ms o ≡ true → p o ≡ true → ((m : Process) → is_in ms m ≡ true → p m ≡ true → m ≡ o) → find p ms ≡ Some o
+pub found : (p : Process → Bool) (ms : List Process) (o : Process) → is_in ms o ≡ true → p o ≡ true → ((m : Process) → is_in ms m ≡ true → p m ≡ true → m ≡ o) → find p ms ≡ Some o
 found p [] o at passes only = cc
 found p (m ∷ ms) o at passes only =
     elim (p m) as (λ b. p m ≡ b → cond b (Some m) (find p ms) ≡ Some o) [
@@ -191,7 +190,7 @@ found p (m ∷ ms) o at passes only =
           | false ↦ λ s at. at
         ] refl at
 
-not_found : (p : Process → Bool) (ms : List Process) → ((m : Process) → is_in ms m ≡ true → p m ≡ false) → find p ms ≡ None
+pub not_found : (p : Process → Bool) (ms : List Process) → ((m : Process) → is_in ms m ≡ true → p m ≡ false) → find p ms ≡ None
 not_found p [] h = refl
 not_found p (m ∷ ms) h =
     ap (λ b. cond b (Some m) (find p ms)) (h m (ap (λ b. b || is_in ms m) (own m)))
@@ -201,7 +200,7 @@ not_found p (m ∷ ms) h =
     or_late true b h = refl
     or_late false b h = h
 
-not_true : (b : Bool) → not b ≡ true → b ≡ false
+pub not_true : (b : Bool) → not b ≡ true → b ≡ false
 not_true true h = cc
 not_true false h = refl
 
@@ -210,7 +209,7 @@ not_false true h = cc
 not_false false h = refl
 
 -- a process apart on the ring
-apart : (k : ℕ) (p s : Process) → same_bytes p s ≡ false → same_seat (seat k p) (seat k s) ≡ false
+pub apart : (k : ℕ) (p s : Process) → same_bytes p s ≡ false → same_seat (seat k p) (seat k s) ≡ false
 apart k p s h =
     elim (same_seat (seat k p) (seat k s)) as (λ b. same_seat (seat k p) (seat k s) ≡ b → b ≡ false) [
       | true ↦ λ e. let no : true ≡ false = sym ((same_bytes_decides p s).1 (ap (λ (y : Seat). y.1) (same_seat_is (seat k p) (seat k s) e))) ∙ h in cc
@@ -250,64 +249,6 @@ observer_in_seat k ms s (Some x) h =
 
 -- ---- the seats of the program
 
-any_of_tied : (ks ns : List Seat) (p : Seat) (q : Seat) → list_any (same_seat q) ns ≡ cond (same_seat p q) true (list_any (same_seat q) ks) → list_any (same_seat q) ns ≡ (same_seat q p || list_any (same_seat q) ks)
-any_of_tied ks ns p q h = h ∙ if_true (same_seat p q) (list_any (same_seat q) ks) ∙ ap (λ b. b || list_any (same_seat q) ks) ((eq_by_cmp_equiv seats_total).symm p q)
-  where
-    if_true : (b c : Bool) → cond b true c ≡ (b || c)
-    if_true true c = refl
-    if_true false c = refl
-
--- the keys after an insert are those of the set with the seat
-pub seat_insert_seen : (ks ns : List Seat) (p : Seat) → ((q : Seat) → list_any (same_seat q) ns ≡ cond (same_seat p q) true (list_any (same_seat q) ks)) → ◌≡◌ {A = Seats} (set.from_list ns) (set.insert (set.from_list ks) p)
-seat_insert_seen ks ns p h =
-    set.same_set seats_total seats_exact _ _ (λ q.
-    set.contains-from_list seats_total ns q ∙ any_of_tied ks ns p q (h q)
-    ∙ ap (λ b. same_seat q p || b) (sym (set.contains-from_list seats_total ks q))
-    ∙ sym (set.contains-insert seats_total (set.from_list ks) p q))
-
--- no seats yet
-pub no_seats : (k : ℕ) → ◌≡◌ {A = Seats} set.empty (seats_of k [])
-unfolding seats_of
-no_seats k = refl
-
--- the seats with that of one more member
-pub seats_push : (k : ℕ) (ms : List Process) (i : ℕ) (m : Process) → i < length ms → m ≡ get_or ms i m → seats_of k (take (i + 1) ms) ≡ set.insert (seats_of k (take i ms)) (seat k m)
-unfolding seats_of
-seats_push k ms i m lt is =
-    ap (λ ps. set.from_list {R = seat_cmp} (map (seat k) ps)) (take_more ms i m lt ∙ ap (λ p. take i ms ++ p ∷ []) (sym is))
-    ∙ ap (set.from_list {R = seat_cmp}) (map-append (seat k) (take i ms) (m ∷ []))
-    ∙ set.from_list_push seats_total seats_exact (map (seat k) (take i ms)) (seat k m)
-
-pub seats_all : (k : ℕ) (ms : List Process) (i : ℕ) → length ms ≤ i → seats_of k (take i ms) ≡ seats_of k ms
-seats_all k ms i le = ap (seats_of k) (take_all i ms le)
-
-pub seen_last : (ks : List Seat) (x : Seat) → list_any (same_seat x) ks ≡ true → ((q : Seat) → list_any (same_seat q) ks ≡ true → is_below x q ≡ false) → IsLast (set.from_list ks) (Some x)
-seen_last ks x at last =
-    (set.contains-from_list seats_total ks x ∙ at, λ q there. last q (sym (set.contains-from_list seats_total ks q) ∙ there))
-
-pub seen_none : (ks : List Seat) → ks ≡ [] → IsLast (set.from_list ks) None
-seen_none ks e q = ap (λ xs. set.contains (set.from_list {R = seat_cmp} xs) q) e ∙ set.contains-empty seat_cmp q
-
-less_of : (o : Ordering) → is_lt o ≡ true → o ≡ Less
-less_of Less h = refl
-less_of Equal h = cc
-less_of Greater h = cc
-
-pub no_keys : (ks : List Seat) → (0 < length ks → false ≡ true) → ks ≡ []
-no_keys [] h = refl
-no_keys (k ∷ ks) h = let no : false ≡ true = h (omega arith) in cc
-
-pub seen_last_below : (ks : List Seat) (x s : Seat) → list_any (same_seat x) ks ≡ true → seat_cmp x s ≡ Less → ((q : Seat) → seat_cmp q s ≡ Less → list_any (same_seat q) ks ≡ true → is_below x q ≡ false) → IsLastBelow (set.from_list ks) s (Some x)
-seen_last_below ks x s at below last =
-    (set.contains-from_list seats_total ks x ∙ at, ap is_lt below, λ q there lt. last q (less_of (seat_cmp q s) lt) (sym (set.contains-from_list seats_total ks q) ∙ there))
-
-pub seen_none_below : (ks : List Seat) (s : Seat) → ((q : Seat) → seat_cmp q s ≡ Less → list_any (same_seat q) ks ≡ false) → IsLastBelow (set.from_list ks) s None
-seen_none_below ks s none q there =
-    elim (is_below q s) as (λ b. is_below q s ≡ b → b ≡ false) [
-      | true ↦ λ e. let no : true ≡ false = sym there ∙ set.contains-from_list seats_total ks q ∙ none q (less_of (seat_cmp q s) e) in cc
-      | false ↦ λ e. refl
-    ] refl
-
 pub observer_on_ring : (r : Seats) (k : ℕ) (ms : List Process) (s : Process) (y : Seat) (x : Option Seat) → r ≡ seats_of k ms → y.0 ≡ ring_key k s → y.1 ≡ s → IsNextBefore r y x → option_map (λ z. z.1) x ≡ ring_observer ms k s
 observer_on_ring r k ms s y x is keyed own h =
     let same : y ≡ seat k s = λ i. (keyed i, own i) in
@@ -323,11 +264,3 @@ seat_at k (m ∷ ms) zero key p h =
     inside : {x y : Seat} → ◌≡◌ {A = Option Seat} (Some x) (Some y) → x ≡ y
     inside e = cc
 seat_at k (m ∷ ms) (suc i) key p h = seat_at k ms i key p h
-
--- one more member in the seating
-pub seating_push : (k : ℕ) (ms : List Process) (i : ℕ) (m : Process) → i < length ms → m ≡ get_or ms i m → map (seat k) (take (i + 1) ms) ≡ map (seat k) (take i ms) ++ seat k m ∷ []
-seating_push k ms i m lt is =
-    ap (map (seat k)) (take_more ms i m lt ∙ ap (λ p. take i ms ++ p ∷ []) (sym is)) ∙ map-append (seat k) (take i ms) (m ∷ [])
-
-pub seating_all : (k : ℕ) (ms : List Process) (i : ℕ) → length ms ≤ i → map (seat k) (take i ms) ≡ map (seat k) ms
-seating_all k ms i le = ap (map (seat k)) (take_all i ms le)

@@ -1,6 +1,7 @@
 -- Seats on a ring: members with their keys, in the ring's order.
 use Rattle.std.specs.Prelude.{◌≡◌, ℕ, Bool, true, false, ◌&&◌, ◌||◌, List, map, Option, Some, None}
 use Rattle.std.specs.List.{range_with_len}
+use Rattle.std.specs.List.Sorted.{IsSorted}
 use Rattle.std.specs.declared.cmp.Ordering.{Ordering}
 use Rattle.std.specs.Ordering.{ordering_then, is_lt, eq_by_cmp}
 use Rattle.std.specs.Coded.{Coded, coded×}
@@ -59,6 +60,10 @@ is_below x y = is_lt (seat_cmp x y)
 abbrev pub sits_between : Seat → Seat → Seat → Bool
 sits_between x y z = (is_below x y && is_below y z) || (is_below y z && is_below z x) || (is_below z x && is_below x y)
 
+-- No seat is below the one before it.
+abbrev pub Ascend : List Seat → Type 0
+Ascend = IsSorted seat_cmp
+
 -- The last of the seats that are below s, if there is one.
 abbrev pub IsLastBelow : Seats → Seat → Option Seat → Type 0
 IsLastBelow r s None = (q : Seat) → set.contains r q ≡ true → is_below q s ≡ false
@@ -69,7 +74,22 @@ abbrev pub IsLast : Seats → Option Seat → Type 0
 IsLast r None = (q : Seat) → set.contains r q ≡ false
 IsLast r (Some x) = (set.contains r x ≡ true) × ((q : Seat) → set.contains r q ≡ true → is_below x q ≡ false)
 
+-- The first of the seats that are above s, if there is one.
+abbrev pub IsFirstAbove : Seats → Seat → Option Seat → Type 0
+IsFirstAbove r s None = (q : Seat) → set.contains r q ≡ true → is_below s q ≡ false
+IsFirstAbove r s (Some x) = (set.contains r x ≡ true) × (is_below s x ≡ true) × ((q : Seat) → set.contains r q ≡ true → is_below s q ≡ true → is_below q x ≡ false)
+
+-- The first of the seats, if there is one.
+abbrev pub IsFirst : Seats → Option Seat → Type 0
+IsFirst r None = (q : Seat) → set.contains r q ≡ false
+IsFirst r (Some x) = (set.contains r x ≡ true) × ((q : Seat) → set.contains r q ≡ true → is_below q x ≡ false)
+
 -- The seat next before s, going round: none is between them. There is none where no seat but s is there.
 abbrev pub IsNextBefore : Seats → Seat → Option Seat → Type 0
 IsNextBefore r s None = (q : Seat) → set.contains r q ≡ true → same_seat q s ≡ true
 IsNextBefore r s (Some x) = (set.contains r x ≡ true) × (same_seat x s ≡ false) × ((q : Seat) → set.contains r q ≡ true → sits_between x q s ≡ false)
+
+-- The seat next after s, going round: none is between them. There is none where no seat but s is there.
+abbrev pub IsNextAfter : Seats → Seat → Option Seat → Type 0
+IsNextAfter r s None = (q : Seat) → set.contains r q ≡ true → same_seat q s ≡ true
+IsNextAfter r s (Some x) = (set.contains r x ≡ true) × (same_seat x s ≡ false) × ((q : Seat) → set.contains r q ≡ true → sits_between s q x ≡ false)

@@ -1,15 +1,16 @@
 // One ring.
 
-ghost use Rattle.std.specs.Prelude.{◌≡◌, ℕ, List, None, OnOk, OnErr};
+ghost use Rattle.std.specs.Prelude.{◌≡◌, ℕ, true, List, Some, None};
+ghost use Rattle.std.specs.Option.{option_eq};
+ghost use Rattle.std.specs.List.{find};
+ghost use Rattle.std.specs.Ordering.{is_lt, is_le};
 ghost use Rattle.std.specs.FinSet as set;
-ghost use Rattle.rapid_model.specs.Process.{Process as ModelProcess};
+ghost use Rattle.rapid_model.specs.Process.{Process as ModelProcess, same_bytes, is_in};
 ghost use Rattle.rapid_model.specs.Ring as model;
-ghost use Rattle.rapid_rings.specs.Seats.{seats_of, IsLastBelow, IsLast, IsNextBefore};
+ghost use Rattle.rapid_rings.specs.Seats.{seat_cmp, seats_of, IsLastBelow, IsLast, IsNextBefore, IsFirstAbove, IsFirst, IsNextAfter};
 
 use rapid_endpoint::Process;
 use sha2::{Digest, Sha256};
-use std::alloc::{AllocError, Global};
-use std::collections::BTreeSet;
 use std::marker::Model;
 
 /// A process with its key on a ring. Seats are ordered by key; ties are broken by process.
@@ -26,40 +27,47 @@ pub(crate) fn ring_key(ring: u8, process: &Process) -> [u8; 32]
     hasher.finalize()
 }
 
+// Whether a seat is below another.
+fn is_below(seat: &Seat, other: &Seat) -> bool
+    ensures { result ≡ is_lt (seat_cmp seat.now other.now) }
+{
+    seat.cmp(other).is_lt()
+}
+
+// Whether a seat is not above another.
+fn is_at_most(seat: &Seat, other: &Seat) -> bool
+    ensures { result ≡ is_le (seat_cmp seat.now other.now) }
+{
+    seat.cmp(other).is_le()
+}
+
 /// The seats of the members on one ring, in its order.
 #[derive(Debug, Drop)]
 pub(crate) struct Ring {
-    seats: BTreeSet<Seat>,
+    // ascending
+    seats: Vec<Seat>,
 }
 
 impl Model for Ring {
     ghost use Rattle.std.specs.FinSet as set;
-    ghost use Rattle.rapid_rings.specs.Seats.{Seats, seats_code};
+    ghost use Rattle.rapid_rings.specs.Seats.{Seats, seats_code, Ascend};
 
     ghost Value = { Seats };
 
     ghost coded = { seats_code };
 
-    ghost view = { λ r. set.from_list r.seats.keys };
+    ghost view = { λ r. set.from_list r.seats.items };
+
+    ghost invariant = { λ r. Ascend r.seats.items };
 }
 
 impl Ring {
-    /// A ring with no seats.
-    pub(crate) fn new(alloc: Global) -> Ring
-        ensures { result ≡ set.empty }
+    /// The ring of these seats.
+    pub(crate) fn new(mut seats: Vec<Seat>) -> Ring
+        ensures { result ≡ set.from_list seats.items }
     {
-        Ring {
-            seats: BTreeSet::new(alloc),
-        }
-    }
-
-    /// Adds a seat.
-    pub(crate) fn insert(&mut self, seat: Seat) -> Result<(), AllocError>
-        ensures ok { OnOk result (self.new ≡ set.insert self.old seat) }
-        ensures unchanged { OnErr result (self.new ≡ self.old) }
-    {
-        self.seats.insert(seat)?;
-        Ok(())
+        seats.sort_unstable();
+        Ring { seats }
     }
 
     /// The process in the seat next before this one, going round.
@@ -74,6 +82,18 @@ impl Ring {
         }
     }
 
+    /// The process in the seat next after that of a member, going round: the member that it observes.
+    pub(crate) fn subject(&self, seat: &Seat) -> Option<Process>
+        ensures { (ring : ℕ) (members : List ModelProcess) (observer : ModelProcess) →
+            self.now ≡ seats_of ring members → seat.now.0 ≡ model.ring_key ring observer → seat.now.1 ≡ observer → is_in members observer ≡ true →
+            result ≡ find (λ m. option_eq same_bytes (model.ring_observer members ring m) (Some observer)) members }
+    {
+        match self.next_after(seat) {
+            Some(after) => Some(after.1),
+            None => None,
+        }
+    }
+
     // The seat next before this one, going round; none where no other seat is there.
     fn next_before(&self, seat: &Seat) -> Option<Seat>
         ensures { IsNextBefore self.now seat.now result }
@@ -84,14 +104,32 @@ impl Ring {
         }
     }
 
+    // The seat next after this one, going round; none where no other seat is there.
+    fn next_after(&self, seat: &Seat) -> Option<Seat>
+        ensures { IsNextAfter self.now seat.now result }
+    {
+        match self.first_above(seat) {
+            Some(above) => Some(above),
+            None => self.first_but(seat),
+        }
+    }
+
     // The last seat below this one.
     fn last_below(&self, seat: &Seat) -> Option<Seat>
         ensures { IsLastBelow self.now seat.now result }
     {
-        match self.seats.range(..*seat).next_back() {
-            Some(below) => Some(*below),
-            None => None,
-        }
+        let seats = self.seats.as_slice();
+        let below = seats.partition_point(|other| is_below(other, seat));
+        seats[..below].last().copied()
+    }
+
+    // The first seat above this one.
+    fn first_above(&self, seat: &Seat) -> Option<Seat>
+        ensures { IsFirstAbove self.now seat.now result }
+    {
+        let seats = self.seats.as_slice();
+        let above = seats.partition_point(|other| is_at_most(other, seat));
+        seats[above..].first().copied()
     }
 
     // The last seat of all, where none is below this one; none where it is this one.
@@ -111,13 +149,34 @@ impl Ring {
         }
     }
 
+    // The first seat of all, where none is above this one; none where it is this one.
+    fn first_but(&self, seat: &Seat) -> Option<Seat>
+        requires { IsFirstAbove self.now seat.now None }
+        ensures { IsNextAfter self.now seat.now result }
+    {
+        match self.first() {
+            Some(first) => {
+                if first.cmp(seat).is_eq() {
+                    None
+                } else {
+                    Some(first)
+                }
+            }
+            None => None,
+        }
+    }
+
     // The last seat of all.
     fn last(&self) -> Option<Seat>
         ensures { IsLast self.now result }
     {
-        match self.seats.last() {
-            Some(last) => Some(*last),
-            None => None,
-        }
+        self.seats.as_slice().last().copied()
+    }
+
+    // The first seat of all.
+    fn first(&self) -> Option<Seat>
+        ensures { IsFirst self.now result }
+    {
+        self.seats.as_slice().first().copied()
     }
 }

@@ -1,13 +1,16 @@
 // The rings of a configuration.
 
-ghost use Rattle.std.specs.Prelude.{◌≡◌, ◌++◌, map, IfSome, IfOk, OnOk};
-ghost use Rattle.std.specs.Option.{option_map, option_to_list};
-ghost use Rattle.rapid_rings.specs.Seats.{seat, seats_of};
+ghost use Rattle.std.specs.Prelude.{◌≡◌, ◌++◌, Some, map, IfSome, IfOk, OnOk};
+ghost use Rattle.std.specs.List.{slice_get};
+ghost use Rattle.std.specs.Option.{option_and_then, option_map, option_to_list};
+ghost use Rattle.rapid_rings.specs.Seats.{seat, seatings_of};
+ghost use Rattle.rapid_model.specs.Process.{Process as ModelProcess};
+ghost use Rattle.rapid_model.specs.Configuration.{position_of};
 ghost use Rattle.rapid_model.specs.Ring as model;
-ghost use Rattle.rapid_model.specs.Ring.{observers_of, observes, subject_on, subjects_of};
+ghost use Rattle.rapid_model.specs.Ring.{observers_of, subject_on, subjects_of};
 
 use crate::ObserverTable;
-use crate::ring::{Ring, ring_key};
+use crate::ring::{Ring, Seat, ring_key};
 use crate::seating::Seating;
 use rapid_config::{ConfigId, Configuration, Params};
 use rapid_endpoint::Process;
@@ -51,7 +54,8 @@ impl Rings {
         build(alloc, configuration, Some(self))
     }
 
-    /// The pairs of a ring and the member that the process observes on it, by ring.
+    /// The pairs of a ring and the member that the process observes on it, by ring. It costs a search for the
+    /// process and one on each ring.
     pub fn subjects_of(
         &self,
         alloc: Global,
@@ -59,57 +63,78 @@ impl Rings {
     ) -> Result<Vec<(u8, Process)>, AllocError>
         ensures { IfOk result (λ subjects. subjects.items ≡ subjects_of self.now process.now) }
     {
+        match self.configuration.position(process) {
+            Some(place) => self.subjects_at(alloc, place),
+            None => Ok(Vec::new(alloc)),
+        }
+    }
+
+    // The pairs of a ring and the member that the member at a place observes on it, by ring.
+    fn subjects_at(&self, alloc: Global, place: usize) -> Result<Vec<(u8, Process)>, AllocError>
+        ensures { (observer : ModelProcess) → position_of self.now observer ≡ Some place →
+            IfOk result (λ subjects. subjects.items ≡ subjects_of self.now observer) }
+    {
         let mut subjects = Vec::new(alloc);
         for ring in 0..self.params().k() {
-            push_any(&mut subjects, ring, self.subject(ring, process))?;
+            push_any(&mut subjects, ring, self.subject(ring, place))?;
         }
         Ok(subjects)
     }
 
-    // The member that the process observes on a ring.
-    fn subject(&self, ring: u8, process: &Process) -> Option<Process>
-        ensures { result ≡ subject_on self.now process.now ring }
+    // The member that the member at a place observes on a ring.
+    fn subject(&self, ring: u8, place: usize) -> Option<Process>
+        ensures { (observer : ModelProcess) → position_of self.now observer ≡ Some place →
+            result ≡ subject_on self.now observer ring }
     {
-        self.members()
-            .iter()
-            .find(|member| self.observes(process, ring, member))
-            .copied()
+        match self.rings.get(usize::from(ring)) {
+            Some(seats) => seats.subject(&self.seat(ring, place)?),
+            None => None,
+        }
+    }
+
+    // The seat of the member at a place on a ring.
+    fn seat(&self, ring: u8, place: usize) -> Option<Seat>
+        ensures { result ≡ option_and_then (λ seats. slice_get seats place) (slice_get (seatings_of self.now) ring) }
+    {
+        match self.seatings.get(usize::from(ring)) {
+            Some(seating) => seating.seat(place),
+            None => None,
+        }
     }
 
     // The key of a process on a ring, which is computed only where the process is no member.
     fn key(&self, ring: u8, process: &Process) -> [u8; 32]
         ensures { result ≡ model.ring_key ring process.now }
     {
-        match self.kept_key(ring, process) {
+        match self.configuration.position(process) {
+            Some(place) => self.key_near(ring, place, process),
+            None => ring_key(ring, process),
+        }
+    }
+
+    // The key of a process on a ring, which is computed only where another member or none is at this place.
+    fn key_near(&self, ring: u8, place: usize, process: &Process) -> [u8; 32]
+        ensures { result ≡ model.ring_key ring process.now }
+    {
+        match self.kept_key(ring, place, process) {
             Some(key) => key,
             None => ring_key(ring, process),
         }
     }
 
-    // The key of a member on a ring.
-    fn kept_key(&self, ring: u8, process: &Process) -> Option<[u8; 32]>
+    // The key of the member at a place on a ring, where it is this process.
+    fn kept_key(&self, ring: u8, place: usize, process: &Process) -> Option<[u8; 32]>
         ensures { IfSome result (λ key. key ≡ model.ring_key ring process.now) }
     {
-        let place = self.configuration.position(process)?;
         match self.seatings.get(usize::from(ring)) {
             Some(seating) => seating.key(place, process),
             None => None,
         }
     }
-
-    fn members(&self) -> &[Process]
-        ensures { result.now ≡ self.now.members }
-    {
-        self.configuration.members()
-    }
-
-    // Whether the process observes the subject on a ring.
-    fn observes(&self, process: &Process, ring: u8, subject: &Process) -> bool
-        ensures { result ≡ observes (observers_of self.now) process.now ring subject.now }
-    {
-        self.observer(ring, subject) == Some(*process)
-    }
 }
+
+// A member, and its place in the configuration before, if there is one that has it.
+type Located = (Process, Option<usize>);
 
 // The rings of a configuration, with the keys that rings before it have.
 fn build(
@@ -119,11 +144,12 @@ fn build(
 ) -> Result<Rings, AllocError>
     ensures { IfOk result (λ rings. rings ≡ configuration.now) }
 {
+    let members = locate(alloc, configuration.members(), before)?;
     let mut rings = Vec::new(alloc);
     let mut seatings = Vec::new(alloc);
     for number in 0..configuration.params().k() {
-        let (ring, seating) = seat_members(alloc, number, configuration.members(), before)?;
-        rings.push(ring)?;
+        let seating = seat_members(alloc, number, members.as_slice(), before)?;
+        rings.push(seating.ring(alloc)?)?;
         seatings.push(seating)?;
     }
     Ok(Rings {
@@ -133,33 +159,54 @@ fn build(
     })
 }
 
-// The members on the ring with this number, by key and by place.
+// The members with their places before.
+fn locate(
+    alloc: Global,
+    members: &[Process],
+    before: Option<&Rings>,
+) -> Result<Vec<Located>, AllocError>
+    ensures { IfOk result (λ located. located.items ≡ map (λ m. (m, option_and_then (λ rings. position_of rings.now m) before.entry)) members.now) }
+{
+    let mut located = Vec::with_capacity(alloc, members.len())?;
+    for member in members {
+        located.push((*member, place_before(before, member)))?;
+    }
+    Ok(located)
+}
+
+// The place of a process in the configuration before.
+fn place_before(before: Option<&Rings>, process: &Process) -> Option<usize>
+    ensures { result ≡ option_and_then (λ rings. position_of rings.now process.now) before.entry }
+{
+    match before {
+        Some(rings) => rings.configuration.position(process),
+        None => None,
+    }
+}
+
+// The members on the ring with this number, by place.
 fn seat_members(
     alloc: Global,
     number: u8,
-    members: &[Process],
+    members: &[Located],
     before: Option<&Rings>,
-) -> Result<(Ring, Seating), AllocError>
-    ensures ring { IfOk result (λ made. made.0 ≡ seats_of number members.now) }
-    ensures seating { IfOk result (λ made. made.1 ≡ map (seat number) members.now) }
+) -> Result<Seating, AllocError>
+    ensures { IfOk result (λ seating. seating ≡ map (λ m. seat number m.0) members.now) }
 {
-    let mut ring = Ring::new(alloc);
-    let mut seating = Seating::new(alloc);
+    let mut seating = Seating::with_capacity(alloc, members.len())?;
     for member in members {
-        let key = known_key(before, number, member);
-        ring.insert((key, *member))?;
-        seating.push((key, *member))?;
+        seating.push((known_key(before, number, member), member.0))?;
     }
-    Ok((ring, seating))
+    Ok(seating)
 }
 
 // The key of a process on a ring, which rings before may have.
-fn known_key(before: Option<&Rings>, ring: u8, process: &Process) -> [u8; 32]
-    ensures { result ≡ model.ring_key ring process.now }
+fn known_key(before: Option<&Rings>, ring: u8, member: &Located) -> [u8; 32]
+    ensures { result ≡ model.ring_key ring member.now.0 }
 {
-    match before {
-        Some(rings) => rings.key(ring, process),
-        None => ring_key(ring, process),
+    match (before, member.1) {
+        (Some(rings), Some(place)) => rings.key_near(ring, place, &member.0),
+        _ => ring_key(ring, &member.0),
     }
 }
 

@@ -1,9 +1,10 @@
 // The seats of members by place.
 
-ghost use Rattle.std.specs.Prelude.{◌≡◌, [], ◌∷◌, ◌++◌, Some, IfSome, OnOk, OnErr};
+ghost use Rattle.std.specs.Prelude.{◌≡◌, [], ◌∷◌, ◌++◌, Some, IfOk, IfSome, OnOk, OnErr};
 ghost use Rattle.std.specs.List.{slice_get};
+ghost use Rattle.std.specs.FinSet as set;
 
-use crate::ring::Seat;
+use crate::ring::{Ring, Seat};
 use rapid_endpoint::Process;
 use std::alloc::{AllocError, Global};
 use std::marker::Model;
@@ -24,13 +25,13 @@ impl Model for Seating {
 }
 
 impl Seating {
-    /// No seats.
-    pub(crate) fn new(alloc: Global) -> Seating
-        ensures { result ≡ [] }
+    /// No seats, with room for so many.
+    pub(crate) fn with_capacity(alloc: Global, capacity: usize) -> Result<Seating, AllocError>
+        ensures { IfOk result (λ seating. seating ≡ []) }
     {
-        Seating {
-            seats: Vec::new(alloc),
-        }
+        Ok(Seating {
+            seats: Vec::with_capacity(alloc, capacity)?,
+        })
     }
 
     /// Adds the seat of the next place.
@@ -40,6 +41,21 @@ impl Seating {
     {
         self.seats.push(seat)?;
         Ok(())
+    }
+
+    /// The seat at a place.
+    pub(crate) fn seat(&self, place: usize) -> Option<Seat>
+        ensures { result ≡ slice_get self.now place }
+    {
+        self.seats.as_slice().get(place).copied()
+    }
+
+    /// The same seats in the order of the ring.
+    pub(crate) fn ring(&self, alloc: Global) -> Result<Ring, AllocError>
+        ensures { IfOk result (λ ring. ring ≡ set.from_list self.now) }
+    {
+        let seats = Vec::from_slice(alloc, self.seats.as_slice())?;
+        Ok(Ring::new(seats))
     }
 
     /// The key of the process, where the seat at this place is its own.

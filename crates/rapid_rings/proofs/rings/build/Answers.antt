@@ -1,21 +1,30 @@
-use Rattle.std.proofs.Common.{[], ◌∷◌, ◌++◌, map, ap, sym, ◌∙◌}
+use Rattle.std.proofs.Common.{◌≡◌, ℕ, Option, [], ◌∷◌, ◌++◌, map, ap, sym, ◌∙◌}
+use Rattle.std.specs.Option.{option_and_then}
+use Rattle.rapid_model.specs.Process.{Process}
+use Rattle.rapid_model.specs.Configuration.{position_of}
 use Rattle.rapid_rings.specs.Seats.{seat, seats_of}
 use Rattle.rapid_rings.proofs.Numbers.{map_more}
+use Rattle.rapid_rings.proofs.Lookups.{seats_of_located, ring_of_seats}
 use Rattle.rapid_rings.proofs.rings.build.Goals as goal
 
 pub loop-number-preserved : goal.loop-number-preserved
 loop-number-preserved c =
     let members = c.args.configuration.now.members in
     let number = c.loop-number.number in
+    let place : Process → Option ℕ = λ m. option_and_then (λ rings. position_of rings.now m) c.args.before in
+    let seated : c.in_ok-seating.seating ≡ map (seat number) members =
+    c.in_ok-seating.ensures
+    ∙ ap (map (λ (m : Process × Option ℕ). seat number m.0)) (c.as_slice.ensures.value ∙ c.in_ok-members.ensures ∙ ap (map (λ m. (m, place m))) c.members.ensures.value)
+    ∙ seats_of_located number place members in
     record {
       by_key =
           c.in_ok-push.ensures.items
-          ∙ ap (λ ring. c.loop-number.rings.items ++ ring ∷ []) (c.in_ok-ring.ensures.ring ∙ ap (seats_of number) c.members.ensures.value)
+          ∙ ap (λ ring. c.loop-number.rings.items ++ ring ∷ []) (c.in_ok-ring.ensures ∙ ring_of_seats number members c.in_ok-seating.seating seated)
           ∙ ap (λ rings. rings ++ seats_of number members ∷ []) c.loop-number.invariant.by_key
           ∙ sym (map_more (λ k. seats_of k members) number);
       by_place =
           c.in_ok-push-2.ensures.items
-          ∙ ap (λ seating. c.loop-number.seatings.items ++ seating ∷ []) (c.in_ok-ring.ensures.seating ∙ ap (map (seat number)) c.members.ensures.value)
+          ∙ ap (λ seating. c.loop-number.seatings.items ++ seating ∷ []) seated
           ∙ ap (λ seatings. seatings ++ map (seat number) members ∷ []) c.loop-number.invariant.by_place
           ∙ sym (map_more (λ k. map (seat k) members) number);
     }

@@ -1,13 +1,13 @@
-use Rattle.rapid_rings.proofs.Rounds.{seen_last_below, seen_none_below}
+use Rattle.std.proofs.Common.{rules, of_calls, subst, sym, ◌∙◌}
+use Rattle.std.specs.Ordering.{is_lt}
+use Rattle.std.proofs.lemmas.Fn.{always_returns_same}
+use Rattle.rapid_rings.specs.Seats.{seat_cmp, Ascend}
+use Rattle.rapid_rings.proofs.Stretches.{below_first, last_below_is}
 use Rattle.rapid_rings.proofs.ring.Ring.last_below.Goals as goal
 
-pub returns-in-Some : goal.returns-in-Some
-returns-in-Some c =
-    let h = c.range.ensures.in_range tt in
-    let at = h.3 _ _ c.in-Some.ensures.steps in
-    rw (← c.self.view_is) (seen_last_below c.self.inside.seats.keys c.in-Some.below.now c.args.seat.now at.1 at.0.1 (λ q below there. h.4 _ _ c.in-Some.ensures.steps q (tt, below) there))
-
-pub returns-in-None : goal.returns-in-None
-returns-in-None c =
-    let h = c.range.ensures.in_range tt in
-    rw (← c.self.view_is) (seen_none_below c.self.inside.seats.keys c.args.seat.now (λ q below. h.5 c.in-None.ensures.steps.0 q (tt, below)))
+pub returns : goal.returns
+returns c =
+    let xs = c.as_slice-seats.result.now in
+    let up : Ascend xs = subst Ascend (sym c.as_slice-seats.ensures.value) c.self.invariant in
+    let point = c.partition_point-below.ensures.partitioned (λ y. is_lt (seat_cmp y c.args.seat.now)) (always_returns_same _ _ _ (λ a r f k. search (rules, of_calls))) (below_first xs c.args.seat.now up) in
+    rw (← c.self.view_is, ← c.as_slice-seats.ensures.value, c.copied.ensures ∙ c.last.ensures.value) (last_below_is xs c.args.seat.now c.partition_point-below.result up c.partition_point-below.ensures.bound point)

@@ -1,14 +1,9 @@
-use Rattle.std.proofs.Common.{ℕ, List, ◌++◌, Option, ap, sym, ◌∙◌}
-use Rattle.std.specs.Option.{option_map, option_to_list}
-use Rattle.rapid_model.specs.Process.{Process}
-use Rattle.rapid_model.specs.Ring.{subject_on}
-use Rattle.rapid_rings.proofs.Numbers.{filter_map_more}
+use Rattle.std.proofs.Common.{ap, sym, ◌∙◌}
+use Rattle.rapid_model.specs.Configuration.{position_of}
+use Rattle.rapid_rings.proofs.Lookups.{stranger_observes_nobody}
 use Rattle.rapid_rings.proofs.rings.Rings.subjects_of.Goals as goal
 
-pub loop-ring-preserved : goal.loop-ring-preserved
-loop-ring-preserved c =
-    let pairs : ℕ → Option (ℕ × Process) = λ k. option_map (λ s. (k, s)) (subject_on c.args.self.now c.args.process.now k) in
-    c.in_ok-push_any.ensures
-    ∙ ap (λ (o : Option Process). c.loop-ring.subjects.items ++ option_to_list (option_map (λ s. (c.loop-ring.ring, s)) o)) c.subject.ensures
-    ∙ ap (λ (xs : List (ℕ × Process)). xs ++ option_to_list (pairs c.loop-ring.ring)) c.loop-ring.invariant
-    ∙ sym (filter_map_more pairs c.loop-ring.ring)
+pub returns-in-None : goal.returns-in-None
+returns-in-None c =
+    c.new.ensures.items
+    ∙ stranger_observes_nobody c.args.self.now c.args.process.now (sym (c.in-None.ensures.place ∙ ap (λ k. position_of k c.args.process.now) c.self.view_is))
