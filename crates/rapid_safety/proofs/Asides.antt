@@ -136,7 +136,7 @@ nothing_came w i _ _ _ x (by_probe p c k s ok at ob down) (inr n) = n
 in_before : (xs : List Act) (a : Act) (x : Effect) → In (xs ++ a ∷ []) (Did x) → (a ≡ Did x → ⊥) → In xs (Did x)
 in_before xs a x h apart = elim (in_split xs (a ∷ []) (Did x) h) [ inl y ↦ y | inr y ↦ elim y [ inl s ↦ absurd (apart s) | inr n ↦ absurd n ] ]
 
-asides_kept : (w v : World) → Steps w v → Asides w → Asides v
+pub asides_kept : (w v : World) → Steps w v → Asides w → Asides v
 unfolding Asides
 asides_kept w _ stays k = k
 asides_kept w _ (starts p seed r) k = k
@@ -154,7 +154,7 @@ asides_kept w _ (moves i p before e o c r st) k =
     by None at to b i = inl (aside_in o.effects to b (asides_of p.node p.node.phase e o refl at st) i)
 asides_kept w _ (ends i p at) k = aside_step w p.node (Crashed ∷ []) k (λ to b h. elim h [ inl z ↦ absurd (cc) | inr n ↦ absurd n ])
 
-none_said_yet : (c : Configuration) (ms : List Process) (e : Entry) (to : Destination) (b : Body) → In (map (λ p. record { who = p; at = None; act = Installed c }) ms) e → e.act ≡ Did (Says to b) → ⊥
+pub none_said_yet : (c : Configuration) (ms : List Process) (e : Entry) (to : Destination) (b : Body) → In (map (λ p. record { who = p; at = None; act = Installed c }) ms) e → e.act ≡ Did (Says to b) → ⊥
 none_said_yet c [] e to b h is = h
 none_said_yet c (p ∷ ms) e to b (inl s) is = let z : Installed c ≡ Did (Says to b) = ap (λ (x : Entry). x.act) s ∙ is in cc
 none_said_yet c (p ∷ ms) e to b (inr i) is = none_said_yet c ms e to b i is

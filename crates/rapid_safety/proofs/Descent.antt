@@ -42,6 +42,16 @@ reached_push c (u ∷ us) v = reached_push (apply c u) us v
 
 -- ---- what holds of each change, and is kept
 
+-- what holds of a change lasts
+abbrev pub Lasts : (World → Configuration → Cut → Type 0) → World → World → Type 0
+Lasts P w v = (c : Configuration) (u : Cut) → P w c u → P v c u
+
+-- it holds where a step decides
+abbrev pub Decides : (World → Configuration → Cut → Type 0) → World → World → Type 0
+Decides P w v =
+    (m : Moves w v) (s : MemberState) (heard : List Message) (t : MemberState) (u : Cut) → m.peer.node.phase ≡ Member s →
+    Lives s.config m.peer.node.me (acts_then w v m s.config) heard t (Some u) → P v s.config u
+
 module _ (P : World → Configuration → Cut → Type 0) (f : Configuration) where
   -- d is made of the founding configuration by such changes
   abbrev pub Descends : World → Configuration → Type 0
@@ -50,23 +60,14 @@ module _ (P : World → Configuration → Cut → Type 0) (f : Configuration) wh
   abbrev pub Descent : World → Type 0
   Descent w = (e : Entry) (d : Configuration) → In w.log e → e.act ≡ Installed d → Descends w d
 
-  abbrev pub Lasts : World → World → Type 0
-  Lasts w v = (c : Configuration) (u : Cut) → P w c u → P v c u
-
-  -- what holds where a step decides
-  abbrev pub Decides : World → World → Type 0
-  Decides w v =
-      (m : Moves w v) (s : MemberState) (heard : List Message) (t : MemberState) (u : Cut) → m.peer.node.phase ≡ Member s →
-      Lives s.config m.peer.node.me (acts_then w v m s.config) heard t (Some u) → P v s.config u
-
-  pub descends_more : (w v : World) → Lasts w v → (d : Configuration) → Descends w d → Descends v d
+  pub descends_more : (w v : World) → Lasts P w v → (d : Configuration) → Descends w d → Descends v d
   descends_more w v g d h = (h.0, changes_more (P w) (P v) g f h.0 h.1, h.2)
 
   pub descends_on : (v : World) (c : Configuration) (u : Cut) → Descends v c → P v c u → Descends v (apply c u)
   descends_on v c u h k =
       (h.0 ++ u ∷ [], changes_push (P v) f h.0 u h.1 (subst (λ x. P v x u) (sym h.2) k), reached_push f h.0 u ∙ ap (λ x. apply x u) h.2)
 
-  pub descent_kept : (w v : World) → Steps w v → Histories w → Lasts w v → Decides w v → Descent w → Descent v
+  pub descent_kept : (w v : World) → Steps w v → Histories w → Lasts P w v → Decides P w v → Descent w → Descent v
   unfolding Confirmed
   descent_kept w v s k g new old e d h is = elim (installed_new w v s e d h is) [ inl x ↦ descends_more w v g d (old e d x is) | inr x ↦ by x ]
     where

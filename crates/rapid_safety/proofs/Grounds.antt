@@ -1,5 +1,5 @@
 -- Each configuration was installed on grounds: it is the founding one, it was confirmed, or a cut was decided.
-use Rattle.std.proofs.Common.{◌≡◌, ◌≤◌, ◌<◌, ◌*◌, inl, inr, ℕ, Bool, true, false, cond, List, [], ◌∷◌, ◌++◌, map, refl, sym, ap, subst, ◌∙◌, Option, Some, None, length, arith}
+use Rattle.std.proofs.Common.{◌≡◌, ◌≤◌, ◌<◌, ◌*◌, ◌⊎◌, inl, inr, ℕ, Bool, true, false, cond, List, [], ◌∷◌, ◌++◌, map, refl, sym, ap, subst, ◌∙◌, Option, Some, None, length, arith}
 use Rattle.std.specs.Prelude.{Contains}
 use Rattle.rapid_model.specs.Process.{Process}
 use Rattle.rapid_model.specs.Cut.{Cut}
@@ -7,13 +7,14 @@ use Rattle.rapid_model.specs.Configuration.{Configuration, configuration_id, Are
 use Rattle.rapid_model.specs.Apply.{apply}
 use Rattle.rapid_model.specs.Quorum.{size}
 use Rattle.rapid_model.specs.Ballot.{Before, fast_ballot}
-use Rattle.rapid_model.specs.Message.{Message, Accepted, Confirm}
+use Rattle.rapid_model.specs.Message.{Message, Body, Accepted, Decision, Confirm}
 use Rattle.rapid_model.specs.Node.{Node, Phase, Joining, Member, Removed, Halted, Outcome, Event, Receive, member_in, member_config, configuration_of, has_installed, fresh_member}
 use Rattle.rapid_model.specs.NodeStep.{node_step}
 use Rattle.rapid_model.specs.World.{World, Peer, Act, Did, Probed, HasHalted, Crashed, Installed, Entry, MarkedEvent}
 use Rattle.rapid_model.specs.WorldStep.{entry, install_acts, acts_of}
 use Rattle.rapid_model.specs.Run.{run, founded}
-use Rattle.rapid_model.specs.History.{taken_by, received, Received}
+use Rattle.rapid_model.specs.History.{Sent, taken_by, received, Received, acts_in}
+use Rattle.rapid_model.specs.Chosen.{Chosen}
 use Rattle.rapid_model.proofs.Lists.{In, in_split, in_left, in_from, contains_from}
 use Rattle.rapid_safety.specs.Evidence as evidence
 use Rattle.rapid_safety.specs.Evidence.{Evidence}
@@ -28,8 +29,8 @@ use Rattle.rapid_safety.proofs.Lived as lived
 use Rattle.rapid_safety.proofs.Lived.{JoinerSteps, joiner_steps, removed_stays, halted_stays, lived_founded, lived_kept, lived_run}
 use Rattle.rapid_safety.proofs.PacketsSent.{SaidIn, PacketsSaid, sent_kept, said_more}
 use Rattle.rapid_safety.proofs.Polls.{exists_counted}
-use Rattle.rapid_safety.proofs.Spoken.{entry_in, in_did, took_said, known_said, received_were_said}
-use Rattle.rapid_safety.proofs.Asides.{asides_run}
+use Rattle.rapid_safety.proofs.Spoken.{entry_in, in_did, TookSaid, took_said, known_said}
+use Rattle.rapid_safety.proofs.Asides.{Asides, asides_run}
 use Rattle.rapid_safety.proofs.Rules.{said_sent}
 use Rattle.rapid_safety.proofs.Speakers.{accepted_above}
 use Rattle.rapid_safety.proofs.Deciding.{lives_evidence}
@@ -175,12 +176,20 @@ installs_have_grounds c es are e d there is = let w = run es (founded c) in grou
 some_member : (n q : ℕ) → n < 2 * q → 1 ≤ q
 some_member n q h = omega arith
 
+pub evidence_chosen : (w : World) → Lived w → TookSaid w → Asides w → EvidenceChosen w
+evidence_chosen w lives took asides n d v e = by e
+  where
+    sent_by : (p : Process) (b : Body) → Received w n d p b → Sent w p b
+    sent_by p b h = said_sent w p b (known_said w took n p d b (in_from (received w n d) (message p b) h))
+
+    by : Evidence d n (acts_in w n d) v → Chosen w d v ⊎ ((p : Process) × Received w n d p (Decision (configuration_id d) v))
+    by (evidence.by_votes q enough each) = inl (fast_ballot, record { quorum = q; enough = inl (refl, enough); votes = λ a m h. inl (refl, sent_by a _ (each a m h)) })
+    by (evidence.by_notices b q enough each) =
+        let one = exists_counted q d.members (some_member (length d.members) (size d.members q) enough) in
+        let took_one : Received w n d one.0 (Accepted (configuration_id d) b v) = each one.0 (contains_from d.members one.0 one.1) one.2 in
+        let above : Before fast_ballot b = accepted_above w lives took asides _ b v one.0 (known_said w took n one.0 d _ (in_from (received w n d) _ took_one)) in
+        inl (b, record { quorum = q; enough = inr (above, enough); votes = λ a m h. inr (above, sent_by a _ (each a m h)) })
+    by (evidence.by_decision p h) = inr (p, h)
+
 pub evidence_is_chosen : (c : Configuration) (es : List MarkedEvent) → AreMembers c.members → EvidenceChosen (run es (founded c))
-evidence_is_chosen c es are n d v (evidence.by_votes q enough each) = inl (fast_ballot, record { quorum = q; enough = inl (refl, enough); votes = λ a m h. inl (refl, received_were_said c es n d a _ (each a m h)) })
-evidence_is_chosen c es are n d v (evidence.by_notices b q enough each) =
-    let w = run es (founded c) in
-    let one = exists_counted q d.members (some_member (length d.members) (size d.members q) enough) in
-    let took : Received w n d one.0 (Accepted (configuration_id d) b v) = each one.0 (contains_from d.members one.0 one.1) one.2 in
-    let above : Before fast_ballot b = accepted_above w (lived_run c es are) (took_said c es) (asides_run c es) _ b v one.0 (known_said w (took_said c es) n one.0 d _ (in_from (received w n d) _ took)) in
-    inl (b, record { quorum = q; enough = inr (above, enough); votes = λ a m h. inr (above, received_were_said c es n d a _ (each a m h)) })
-evidence_is_chosen c es are n d v (evidence.by_decision p h) = inr (p, h)
+evidence_is_chosen c es are = evidence_chosen (run es (founded c)) (lived_run c es are) (took_said c es) (asides_run c es)

@@ -60,7 +60,7 @@ pub run_on : (es more : List MarkedEvent) (w : World) → run more (run es w) �
 run_on [] more w = refl
 run_on (e ∷ es) more w = run_on es more (world_step w e)
 
-sent_grows : (w v : World) → Rattle.rapid_safety.proofs.Steps.Steps w v → (p : Process) (b : Body) → Sent w p b → Sent v p b
+pub sent_grows : (w v : World) → Rattle.rapid_safety.proofs.Steps.Steps w v → (p : Process) (b : Body) → Sent w p b → Sent v p b
 sent_grows w v s p b h =
     let g = log_grows w v s in
     said_sent v p b (subst (λ l. packets.SaidIn l p b) (sym g.1) (packets.said_more w.log g.0 p b (sent_said w.log p b (in_from (sent w) _ h))))

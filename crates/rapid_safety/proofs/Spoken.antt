@@ -78,7 +78,7 @@ of_step before n o a h =
 
 -- ---- what was taken was said
 
-pub TookSaid : World → Type 0
+unfoldable pub TookSaid : World → Type 0
 TookSaid w = (e : Entry) (m : Message) → In w.log e → e.act ≡ Took m → SaidIn w.log m.sender m.body
 
 came : (w : World) (i : ℕ) (p : Peer) (before : List Act) (e : Event) (m : Message) → Comes w i p before e → PacketsSaid w → In before (Took m) → SaidIn w.log m.sender m.body
@@ -104,7 +104,7 @@ in_push xs a m h apart = elim (in_split xs (a ∷ []) (Took m) h) [ inl x ↦ x 
 abbrev pub Heard : World → Type 0
 Heard w = PacketsSaid w × TookSaid w
 
-took_kept : (w v : World) → Steps w v → PacketsSaid w → TookSaid w → TookSaid v
+pub took_kept : (w v : World) → Steps w v → PacketsSaid w → TookSaid w → TookSaid v
 unfolding TookSaid
 took_kept w _ stays said k = k
 took_kept w _ (starts p seed r) said k = k
@@ -118,7 +118,7 @@ took_kept w _ (moves i p before e o c r st) said k =
     ])
 took_kept w _ (ends i p at) said k = took_step w p.node (Crashed ∷ []) said k (λ m h. elim h [ inl z ↦ cc | inr n ↦ absurd n ])
 
-none_took : (c : Configuration) (ms : List Process) (e : Entry) (m : Message) → In (map (λ p. record { who = p; at = None; act = Installed c }) ms) e → e.act ≡ Took m → ⊥
+pub none_took : (c : Configuration) (ms : List Process) (e : Entry) (m : Message) → In (map (λ p. record { who = p; at = None; act = Installed c }) ms) e → e.act ≡ Took m → ⊥
 none_took c [] e m h is = h
 none_took c (p ∷ ms) e m (inl s) is = let z : Installed c ≡ Took m = ap (λ (x : Entry). x.act) s ∙ is in cc
 none_took c (p ∷ ms) e m (inr i) is = none_took c ms e m i is
