@@ -1,6 +1,6 @@
 #!/bin/bash
 # Prints each figure of the proved program, of the plain Rust body, and the ratio of the two. With words, the figures of those
-# words alone (votes, memory); with none, all.
+# words alone (votes, memory, rings_new, ..); with none, all.
 set -e
 cd "$(dirname "${BASH_SOURCE[0]}")/.."
 program=crates/rapid_bench/out/rapid_bench
@@ -11,7 +11,7 @@ fi
 room=$(mktemp -d)
 trap 'rm -r "$room"' EXIT
 rustc -O --edition 2021 -o "$room/plain" bench/plain.rs
-[ $# -gt 0 ] || set -- votes memory
+[ $# -gt 0 ] || set -- votes memory rings_new rings_next from_bytes
 "$program" "$@" >"$room/proved.txt"
 "$room/plain" >"$room/plain.txt"
 awk 'BEGIN { printf "%-22s %12s %12s %8s\n", "figure", "proved", "plain", "ratio" }

@@ -3,8 +3,11 @@
 #![tactic(auto)]
 
 mod figure;
+mod from_bytes;
 mod members;
 mod memory;
+mod rings_new;
+mod rings_next;
 mod votes;
 
 use anyhow::{Result, bail};
@@ -13,7 +16,9 @@ use std::env;
 /// What is printed where no word names a figure.
 const USAGE: &str = "rapid_bench WORD.. prints figures, a line each: NAME, a space, a number.
   votes     nanoseconds of a vote among 1,024 members, for cuts of 1, 10 and 100 processes
-  memory    bytes of a fast round after 1,024 votes, for one cut and for a cut each";
+  memory    bytes of a fast round after 1,024 votes, for one cut and for a cut each
+  rings_new, rings_next    nanoseconds of the sixteen rings of 1,024 members, from nothing and after one left and one joined
+  from_bytes    nanoseconds of a configuration of 1,024 members, read from its bytes";
 
 fn main(rt: HostRuntime) -> Result<()> {
     let alloc = rt.alloc();
@@ -25,6 +30,9 @@ fn main(rt: HostRuntime) -> Result<()> {
         match word.as_str() {
             "votes" => votes::print(&rt, alloc)?,
             "memory" => memory::print(&rt, alloc)?,
+            "rings_new" => rings_new::print(&rt, alloc)?,
+            "rings_next" => rings_next::print(&rt, alloc)?,
+            "from_bytes" => from_bytes::print(&rt, alloc)?,
             other => bail!("no figure is called {other}"),
         }
     }

@@ -1,6 +1,6 @@
 // Processes and cuts to measure with.
-use anyhow::Result;
-use rapid_config::Cut;
+use anyhow::{Result, bail};
+use rapid_config::{Configuration, Cut, Params};
 use rapid_endpoint::{Endpoint, Process, ProcessId};
 use std::alloc::Global;
 
@@ -23,4 +23,17 @@ pub fn cut(alloc: Global, first: u16, last: u16) -> Result<Cut> {
         processes.push(process(n))?;
     }
     Ok(Cut::new(processes)?)
+}
+
+/// The founding configuration of the members, with sixteen rings.
+pub fn configuration(alloc: Global) -> Result<Configuration> {
+    let mut members = Vec::new(alloc);
+    for n in 1..=MEMBERS {
+        members.push(process(n))?;
+    }
+    if members.is_empty() {
+        bail!("there are no members");
+    }
+    let params = Params::new(16, 9, 3)?;
+    Ok(Configuration::seed(alloc, params, members.as_slice())?)
 }
