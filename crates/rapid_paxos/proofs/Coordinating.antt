@@ -1,5 +1,5 @@
 -- What a coordinator keeps as promises come, and the cut that it asks for.
-use Rattle.std.proofs.Common.{◌≡◌, ℕ, ◌+◌, ◌-◌, ◌≤◌, ◌<◌, Bool, true, false, cond, not, ◌&&◌, ◌==◌, nat_le, List, [], ◌∷◌, length, get_or, refl, sym, ap, subst, ◌∙◌, arith, Option, Some, None, unwrap_or, inl, inr, eq-eqb, ne_eqb}
+use Rattle.std.proofs.Common.{◌≡◌, ℕ, ◌+◌, ◌-◌, ◌≤◌, Bool, true, false, cond, not, nat_le, List, [], ◌∷◌, length, get_or, refl, sym, ap, subst, ◌∙◌, arith, Option, Some, None, unwrap_or, inl, inr, eq-eqb, ne_eqb}
 use Rattle.std.specs.List.{find}
 use Rattle.std.specs.Option.{option_map}
 use Rattle.std.specs.Ordering.{nat_cmp}
@@ -11,7 +11,7 @@ use Rattle.rapid_model.specs.Cut.{Cut, cut_cmp}
 use Rattle.rapid_model.specs.Quorum.{fast_size, classic_size}
 use Rattle.rapid_model.specs.Ballot.{Ballot, Vote}
 use Rattle.rapid_model.specs.FastRound.{Counts, count_of, one_more}
-use Rattle.rapid_model.specs.Coordinator.{Coordinator, last_round, counts_promise, with_report, after_report, accept_cut, value_of, value_by, is_forced}
+use Rattle.rapid_model.specs.Coordinator.{Coordinator, counts_promise, with_report, after_report, accept_cut, value_of, value_by, is_forced}
 use Rattle.rapid_fast.proofs.Counting.{counted-one_more}
 use Rattle.rapid_paxos.specs.Invariants.{IsCoordinator}
 

@@ -1,8 +1,7 @@
 -- What is true of each coordinator.
-use Rattle.std.specs.Prelude.{◌≡◌, ℕ, ◌≤◌, ◌<◌, Option, IfSome}
+use Rattle.std.specs.Prelude.{◌≤◌, ◌<◌}
 use Rattle.std.specs.FinSet as set
 use Rattle.rapid_model.specs.Cut.{Cut}
-use Rattle.rapid_model.specs.Ballot.{Ballot}
 use Rattle.rapid_model.specs.FastRound.{count_of}
 use Rattle.rapid_model.specs.Coordinator.{Coordinator, last_round}
 

@@ -1,5 +1,5 @@
 -- What is true of each ballot.
-use Rattle.std.specs.Prelude.{◌≡◌, ℕ, ◌≤◌, ◌<◌}
+use Rattle.std.specs.Prelude.{◌≡◌, ◌≤◌, ◌<◌}
 use Rattle.rapid_model.specs.Ballot.{Ballot}
 
 -- The ballot is the fast one or a classic one.

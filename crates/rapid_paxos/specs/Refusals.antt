@@ -1,5 +1,5 @@
 -- Why an acceptor or a coordinator refuses, and the numbers of the refusals.
-use Rattle.std.specs.Prelude.{◌≡◌, ℕ, Option, Result, Ok, Err, IsOk}
+use Rattle.std.specs.Prelude.{◌≡◌, ℕ, Option, Result, Err, IsOk}
 use Rattle.rapid_model.specs.Cut.{Cut}
 use Rattle.rapid_model.specs.Ballot.{Vote}
 use Rattle.rapid_model.specs.Acceptor as model

@@ -1,6 +1,5 @@
 -- The code's votes as the definitions see them.
 use Rattle.std.specs.Prelude.{Option, Some, None}
-use Rattle.std.specs.Option.{option_map}
 use Rattle.rapid_model.specs.Cut.{Cut}
 use Rattle.rapid_model.specs.Ballot.{Ballot, Vote}
 

@@ -1,11 +1,13 @@
 // Worked cases of classic recovery, and growths that are refused.
+ghost use Rattle.std.specs.Prelude.{◌≡◌, ◌<◌};
+
 use crate::{
     Accept, Acceptor, AcceptorError, Ballot, Coordinator, Learner, Promise, RoundsUsed,
     classic_size,
 };
 use rapid_config::Cut;
 use rapid_endpoint::{Endpoint, Process, ProcessId};
-use std::alloc::Global;
+use std::alloc::{AllocError, Global};
 use std::process::Abort;
 use std::test::Fail;
 
@@ -225,5 +227,51 @@ fn a_learner_needs_one_ballot(rt: HostRuntime) -> Result<(), Fail> {
         learner.hear(1, high, &x)?.is_none(),
         "ballots are not added up"
     );
+    Ok(())
+}
+
+/// A promise, heard again where a growth is refused.
+fn heard(
+    coordinator: &mut Coordinator,
+    position: usize,
+    promise: &Promise,
+) -> Result<Option<Accept>, AllocError>
+    requires { position < coordinator.old.size }
+    ensures { coordinator.new.size ≡ coordinator.old.size }
+{
+    match coordinator.hear_promise(position, promise, None) {
+        Ok(accept) => Ok(accept),
+        Err(AllocError) => coordinator.hear_promise(position, promise, None),
+    }
+}
+
+/// Where some growth is refused the coordinator is as it was, so that promises heard again make the same request.
+#[test]
+fn want_of_memory_leaves_the_coordinator_as_it_was(rt: HostRuntime) -> Result<(), Fail> {
+    let mut coordinator = Coordinator::new(rt.alloc(), 5, 0);
+    let ballot = coordinator
+        .begin(Ballot::FAST)
+        .expect(&rt, "the first ballot");
+    let six = promise(rt.alloc(), ballot, Some(6))?;
+    let seven = promise(rt.alloc(), ballot, Some(7))?;
+    assert!(rt; heard(&mut coordinator, 0, &seven)?.is_none());
+    assert!(rt; heard(&mut coordinator, 1, &six)?.is_none());
+    let accept = heard(&mut coordinator, 2, &seven)?;
+    assert!(rt; accept.map(|accept| accept.cut) == Some(cut(rt.alloc(), 7)?));
+    Ok(())
+}
+
+/// Where some growth is refused the learner is as it was, so that notices heard again teach the same cut.
+#[test]
+fn want_of_memory_leaves_the_learner_as_it_was(rt: HostRuntime) -> Result<(), Fail> {
+    let x = cut(rt.alloc(), 6)?;
+    let low = Ballot::classic(2, 0).expect(&rt, "a classic ballot");
+    let mut learner = Learner::new(rt.alloc(), 3);
+    let first = match learner.hear(0, low, &x) {
+        Ok(learnt) => learnt,
+        Err(AllocError) => learner.hear(0, low, &x)?,
+    };
+    assert!(rt; first.is_none());
+    assert!(rt; learner.hear(1, low, &x)? == Some(x));
     Ok(())
 }

@@ -1,11 +1,11 @@
-use Rattle.std.proofs.Common.{◌≡◌, ◌+◌, ◌∙◌, ap, sym, Option, Some, None}
+use Rattle.std.proofs.Common.{◌+◌, ◌∙◌, ap, sym, Option}
 use Rattle.std.specs.FinSet as set
 use Rattle.std.specs.Option.{option_map}
 use Rattle.rapid_model.specs.Cut.{Cut}
 use Rattle.rapid_model.specs.Quorum.{classic_size}
 use Rattle.rapid_model.specs.Coordinator.{Coordinator, value_of, with_report}
 use Rattle.rapid_paxos.specs.Reported.{last_of}
-use Rattle.rapid_paxos.proofs.Coordinating.{ignored, taken, is_new, no_accept, not_complete, complete}
+use Rattle.rapid_paxos.proofs.Coordinating.{ignored, taken, no_accept, not_complete, complete}
 use Rattle.rapid_paxos.proofs.coordinator.Coordinator.hear_promise.Goals as goal
 
 pub returns-then-not-counts_promise-clause-heard : goal.returns-then-not-counts_promise-clause-heard

@@ -1,4 +1,4 @@
-use Rattle.std.proofs.Common.{◌≤◌, arith}
+use Rattle.std.proofs.Common.{arith}
 use Rattle.rapid_paxos.proofs.Coordinating.{nothing_counted}
 use Rattle.rapid_paxos.proofs.coordinator.Coordinator.new.Goals as goal
 

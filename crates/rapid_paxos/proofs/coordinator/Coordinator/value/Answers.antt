@@ -1,4 +1,4 @@
-use Rattle.std.proofs.Common.{◌≡◌, ℕ, ◌≤◌, ◌+◌, ◌-◌, ◌∙◌, ap, sym, Option, Some, None, unwrap_or, arith, refl, Bor}
+use Rattle.std.proofs.Common.{◌≡◌, ℕ, ◌+◌, ◌-◌, ◌∙◌, ap, sym, Option, Some, None, unwrap_or, arith, Bor}
 use Rattle.std.specs.Option.{option_map}
 use Rattle.rapid_model.specs.Cut.{Cut}
 use Rattle.rapid_model.specs.Coordinator.{Coordinator, value_of}
