@@ -1,5 +1,5 @@
 -- What the two sides answer, as the definitions see it.
-use Rattle.std.specs.Prelude.{ℕ, List, [], ◌∷◌, map, if◌then◌else◌, Option, Some, None}
+use Rattle.std.specs.Prelude.{ℕ, ◌≤◌, Bool, true, false, List, [], ◌∷◌, length, map, if◌then◌else◌, Option, Some, None}
 use Rattle.rapid_model.specs.Process.{Process}
 use Rattle.rapid_model.specs.Configuration.{Configuration, configuration_id, is_member}
 use Rattle.rapid_model.specs.Host as model
@@ -25,6 +25,27 @@ answer_of (reply.Safe id os) = message.Safe id os
 answer_of reply.EndpointInUse = message.EndpointInUse
 answer_of reply.ConfigurationChanged = message.ConfigurationChanged
 answer_of reply.TooManyJoiners = message.TooManyJoiners
+
+-- It is a reply Safe.
+abbrev pub is_safe : Reply → Bool
+is_safe (reply.Safe id os) = true
+is_safe reply.EndpointInUse = false
+is_safe reply.ConfigurationChanged = false
+is_safe reply.TooManyJoiners = false
+
+-- A reply Safe names an observer.
+abbrev pub NamesObservers : Reply → Type 0
+NamesObservers (reply.Safe id os) = 1 ≤ length os
+NamesObservers reply.EndpointInUse = Unit {0}
+NamesObservers reply.ConfigurationChanged = Unit {0}
+NamesObservers reply.TooManyJoiners = Unit {0}
+
+-- The same of what a host answers.
+abbrev pub AnswersObservers : HostAnswer → Type 0
+AnswersObservers host.Nothing = Unit {0}
+AnswersObservers (host.Reply r) = NamesObservers r
+AnswersObservers (host.Confirm c) = Unit {0}
+AnswersObservers host.Raise = Unit {0}
 
 -- What a host answers.
 abbrev pub host_answer_of : HostAnswer → model.HostAnswer
@@ -54,6 +75,12 @@ abbrev pub sent_by : JoinerAnswer → List (List ℕ × message.Body)
 sent_by joiner.Nothing = []
 sent_by (joiner.PreJoin seed) = (seed, message.PreJoin) ∷ []
 sent_by (joiner.Requests rs) = map request_of rs.items
+
+-- These are requests, if only none.
+abbrev pub is_requests : JoinerAnswer → Bool
+is_requests joiner.Nothing = false
+is_requests (joiner.PreJoin seed) = false
+is_requests (joiner.Requests rs) = true
 
 -- The question to the seed, if it is time for one.
 abbrev pub question_to : Option (List ℕ) → JoinerAnswer

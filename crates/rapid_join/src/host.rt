@@ -1,12 +1,13 @@
 // The side of a member in a join.
 
-ghost use Rattle.std.specs.Prelude.{◌≡◌, map, IfOk, OnOk, OnErr};
+ghost use Rattle.std.specs.Prelude.{◌≡◌, true, false, map, IfOk, OnOk, OnErr};
 ghost use Rattle.std.specs.Arc.{arc_value};
 ghost use Rattle.std.specs.FinSet as set;
 ghost use Rattle.rapid_model.specs.Apply as apply;
 ghost use Rattle.rapid_model.specs.Host as model;
+ghost use Rattle.rapid_model.specs.Configuration.{is_member};
 ghost use Rattle.rapid_model.specs.Ring.{observers_of, observes};
-ghost use Rattle.rapid_join.specs.Answers.{host_answer_of, answered_of, safe_for};
+ghost use Rattle.rapid_join.specs.Answers.{host_answer_of, answered_of, safe_for, AnswersObservers};
 ghost use Rattle.rapid_join.specs.Hosts.{fresh_host};
 
 use crate::pending::PendingSet;
@@ -81,10 +82,12 @@ impl Host {
 
     /// A joiner's first question. The answer is the first of these that holds: `Confirm` of the configuration where
     /// the joiner is a member, `EndpointInUse` where a member has its identifier or its endpoint, `TooManyJoiners`
-    /// where 512 others are pending here, else `Safe` with its observers by ring.
+    /// where 512 others are pending here, else `Safe` with its observers by ring, of whom there is one where the host
+    /// is of a member.
     #[tactic(auto, unfolding(rapid_model::specs::Host::pre_join))]
     pub fn pre_join(&self, joiner: &Process) -> Result<HostAnswer, AllocError>
-        ensures { IfOk result (λ answer. host_answer_of answer ≡ model.pre_join self.now.config self.now.pending joiner.now) }
+        ensures answer { IfOk result (λ answer. host_answer_of answer ≡ model.pre_join self.now.config self.now.pending joiner.now) }
+        ensures observers { is_member self.now.config self.now.me ≡ true → IfOk result AnswersObservers }
     {
         if self.configuration.is_member(joiner) {
             return self.confirm();
@@ -170,8 +173,11 @@ impl Host {
 
     /// The own identifier and the joiner's observers.
     fn safe(&self, joiner: &Process) -> Result<HostAnswer, AllocError>
-        ensures { IfOk result (λ answer. host_answer_of answer ≡ safe_for self.now.config joiner.now) }
+        requires { is_member self.now.config joiner.now ≡ false }
+        ensures answer { IfOk result (λ answer. host_answer_of answer ≡ safe_for self.now.config joiner.now) }
+        ensures observers { is_member self.now.config self.now.me ≡ true → IfOk result AnswersObservers }
     {
+        self.configuration.tell();
         let observers = RingObservers::of(self.alloc, &self.rings, joiner)?;
         Ok(HostAnswer::Reply(Reply::Safe(self.configuration.id(), observers)))
     }

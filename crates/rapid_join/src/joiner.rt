@@ -1,9 +1,9 @@
 // The side of the process that joins.
 
-ghost use Rattle.std.specs.Prelude.{◌≡◌, [], map, IfOk, if◌then◌else◌};
+ghost use Rattle.std.specs.Prelude.{◌≡◌, ◌&&◌, [], map, IfOk, if◌then◌else◌};
 ghost use Rattle.rapid_model.specs.Process.{same_bytes};
 ghost use Rattle.rapid_model.specs.Joiner.{fresh_joiner, after_tick, asks_at_tick, requests_from, sent_at_reply};
-ghost use Rattle.rapid_join.specs.Answers.{answer_of, request_of, sent_by, question_to};
+ghost use Rattle.rapid_join.specs.Answers.{answer_of, is_safe, request_of, sent_by, is_requests, question_to};
 
 use crate::{JoinRequest, JoinerAnswer, Reply, RingObservers};
 use rapid_config::ConfigId;
@@ -68,8 +68,9 @@ impl Joiner {
         process: &Process,
         reply: &Reply,
     ) -> Result<JoinerAnswer, AllocError>
-        ensures { IfOk result (λ answer. sent_by answer ≡
+        ensures sent { IfOk result (λ answer. sent_by answer ≡
             (if same_bytes process.now self.now.process then sent_at_reply self.now.joiner (answer_of reply.now) else [])) }
+        ensures requests { IfOk result (λ answer. is_requests answer ≡ (same_bytes process.now self.now.process && is_safe reply.now)) }
     {
         if *process != self.process {
             return Ok(JoinerAnswer::Nothing);

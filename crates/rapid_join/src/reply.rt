@@ -20,7 +20,7 @@ pub enum Reply {
 }
 
 impl Reply {
-    ghost use Rattle.rapid_join.specs.Answers.{code_of, answer_of};
+    ghost use Rattle.rapid_join.specs.Answers.{code_of};
 
     /// The number of the reply.
     pub fn code(&self) -> u8
@@ -36,7 +36,7 @@ impl Reply {
 
     /// An equal reply, which shares the list of observers.
     pub fn try_copy(&self, alloc: Global) -> Result<Reply, AllocError>
-        ensures { IfOk result (λ reply. answer_of reply ≡ answer_of self.now) }
+        ensures { IfOk result (λ reply. reply ≡ self.now) }
     {
         match self {
             Reply::Safe(id, observers) => Ok(Reply::Safe(*id, observers.try_copy(alloc)?)),
