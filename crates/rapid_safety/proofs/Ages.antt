@@ -53,7 +53,7 @@ next_age ages (p ∷ us) q = by (eq_by_cmp process_cmp q p) refl (next_age ages 
         let is : age_of (next_ages ages (p ∷ us)) q ≡ age_of (next_ages ages us) q = value ∙ ap (λ b. unwrap_or (cond b (Some (min 41 (age_of ages p + 1))) (map.get (next_ages ages us) q)) 0) e in
         elim k [ inl z ↦ inl (is ∙ z) | inr z ↦ inr (inr z.0, subst (λ n. n ≤ age_of ages q + 1) (sym is) z.1) ]
 
-passes_filter : (f : Process → Bool) (xs : List Process) (q : Process) → In (filter f xs) q → f q ≡ true
+pub passes_filter : (f : Process → Bool) (xs : List Process) (q : Process) → In (filter f xs) q → f q ≡ true
 passes_filter f [] q h = absurd h
 passes_filter f (x ∷ xs) q h = by (f x) refl h (passes_filter f xs q)
   where

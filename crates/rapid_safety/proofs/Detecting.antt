@@ -83,11 +83,10 @@ direct_taken t d (xs ∷ batches) =
     ∙ ap (λ r. with_alerts r (taken_of t (after_batch t d xs) batches)) (after_direct t d xs)
     ∙ sym (with-append d.direct (batch_taken t d xs) (taken_of t (after_batch t d xs) batches))
 
-AllFormed : Observers → List Alert → Type 0
+abbrev pub AllFormed : Observers → List Alert → Type 0
 AllFormed t xs = (a : Alert) → In xs a → is_well_formed t a ≡ true
 
 formed_taken : (t : Observers) (r : Reports) (xs : List Alert) → AllFormed t (taken t r xs)
-unfolding AllFormed
 formed_taken t r [] a h = absurd h
 formed_taken t r (x ∷ xs) a h = by (is_taken t r x) refl h (formed_taken t (set.insert r (report_of x)) xs a) (formed_taken t r xs a)
   where
@@ -98,20 +97,17 @@ formed_taken t r (x ∷ xs) a h = by (is_taken t r x) refl h (formed_taken t (se
     by false e i f g = g i
 
 formed_batch : (t : Observers) (d : Detector) (xs : List Alert) → AllFormed t (batch_taken t d xs)
-unfolding AllFormed
 formed_batch t d xs a h = by d.closed h
   where
     by : (b : Bool) → In (cond b [] (taken t d.direct xs)) a → is_well_formed t a ≡ true
     by true i = absurd i
     by false i = formed_taken t d.direct xs a i
 
-formed_all : (t : Observers) (d : Detector) (batches : List (List Alert)) → AllFormed t (taken_of t d batches)
-unfolding AllFormed
+pub formed_all : (t : Observers) (d : Detector) (batches : List (List Alert)) → AllFormed t (taken_of t d batches)
 formed_all t d [] a h = absurd h
 formed_all t d (xs ∷ batches) a h = elim (in_split (batch_taken t d xs) (taken_of t (after_batch t d xs) batches) a h) [ inl i ↦ formed_batch t d xs a i | inr i ↦ formed_all t (after_batch t d xs) batches a i ]
 
 all_kept : (t : Observers) (xs : List Alert) → AllFormed t xs → filter (is_well_formed t) xs ≡ xs
-unfolding AllFormed
 all_kept t [] h = refl
 all_kept t (x ∷ xs) h = ap (λ b. cond b (x ∷ filter (is_well_formed t) xs) (filter (is_well_formed t) xs)) (h x (inl refl)) ∙ ap (λ l. x ∷ l) (all_kept t xs (λ a i. h a (inr i)))
 

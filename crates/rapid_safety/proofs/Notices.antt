@@ -130,6 +130,10 @@ notices_kept acts heard s a m t d x k =
           (notice_counted acts s r.0 r.1 r.2 r.3 r.4 r.5 k)
     ]
 
+-- nothing passes of nothing
+pub no_notices : (b : Ballot) (v : Cut) → notice_count set.empty b v ≡ 0
+no_notices b v = ap set.len (set.same_set notices_total notices_exact (set.retain set.empty (λ x. same_ballot x.0.0 b && same_cut x.0.1 v)) set.empty (λ q. set.contains-retain set.empty (λ x. same_ballot x.0.0 b && same_cut x.0.1 v) q (λ x e. ap (λ (z : Notice). same_ballot z.0.0 b && same_cut z.0.1 v) (sym (notices_exact q x e))) ∙ ap (λ t. t && (same_ballot q.0.0 b && same_cut q.0.1 v)) (set.contains-empty notice_cmp q) ∙ sym (set.contains-empty notice_cmp q))) ∙ set.len-empty notice_cmp
+
 pub lives_notices : (c : Configuration) (me : Process) (acts : List Act) (heard : List Message) (s : MemberState) (d : Option Cut) → Lives c me acts heard s d → NoticesKept acts s
 unfolding fresh_member
 lives_notices c me _ _ _ _ (enters k at) =
@@ -140,11 +144,7 @@ lives_notices c me _ _ _ _ (enters k at) =
       placed = λ r i. absurd i;
       giver = λ x n h. let wrong : true ≡ false = sym h ∙ set.contains-empty notice_cmp (x, n) in cc;
       once = λ b v. tt;
-      counts = λ b v. none b v;
+      counts = no_notices;
     }
-  where
-    -- nothing passes of nothing
-    none : (b : Ballot) (v : Cut) → notice_count set.empty b v ≡ 0
-    none b v = ap set.len (set.same_set notices_total notices_exact (set.retain set.empty (λ x. same_ballot x.0.0 b && same_cut x.0.1 v)) set.empty (λ q. set.contains-retain set.empty (λ x. same_ballot x.0.0 b && same_cut x.0.1 v) q (λ x e. ap (λ (z : Notice). same_ballot z.0.0 b && same_cut z.0.1 v) (sym (notices_exact q x e))) ∙ ap (λ t. t && (same_ballot q.0.0 b && same_cut q.0.1 v)) (set.contains-empty notice_cmp q) ∙ sym (set.contains-empty notice_cmp q))) ∙ set.len-empty notice_cmp
 lives_notices c me _ _ _ _ (does acts heard s a m t d l x) = notices_kept acts heard s a m t d x (lives_notices c me acts heard s None l)
 lives_notices c me _ _ _ _ (leaves acts heard s v a l mark) = notices_stay acts (Some a) s s refl refl refl refl (lives_notices c me acts heard s (Some v) l)

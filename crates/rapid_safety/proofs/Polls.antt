@@ -325,7 +325,7 @@ exists_counted p (x ∷ xs) h = by (p x) refl (count_cons p x xs) (exists_counte
     by true e c f = (x, inl refl, e)
     by false e c f = let g : count_by p (x ∷ xs) ≡ 0 + count_by p xs = c ∙ ap (λ b. cond b 1 0 + count_by p xs) e in let r = f (omega arith) in (r.0, inr r.1, r.2)
 
-counted_exists : {A : Type 0} (p : A → Bool) (xs : List A) (x : A) → In xs x → p x ≡ true → 1 ≤ count_by p xs
+pub counted_exists : {A : Type 0} (p : A → Bool) (xs : List A) (x : A) → In xs x → p x ≡ true → 1 ≤ count_by p xs
 counted_exists p [] x i h = absurd i
 counted_exists p (y ∷ xs) x (inl s) h = let c = count_cons p y xs ∙ ap (λ b. cond b 1 0 + count_by p xs) (ap p s ∙ h) in omega arith
 counted_exists p (y ∷ xs) x (inr i) h = let c = count_cons p y xs in let r = counted_exists p xs x i h in omega arith
