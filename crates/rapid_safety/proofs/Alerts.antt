@@ -1,6 +1,6 @@
 -- Each alert that was sent has a cause.
-use Rattle.std.proofs.Common.{◌≡◌, ◌⊎◌, ◌≤◌, inl, inr, List, [], ◌∷◌, ◌++◌, refl, sym, ap, subst, ◌∙◌, Some}
-use Rattle.std.specs.Prelude.{flat_map, Contains}
+use Rattle.std.proofs.Common.{◌≡◌, inl, inr, List, [], ◌∷◌, refl, sym, subst, Some}
+use Rattle.std.specs.Prelude.{flat_map}
 use Rattle.rapid_model.specs.Process.{Process}
 use Rattle.rapid_model.specs.Configuration.{Configuration, AreMembers, configuration_id}
 use Rattle.rapid_model.specs.Alert.{Alert, Kind, Remove, Join}
@@ -15,12 +15,12 @@ use Rattle.rapid_model.proofs.Lists.{In, in_split, in_from, contains_from}
 use Rattle.rapid_safety.proofs.Logs.{acts_at}
 use Rattle.rapid_safety.proofs.Histories.{Lived}
 use Rattle.rapid_safety.proofs.Lived.{lived_run}
-use Rattle.rapid_safety.proofs.Reasons.{CauseIn, EchoIn, Sound, ReasonsKept, lives_reasons}
+use Rattle.rapid_safety.proofs.Reasons.{CauseIn, Sound, lives_reasons}
 use Rattle.rapid_safety.proofs.Spoken.{from_acts}
 use Rattle.rapid_safety.proofs.Asides.{Asides, asides_run}
 use Rattle.rapid_safety.proofs.PacketsSent.{SaidIn}
 use Rattle.rapid_safety.proofs.Rules.{sent_said}
-use Rattle.rapid_safety.proofs.Speakers.{SpokenBy, spoken}
+use Rattle.rapid_safety.proofs.Speakers.{spoken}
 
 pub of_flat : {A B : Type 0} (f : A → List B) (xs : List A) (y : B) → In (flat_map f xs) y → (x : A) × In xs x × In (f x) y
 of_flat f [] y h = absurd h

@@ -15,7 +15,7 @@ use Rattle.rapid_safety.proofs.Polls.{Distinct}
 use Rattle.rapid_safety.proofs.Distinct.{distinct_apply}
 use Rattle.rapid_safety.proofs.Steps.{Steps}
 use Rattle.rapid_safety.proofs.StepLemmas.{run_keeps}
-use Rattle.rapid_safety.proofs.Present.{WasInstalled, InstalledBy}
+use Rattle.rapid_safety.proofs.Present.{WasInstalled}
 use Rattle.rapid_safety.proofs.News.{Moves, InstalledNow, installed_new}
 use Rattle.rapid_safety.proofs.MoveKinds.{acts_then, InstallKind, by_member, by_joiner, install_kind_of}
 use Rattle.rapid_safety.proofs.Told.{Confirmed, move_present, Histories, histories_kept, histories_founded}

@@ -1,7 +1,6 @@
 -- Each vote and each notice that a member heard of a member is counted, and a life that goes on heard no Decision.
 use Rattle.std.proofs.Common.{◌≡◌, ◌⊎◌, ◌≤◌, ◌<◌, ◌+◌, inl, inr, ℕ, Bool, true, false, cond, ◌&&◌, ◌||◌, ◌==◌, List, [], ◌∷◌, ◌++◌, count_by, refl, sym, ap, subst, ◌∙◌, Option, Some, None, arith}
 use Rattle.std.specs.FinSet as set
-use Rattle.std.specs.Cmp.{nat_cmp_total}
 use Rattle.std.proofs.lemmas.Bool.{and_parts, and_from}
 use Rattle.rapid_model.specs.Process.{Process, same_bytes}
 use Rattle.rapid_model.specs.Cut.{Cut}
@@ -14,10 +13,10 @@ use Rattle.rapid_model.specs.Node.{MemberState, Others, Says, fresh_member, plac
 use Rattle.rapid_model.specs.Member.{current_id, own_place}
 use Rattle.rapid_model.specs.World.{Act, Did}
 use Rattle.rapid_model.specs.History.{taken_by}
-use Rattle.rapid_model.proofs.Lists.{In, in_split}
+use Rattle.rapid_model.proofs.Lists.{In}
 use Rattle.rapid_model.proofs.Orders.{same_bytes_decides, notices_total}
 use Rattle.rapid_model.proofs.Rounds.{heard-hear_vote}
-use Rattle.rapid_safety.proofs.Atoms.{push, message, taken_in, IsIdle, Atom, marks, ticks, raises, resends, waits, votes_again, flushes, begins, ignores, hears_batch, proposes, casts, hears_vote, promises, hears_promise, asks, accepts_cut, hears_notice, hears_decision, Lives, enters, does, leaves}
+use Rattle.rapid_safety.proofs.Atoms.{push, message, taken_in, IsIdle, Atom, marks, ticks, raises, resends, waits, votes_again, flushes, begins, ignores, casts, hears_vote, hears_notice, hears_decision, Lives, enters, does, leaves}
 use Rattle.rapid_safety.proofs.Kept.{atom_config, atom_me, lives_placed}
 use Rattle.rapid_safety.proofs.TickWorks.{filter_map-append}
 use Rattle.rapid_safety.proofs.Words.{in_push}
@@ -198,8 +197,7 @@ below_more a b c h g = omega arith
 owes_quiet : (acts : List Act) (o : Option Act) (heard : List Message) (m : Option Message) (s t : MemberState) → t.config ≡ s.config → t.me ≡ s.me → t.voted ≡ s.voted → no_own s m → Owes acts heard s → Owes (push acts o) (push heard m) t
 owes_quiet acts o heard m s t config me voted quiet k =
     let same = heard_same s heard m quiet in
-    owes_as (push acts o) (push heard m) s t config me
-    (
+    owes_as (push acts o) (push heard m) s t config me (
       (λ e. subst (λ n. n < own_votes s (taken_in s.me (push acts o))) (sym same) (below_more _ _ _ (k.0 (sym voted ∙ e)) (taken_votes (own_vote s.me (current_id s)) s.me acts o))),
       λ e. same ∙ k.1 (sym voted ∙ e),
     )

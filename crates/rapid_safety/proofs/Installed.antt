@@ -1,10 +1,7 @@
 -- In every configuration that was installed the rules of Fast Paxos are kept, and so one cut is chosen.
-use Rattle.std.proofs.Common.{◌≡◌, List, [], ◌∷◌, ◌++◌, refl, sym, ap, subst, ◌∙◌}
-use Rattle.std.specs.Prelude.{Contains}
+use Rattle.std.proofs.Common.{◌≡◌, List, [], ◌∷◌, ◌++◌, refl, sym, subst}
 use Rattle.rapid_model.specs.Process.{Process}
-use Rattle.rapid_model.specs.Cut.{Cut}
 use Rattle.rapid_model.specs.Configuration.{Configuration, AreMembers, configuration_id}
-use Rattle.rapid_model.specs.Ballot.{Ballot}
 use Rattle.rapid_model.specs.FastPaxos.{KeepsRules}
 use Rattle.rapid_model.specs.Message.{Body, Accept}
 use Rattle.rapid_model.specs.Node.{Says}

@@ -1,25 +1,23 @@
 -- The installed configurations of every run form one line.
-use Rattle.std.proofs.Common.{◌≡◌, ◌⊎◌, inl, inr, ℕ, Bool, true, false, cond, List, [], ◌∷◌, ◌++◌, map, refl, sym, ap, ap₂, subst, ◌∙◌, Some, None, append_assoc}
+use Rattle.std.proofs.Common.{◌≡◌, ◌⊎◌, inl, inr, ℕ, Bool, true, false, cond, List, [], ◌∷◌, ◌++◌, map, refl, sym, ap, ap₂, subst, ◌∙◌, Some, append_assoc}
 use Rattle.std.specs.Prelude.{Contains}
 use Rattle.std.proofs.lemmas.Option.{slice_get-get_or}
 use Rattle.rapid_model.specs.Process.{Process}
 use Rattle.rapid_model.specs.Cut.{Cut}
 use Rattle.rapid_model.specs.Configuration.{Configuration, Stamp, AreMembers, configuration_id, stamp, is_member}
 use Rattle.rapid_model.specs.Apply.{apply}
-use Rattle.rapid_model.specs.Message.{Message, Decision, Confirm}
-use Rattle.rapid_model.specs.Node.{Node, Phase, Joining, Member, Removed, Halted, MemberState, member_in, member_config, fresh_member, seed_node, joiner_node, halt}
-use Rattle.rapid_model.specs.World.{World, Peer, Entry, Installed, MarkedEvent}
+use Rattle.rapid_model.specs.Message.{Decision}
+use Rattle.rapid_model.specs.Node.{Node, Phase, Joining, Member, Removed, Halted, MemberState, member_config, fresh_member, seed_node}
+use Rattle.rapid_model.specs.World.{World, Peer, Entry, MarkedEvent}
 use Rattle.rapid_model.specs.WorldStep.{added, acts_of}
 use Rattle.rapid_model.specs.Run.{run, founded}
 use Rattle.rapid_model.specs.History.{received, Received}
 use Rattle.rapid_model.specs.Chosen.{Chosen}
 use Rattle.rapid_model.specs.Agreement.{line_from, EachChange, IsStretchOf, IsLine, Line, NoCollision}
-use Rattle.rapid_model.specs.RunFacts.{OneChosen}
 use Rattle.rapid_model.proofs.Lists.{In, in_left, in_from, contains_from}
 use Rattle.rapid_safety.specs.Evidence.{Evidence}
-use Rattle.rapid_safety.proofs.Atoms.{message, Lives}
+use Rattle.rapid_safety.proofs.Atoms.{message}
 use Rattle.rapid_safety.proofs.TickWorks.{map-append}
-use Rattle.rapid_safety.proofs.NodeWorks.{next_node}
 use Rattle.rapid_safety.proofs.Logs.{acts_at, acts_here, here_from}
 use Rattle.rapid_safety.proofs.Lived.{get_map}
 use Rattle.rapid_safety.proofs.Spoken.{TookSaid, took_kept, none_took, known_said}
@@ -358,13 +356,14 @@ line_of_run f es are apart =
     (λ p i. let c = contains_from w.peers p i in
     follows_behind f w p.node.installed p.node.phase ((lined_run f es are apart).nodes c.0 p (slice_get-get_or w.peers c.0 p c.1 ∙ ap Some c.2)))
 
-pub installs_form_one_line : (f : Configuration) (es : List MarkedEvent) → AreMembers f.members → NoCollision (run es (founded f)) → Line (run es (founded f))
-installs_form_one_line f es are apart =
+-- it is a line as the definition has it
+pub line_is : (f : Configuration) (es : List MarkedEvent) (l : Longest f (run es (founded f)) (run es (founded f)).peers) → IsLine (run es (founded f)) l.cuts
+line_is f es l =
     let w = run es (founded f) in
-    let l = line_of_run f es are apart in (
-      l.cuts,
-      record {
-        chosen = subst (λ c. EachChange (Chosen w) c l.cuts) (sym (founding_of_run f es)) (changes_more (IsChange w) (Chosen w) (λ c u h. h.1) f l.cuts l.changes);
-        consecutive = λ p there. subst (λ c. IsStretchOf p.node.installed (map stamp (line_from c l.cuts))) (sym (founding_of_run f es)) (l.stretches p (in_from w.peers p there));
-      },
-    )
+    record {
+      chosen = subst (λ c. EachChange (Chosen w) c l.cuts) (sym (founding_of_run f es)) (changes_more (IsChange w) (Chosen w) (λ c u h. h.1) f l.cuts l.changes);
+      consecutive = λ p there. subst (λ c. IsStretchOf p.node.installed (map stamp (line_from c l.cuts))) (sym (founding_of_run f es)) (l.stretches p (in_from w.peers p there));
+    }
+
+pub installs_form_one_line : (f : Configuration) (es : List MarkedEvent) → AreMembers f.members → NoCollision (run es (founded f)) → Line (run es (founded f))
+installs_form_one_line f es are apart = let l = line_of_run f es are apart in (l.cuts, line_is f es l)

@@ -2,12 +2,11 @@
 use Rattle.std.proofs.Common.{◌≡◌, ◌⊎◌, inl, inr, Bool, true, false, cond, List, [], ◌∷◌, ◌++◌, refl, sym, ap, subst, ◌∙◌, Option, Some, None, length}
 use Rattle.rapid_model.specs.Process.{Process}
 use Rattle.rapid_model.specs.Cut.{Cut}
-use Rattle.rapid_model.specs.Configuration.{Configuration, is_member}
+use Rattle.rapid_model.specs.Configuration.{Configuration}
 use Rattle.rapid_model.specs.Apply.{apply}
 use Rattle.rapid_model.specs.Joiner.{Joiner}
 use Rattle.rapid_model.specs.Message.{Message, Confirm}
 use Rattle.rapid_model.specs.Node.{Node, Phase, Joining, Member, Removed, Halted, MemberState, Outcome, Event, Receive, member_in, member_config, has_installed, configuration_of, seed_node, fresh_member}
-use Rattle.rapid_model.specs.NodeStep.{node_step}
 use Rattle.rapid_model.specs.World.{World, Peer, Act, Installed}
 use Rattle.rapid_model.specs.WorldStep.{install_acts, acts_of}
 use Rattle.rapid_model.proofs.Lists.{In, in_from}
@@ -19,7 +18,7 @@ use Rattle.rapid_safety.proofs.Histories.{Lived}
 use Rattle.rapid_safety.proofs.LifeSteps.{comes_steps}
 use Rattle.rapid_safety.proofs.Lived.{JoinerSteps, joins_still, joins, joiner_steps, removed_stays, halted_stays}
 use Rattle.rapid_safety.proofs.PacketsSent.{SaidIn, PacketsSaid}
-use Rattle.rapid_safety.proofs.Steps.{StandsAt, Comes, by_tick, by_packet, by_probe}
+use Rattle.rapid_safety.proofs.Steps.{Comes, by_tick, by_packet, by_probe}
 use Rattle.rapid_safety.proofs.News.{Moves}
 
 -- the acts of the node in a configuration after the step, where it is a member there

@@ -7,7 +7,7 @@ use Rattle.rapid_model.specs.Node.{Node, Destination, Effect, Says, Outcome, Eve
 use Rattle.rapid_model.specs.NodeStep.{node_step}
 use Rattle.rapid_model.specs.World.{World, Peer, Act, Took, Did, Ticked, Probed, Installed, HasHalted, Crashed, Entry, is_running}
 use Rattle.rapid_model.specs.WorldStep.{entry, install_acts, acts_of, moved}
-use Rattle.rapid_model.proofs.Lists.{In, in_split, in_left, in_right, in_map}
+use Rattle.rapid_model.proofs.Lists.{In, in_split, in_right, in_map}
 use Rattle.rapid_safety.proofs.Logs.{get_set, get_push}
 use Rattle.rapid_safety.proofs.Spoken.{entry_in}
 use Rattle.rapid_safety.proofs.Steps.{StandsAt, Comes, by_tick, by_packet, by_probe, Steps, stays, starts, notes, stops, moves, ends}

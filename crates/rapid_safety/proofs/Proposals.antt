@@ -1,5 +1,5 @@
 -- What a member proposed was the cut of the alerts that it had taken.
-use Rattle.std.proofs.Common.{◌≡◌, ◌⊎◌, inl, inr, ℕ, Bool, true, false, cond, ◌&&◌, List, [], ◌∷◌, ◌++◌, map, filter, refl, sym, ap, subst, ◌∙◌, Option, Some, None, append_assoc}
+use Rattle.std.proofs.Common.{◌≡◌, ℕ, Bool, true, false, cond, ◌&&◌, List, [], ◌∷◌, ◌++◌, map, filter, refl, sym, ap, subst, ◌∙◌, Option, Some, None, append_assoc}
 use Rattle.std.specs.Prelude.{filter_map}
 use Rattle.rapid_model.specs.Process.{Process, same_bytes}
 use Rattle.rapid_model.specs.Cut.{Cut}
@@ -54,8 +54,7 @@ life_cut c me acts heard s d l sync v h =
     let config = lives_config c me acts heard s d l in
     let own : s.proposal ≡ Some v = sym (lives_vote c me acts heard s d l).first ∙ h in
     let direct = detector_taken acts heard s det (sync ∙ ap (λ p. taken_in p acts) (sym mine)) in
-    let cut : cut_of (observers_of s.config) (direct_reports (observers_of s.config) (alerts_taken (observers_of s.config) s.me acts)) ≡ Some v = ap (cut_of (observers_of s.config)) (sym direct) ∙ det.cut v own in
-    (
+    let cut : cut_of (observers_of s.config) (direct_reports (observers_of s.config) (alerts_taken (observers_of s.config) s.me acts)) ≡ Some v = ap (cut_of (observers_of s.config)) (sym direct) ∙ det.cut v own in (
       acts,
       [],
       nil_acts acts,

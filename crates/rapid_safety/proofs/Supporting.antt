@@ -1,26 +1,26 @@
 -- Each cut that a member proposed is supported by alerts that were sent, have a cause, and were taken.
-use Rattle.std.proofs.Common.{◌≡◌, ◌⊎◌, ◌<◌, inl, inr, ℕ, zero, suc, Bool, true, false, ◌||◌, List, [], ◌∷◌, ◌++◌, map, refl, sym, ap, subst, ◌∙◌, Option, Some, None, length, arith}
-use Rattle.std.specs.Prelude.{Contains, filter_map, flat_map, All, slice_index_or}
+use Rattle.std.proofs.Common.{◌≡◌, ◌<◌, inl, inr, ℕ, zero, suc, Bool, true, false, ◌||◌, List, [], ◌∷◌, ◌++◌, refl, sym, ap, subst, ◌∙◌, Some, length, arith}
+use Rattle.std.specs.Prelude.{Contains, flat_map, All, slice_index_or}
 use Rattle.std.specs.List.{list_any}
 use Rattle.std.proofs.lemmas.Bool.{and_parts}
 use Rattle.rapid_model.specs.Process.{Process, same_bytes, is_in}
 use Rattle.rapid_model.specs.Cut.{Cut}
-use Rattle.rapid_model.specs.Configuration.{Params, AreParams, Configuration, AreMembers, configuration_id, is_member}
+use Rattle.rapid_model.specs.Configuration.{AreParams, Configuration, AreMembers, configuration_id, is_member}
 use Rattle.rapid_model.specs.Apply.{apply}
 use Rattle.rapid_model.specs.Ring.{observers_of}
 use Rattle.rapid_model.specs.Alert.{Alert, is_well_formed}
 use Rattle.rapid_model.specs.Detector.{empty_detector}
 use Rattle.rapid_model.specs.Message.{Message}
-use Rattle.rapid_model.specs.World.{World, Act, Installed, Entry, MarkedEvent}
+use Rattle.rapid_model.specs.World.{Act, Entry, MarkedEvent}
 use Rattle.rapid_model.specs.Run.{run, founded}
 use Rattle.rapid_model.specs.History.{acts_in, sent, alerts_said, SentAlert, received, taken_by}
 use Rattle.rapid_model.specs.Justified.{batches_in, alerts_taken, IsJustified}
-use Rattle.rapid_model.specs.Agreement.{NoCollision, IsSupport, IsReportedEnough, IsSupported}
+use Rattle.rapid_model.specs.Agreement.{NoCollision, IsSupport, IsReportedEnough}
 use Rattle.rapid_model.proofs.Lists.{In, in_left, in_right, in_from, contains_from}
 use Rattle.rapid_model.proofs.Orders.{same_bytes_decides}
 use Rattle.rapid_model.proofs.Taken.{taken_were_received}
 use Rattle.rapid_safety.specs.Proposals.{ProposalsSupported}
-use Rattle.rapid_safety.proofs.Atoms.{taken_in, Lives}
+use Rattle.rapid_safety.proofs.Atoms.{taken_in}
 use Rattle.rapid_safety.proofs.Kept.{lives_member}
 use Rattle.rapid_safety.proofs.TickWorks.{filter_map-append}
 use Rattle.rapid_safety.proofs.Logs.{acts_at}
@@ -30,9 +30,9 @@ use Rattle.rapid_safety.proofs.Lawful.{member_at}
 use Rattle.rapid_safety.proofs.Spoken.{from_acts, received_were_said}
 use Rattle.rapid_safety.proofs.Asides.{asides_run}
 use Rattle.rapid_safety.proofs.Present.{present_run, WasInstalled, was_installed}
-use Rattle.rapid_safety.proofs.Descent.{reached, AnyChange, descent_run}
-use Rattle.rapid_safety.proofs.Detecting.{batches_of, detector_after, taken_of-append, formed_all, observers_id}
-use Rattle.rapid_safety.proofs.Alerts.{of_flat, RaisedIn, raised_in, justified}
+use Rattle.rapid_safety.proofs.Descent.{reached, descent_run}
+use Rattle.rapid_safety.proofs.Detecting.{batches_of, taken_of-append, formed_all, observers_id}
+use Rattle.rapid_safety.proofs.Alerts.{of_flat, raised_in, justified}
 use Rattle.rapid_safety.proofs.Proposals.{first_cut, CutIn, Proposals, proposals_run}
 use Rattle.rapid_safety.proofs.Enough.{stable_direct, cut_stable}
 

@@ -1,11 +1,11 @@
 -- What a node tells in a step: a Confirm is of its configuration or of the one that it installs, and a Decision is one that it keeps.
 use Rattle.std.proofs.Common.{◌≡◌, ◌⊎◌, inl, inr, ℕ, Bool, true, false, cond, not, ◌+◌, ◌==◌, ◌%◌, List, [], ◌∷◌, ◌++◌, map, refl, sym, ap, subst, ◌∙◌, Option, Some, None}
-use Rattle.std.specs.Prelude.{flat_map, Result, Ok, Err, nat_lt}
+use Rattle.std.specs.Prelude.{flat_map, Result, Ok, Err}
 use Rattle.std.specs.List.{find}
 use Rattle.std.specs.Option.{option_eq, option_map}
 use Rattle.rapid_model.specs.Process.{Process, ProcessSet, same_bytes}
 use Rattle.rapid_model.specs.Cut.{Cut}
-use Rattle.rapid_model.specs.Configuration.{Configuration, configuration_id, position_of, is_member, Stamp}
+use Rattle.rapid_model.specs.Configuration.{Configuration, configuration_id, position_of, is_member}
 use Rattle.rapid_model.specs.Apply.{apply, collides}
 use Rattle.rapid_model.specs.Ring.{observers_of, observes}
 use Rattle.rapid_model.specs.Alert.{Alert, Remove}
@@ -19,9 +19,9 @@ use Rattle.rapid_model.specs.Joiner.{Joiner, asks_at_tick, requests_from, sent_a
 use Rattle.rapid_model.specs.Message.{item_of, Answer, Safe, EndpointInUse, ConfigurationChanged, TooManyJoiners, Body, Batch, FastVote, Prepare, Promise, Accept, Accepted, Decision, PreJoin, Reply, JoinRequest, Confirm, Probe, ProbeAck, caught_up_by, batch_alerts}
 use Rattle.rapid_model.specs.Node.{Node, Decisions, Phase, Joining, Member, Removed, Halted, MemberState, Destination, To, Others, Itself, Effect, Says, Proposes, Outcome, Event, EdgeDown, Receive, member_in, seed_node, configuration_of}
 use Rattle.rapid_model.specs.Node as node
-use Rattle.rapid_model.specs.Member.{Work, still, says, and_then, then_if, after_effects, current_id, own_place, vote_seen, raise_alert, take_vote, take_accepted, take_accept, send_accept, take_promise, give_promise, take_prepare, cast_vote, propose, take_batch, at_position}
+use Rattle.rapid_model.specs.Member.{Work, still, says, and_then, then_if, current_id, own_place, vote_seen, raise_alert, take_vote, take_accepted, take_accept, send_accept, take_promise, give_promise, take_prepare, cast_vote, propose, take_batch, at_position}
 use Rattle.rapid_model.specs.Tick.{clock_moved, aged, vote_again, repeats, send_alerts, sends_batch, is_due, begin_at, recovers, quiet_tick, batch_tick, on_tick}
-use Rattle.rapid_model.specs.Receive.{take, decided_in, decision_to, catch_up, answer_to, host_work, sends, take_or_catch_up, is_about, receive_as_member, receive_as_joiner, joins_on, replied}
+use Rattle.rapid_model.specs.Receive.{take, decided_in, decision_to, catch_up, answer_to, sends, take_or_catch_up, is_about, receive_as_member, receive_as_joiner, joins_on}
 use Rattle.rapid_model.specs.NodeStep.{node_step, step_tick, step_receive, step_edge_down, question_to, idle, install, put_before, stays_member, settle_at, settle, is_history_full}
 use Rattle.rapid_model.specs.World.{Installed}
 use Rattle.rapid_model.specs.WorldStep.{install_acts}

@@ -1,26 +1,25 @@
 -- What is told in a run: a Confirm names what its sender installed, and a Decision what its sender left, by its cut.
-use Rattle.std.proofs.Common.{◌≡◌, ◌⊎◌, inl, inr, ℕ, zero, suc, ◌-◌, Bool, List, [], ◌∷◌, ◌++◌, map, refl, sym, ap, subst, ◌∙◌, Some, None, length}
-use Rattle.std.specs.Prelude.{drop, Contains}
+use Rattle.std.proofs.Common.{◌≡◌, inl, inr, ℕ, zero, suc, ◌-◌, List, [], ◌∷◌, ◌++◌, map, refl, sym, ap, subst, ◌∙◌, Some, None, length}
+use Rattle.std.specs.Prelude.{drop}
 use Rattle.rapid_model.specs.Process.{Process}
 use Rattle.rapid_model.specs.Cut.{Cut}
 use Rattle.rapid_model.specs.Configuration.{Configuration, AreMembers, configuration_id}
 use Rattle.rapid_model.specs.Apply.{apply}
 use Rattle.rapid_model.specs.Message.{Body, Confirm, Decision}
-use Rattle.rapid_model.specs.Node.{Node, Member, MemberState, Destination, Effect, Says, Decisions, member_in, member_config, seed_node, configuration_of}
-use Rattle.rapid_model.specs.NodeStep.{last_64}
+use Rattle.rapid_model.specs.Node.{Node, Member, MemberState, Destination, Says, member_in, member_config, seed_node}
 use Rattle.rapid_model.specs.World.{World, Peer, Did, Installed, Entry, MarkedEvent}
 use Rattle.rapid_model.specs.WorldStep.{added, entry}
 use Rattle.rapid_model.specs.Run.{run, founded}
-use Rattle.rapid_model.specs.History.{Sent, sent}
+use Rattle.rapid_model.specs.History.{sent}
 use Rattle.rapid_model.specs.Agreement.{NoCollision}
 use Rattle.rapid_model.specs.RunFacts.{HasInstalled, ConfirmsInstalled, DecisionsInstalled}
-use Rattle.rapid_model.proofs.Lists.{In, in_split, in_left, in_right, in_from, contains_from}
+use Rattle.rapid_model.proofs.Lists.{In, in_split, in_right, in_from, contains_from}
 use Rattle.rapid_safety.proofs.Atoms.{message, Lives}
 use Rattle.rapid_safety.proofs.NodeWorks.{next_node}
 use Rattle.rapid_safety.proofs.Histories.{Lived}
 use Rattle.rapid_safety.proofs.Lived.{get_map, lived_founded, lived_kept}
 use Rattle.rapid_safety.proofs.Nodes.{Nodes, nodes_kept, Rises, rises_kept, founder_rises}
-use Rattle.rapid_safety.proofs.PacketsSent.{SaidIn, PacketsSaid, sent_kept, none_sent}
+use Rattle.rapid_safety.proofs.PacketsSent.{PacketsSaid, sent_kept, none_sent}
 use Rattle.rapid_safety.proofs.Rules.{sent_said}
 use Rattle.rapid_safety.proofs.Steps.{StandsAt, Steps}
 use Rattle.rapid_safety.proofs.StepLemmas.{run_keeps, log_grows}

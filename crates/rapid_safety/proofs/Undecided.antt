@@ -1,21 +1,20 @@
 -- In a life that goes on no counter is complete, and all that was heard is counted.
-use Rattle.std.proofs.Common.{◌≡◌, ◌⊎◌, ◌≤◌, ◌<◌, ◌+◌, inl, inr, ℕ, Bool, true, false, cond, not, ◌&&◌, ◌||◌, ◌==◌, List, [], ◌∷◌, ◌++◌, refl, sym, ap, subst, ◌∙◌, Option, Some, None, unwrap_or, arith}
+use Rattle.std.proofs.Common.{◌≡◌, ◌<◌, ◌+◌, ℕ, Bool, true, false, cond, not, ◌&&◌, ◌||◌, ◌==◌, List, refl, sym, ap, subst, ◌∙◌, Option, Some, None, unwrap_or, arith}
 use Rattle.std.specs.Prelude.{nat_le}
 use Rattle.std.specs.FinSet as set
 use Rattle.std.specs.FinMap as map
-use Rattle.std.proofs.lemmas.Bool.{and_from}
 use Rattle.rapid_model.specs.Process.{Process}
 use Rattle.rapid_model.specs.Cut.{Cut, cut_cmp, same_cut}
-use Rattle.rapid_model.specs.Configuration.{Configuration, position_of}
+use Rattle.rapid_model.specs.Configuration.{Configuration}
 use Rattle.rapid_model.specs.Quorum.{classic_size, fast_size}
 use Rattle.rapid_model.specs.Ballot.{Ballot, same_ballot}
-use Rattle.rapid_model.specs.FastRound.{FastRound, count_of, one_more, hear_vote, fast_decision}
+use Rattle.rapid_model.specs.FastRound.{FastRound, count_of, hear_vote, fast_decision}
 use Rattle.rapid_model.specs.Learner.{Learner, notice_count, notices_with, completes_notices, after_notice, learnt}
-use Rattle.rapid_model.specs.Message.{Message, FastVote, Accepted}
+use Rattle.rapid_model.specs.Message.{Message}
 use Rattle.rapid_model.specs.Node.{MemberState, fresh_member}
 use Rattle.rapid_model.specs.World.{Act}
 use Rattle.rapid_model.proofs.Orders.{same_cut_decides, notices_total}
-use Rattle.rapid_model.proofs.Rounds.{hear_vote-heard, hear_vote-new, size-hear_vote, count_of-one_more}
+use Rattle.rapid_model.proofs.Rounds.{hear_vote-heard, hear_vote-new, count_of-one_more}
 use Rattle.rapid_safety.proofs.Atoms.{Atom, marks, hears_vote, hears_notice, Lives, enters, does, leaves}
 use Rattle.rapid_safety.proofs.SetLemmas.{insert_known, len_new_kept}
 use Rattle.rapid_safety.proofs.Notices.{notices_exact, is_of, of_is, no_notices}
