@@ -102,3 +102,24 @@ fn positions(rt: HostRuntime) {
     assert_eq!(rt; copy.len(), 2);
     assert!(rt; copy.contains(1023) && !copy.contains(65));
 }
+
+/// A vote, given again where its growth is refused.
+fn heard(round: &mut FastRound, position: usize, cut: &Cut) -> Result<Option<Cut>, HearError> {
+    match round.hear(position, cut) {
+        Err(HearError::OutOfMemory) => round.hear(position, cut),
+        answer => answer,
+    }
+}
+
+/// Where some growth is refused the round is as it was, so that votes given again make the same decision.
+#[test]
+fn want_of_memory_leaves_the_round_as_it_was(rt: HostRuntime) -> Result<(), Fail> {
+    let x = cut(rt.alloc(), 6)?;
+    let y = cut(rt.alloc(), 7)?;
+    let mut round = FastRound::new(rt.alloc(), 5, 0);
+    for (position, cut) in [(0, &x), (1, &y), (2, &x), (3, &x)] {
+        assert!(rt; heard(&mut round, position, cut)?.is_none());
+    }
+    assert!(rt; heard(&mut round, 4, &x)? == Some(x));
+    Ok(())
+}
