@@ -3,6 +3,7 @@ use crate::{Edge, Monitors, Verdict};
 use rapid_config::{Configuration, Params};
 use rapid_endpoint::{Endpoint, Process, ProcessId};
 use rapid_rings::Rings;
+use std::alloc::Global;
 use std::test::Fail;
 
 /// The verdicts of an edge after these runs of equal results, each a result and how often it comes.
@@ -61,14 +62,19 @@ fn process(number: u8) -> Process {
     )
 }
 
-#[test]
-fn the_edges_of_a_member_are_probed_by_ring(rt: HostRuntime) -> Result<(), Fail> {
+/// The rings of processes 1 and 2, three of them.
+fn rings_of_two(alloc: Global) -> Result<Rings, Fail> {
     let params = Params::new(3, 3, 1).ok().ok_or("parameters")?;
     let pair = [process(1), process(2)];
-    let configuration = Configuration::seed(rt.alloc(), params, &pair)
+    let configuration = Configuration::seed(alloc, params, &pair)
         .ok()
         .ok_or("a configuration")?;
-    let rings = Rings::new(rt.alloc(), &configuration)?;
+    Ok(Rings::new(alloc, &configuration)?)
+}
+
+#[test]
+fn the_edges_of_a_member_are_probed_by_ring(rt: HostRuntime) -> Result<(), Fail> {
+    let rings = rings_of_two(rt.alloc())?;
     let mut monitors = Monitors::new(rt.alloc(), &rings, &process(1))?;
     for _ in 0..3 {
         assert_eq!(rt; monitors.probe(0, false), Some(Verdict::Up));
@@ -81,5 +87,25 @@ fn the_edges_of_a_member_are_probed_by_ring(rt: HostRuntime) -> Result<(), Fail>
     assert_eq!(rt; monitors.probe(0, false), Some(Verdict::Down));
     let mut stranger = Monitors::new(rt.alloc(), &rings, &process(9))?;
     assert_eq!(rt; stranger.probe(0, true), None);
+    Ok(())
+}
+
+/// Where some growth is refused the next call works, and what was copied is as it was.
+#[test]
+fn want_of_memory_leaves_the_monitors_as_they_were(rt: HostRuntime) -> Result<(), Fail> {
+    let rings = rings_of_two(rt.alloc())?;
+    let mut monitors = match Monitors::new(rt.alloc(), &rings, &process(1)) {
+        Ok(monitors) => monitors,
+        Err(_) => Monitors::new(rt.alloc(), &rings, &process(1))?,
+    };
+    for _ in 0..3 {
+        monitors.probe(2, false);
+    }
+    let mut copy = match monitors.try_copy(rt.alloc()) {
+        Ok(copy) => copy,
+        Err(_) => monitors.try_copy(rt.alloc())?,
+    };
+    assert_eq!(rt; copy.probe(2, false), Some(Verdict::Down));
+    assert_eq!(rt; monitors.probe(2, true), Some(Verdict::Up));
     Ok(())
 }
