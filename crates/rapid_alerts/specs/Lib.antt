@@ -1,1 +1,3 @@
 pub mod Alerts
+pub mod Outboxes
+pub mod Refusals

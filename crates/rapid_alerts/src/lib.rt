@@ -1,6 +1,14 @@
 //! Alerts of cut detection (Rapid, USENIX ATC 2018): an observer asks to remove a member or to let a joiner in.
+//! What it asks it raises once in an [`Outbox`], from which it goes out in [`Batch`]es.
 #![tactic(auto)]
 
 mod alert;
+mod batch;
+mod errors;
+mod index;
+mod outbox;
 
 pub use alert::{Alert, Kind};
+pub use batch::Batch;
+pub use errors::{BatchError, RaiseError};
+pub use outbox::{Outbox, Raising};

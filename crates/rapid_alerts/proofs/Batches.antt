@@ -1,0 +1,173 @@
+-- Batches: what their alerts have in common, and which stretches of an outbox are batches.
+use Rattle.std.proofs.Common.{◌≡◌, ℕ, zero, suc, ◌+◌, ◌-◌, ◌<◌, ◌≤◌, min, ◌⊎◌, inl, inr, Bool, true, false, cond, not, ◌&&◌, List, [], ◌∷◌, length, map, take, drop, refl, sym, ap, subst, ◌∙◌, arith, nat_lt, Option, Some, None}
+use Rattle.std.specs.Prelude.{All}
+use Rattle.std.specs.List.{list_all, slice_index_or}
+use Rattle.std.proofs.lemmas.Bool.{cases_lt}
+use Rattle.std.proofs.lemmas.List.{length-take, take_all}
+use Rattle.std.proofs.lemmas.List.Elements.{All-take, All-drop}
+use Rattle.rapid_model.specs.Process.{Process, same_bytes}
+use Rattle.rapid_model.specs.Ring.{Observers}
+use Rattle.rapid_model.specs.Alert as model
+use Rattle.rapid_model.specs.Outbox.{Outbox, unflushed, flush}
+use Rattle.rapid_model.specs.Batch.{Batch, BatchFault, MixedAlerts, TooManyAlerts, is_alike, batch_fault, batch_of}
+use Rattle.rapid_model.proofs.Orders.{same_bytes_decides}
+use Rattle.rapid_alerts.specs.Alerts.{alert_of}
+use Rattle.rapid_alerts.specs.declared.alert.Alert.{Alert}
+use Rattle.rapid_alerts.specs.Outboxes.{Index, is_sound, IsOutbox}
+use Rattle.rapid_alerts.proofs.Raisings.{parts_of}
+
+both : (a b : Bool) → (a && b) ≡ true → (a ≡ true) × (b ≡ true)
+both true b h = (refl, h)
+both false b h = cc
+
+and : (a b : Bool) → a ≡ true → b ≡ true → (a && b) ≡ true
+and true b h k = k
+and false b h k = cc
+
+-- ---- the fault of alerts
+
+all_mapped : (a : model.Alert) (xs : List Alert) → list_all (is_alike a) (map alert_of xs) ≡ list_all (λ x. is_alike a (alert_of x)) xs
+all_mapped a [] = refl
+all_mapped a (x ∷ xs) = ap (λ b. is_alike a (alert_of x) && b) (all_mapped a xs)
+
+pub length_mapped : (xs : List Alert) → length (map alert_of xs) ≡ length xs
+length_mapped [] = refl
+length_mapped (x ∷ xs) = ap suc (length_mapped xs)
+
+-- the fault of alerts that are neither none nor too many
+pub fault_is : (all : List Alert) (x : Alert) (rest : List Alert) (b : Bool) → all ≡ x ∷ rest → length all ≤ 2048 → list_all (λ y. is_alike (alert_of x) (alert_of y)) rest ≡ b
+    → batch_fault (map alert_of all) ≡ cond b None (Some MixedAlerts)
+fault_is all x rest b e few h =
+    ap (λ xs. batch_fault (map alert_of xs)) e
+    ∙ ap (λ c. cond c (Some TooManyAlerts) (cond (not (list_all (is_alike (alert_of x)) (map alert_of rest))) (Some MixedAlerts) None)) enough
+    ∙ ap (λ c. cond (not c) (Some MixedAlerts) None) (all_mapped (alert_of x) rest ∙ h)
+    ∙ turned b
+  where
+    enough : nat_lt 2048 (suc (length (map alert_of rest))) ≡ false
+    enough = let l = ap length e in let m = length_mapped rest in grind (arith, l, m, few)
+
+    turned : (c : Bool) → ◌≡◌ {A = Option BatchFault} (cond (not c) (Some MixedAlerts) None) (cond c None (Some MixedAlerts))
+    turned true = refl
+    turned false = refl
+
+-- a batch has an alert, and at most 2,048
+pub batch_some : (xs : List Alert) → batch_fault (map alert_of xs) ≡ None → 1 ≤ length xs
+batch_some [] h = absurd (none h)
+  where
+    none : batch_fault [] ≡ None → ⊥
+    none e = cc
+batch_some (x ∷ xs) h = omega arith
+
+pub batch_few : (xs : List Alert) → batch_fault (map alert_of xs) ≡ None → length xs ≤ 2048
+batch_few [] h = omega arith
+batch_few (x ∷ xs) h =
+    let l = length_mapped xs in
+    let e : nat_lt 2048 (suc (length (map alert_of xs))) ≡ false = enough (nat_lt 2048 (suc (length (map alert_of xs)))) _ h in
+    grind (arith, l, e)
+  where
+    enough : (b : Bool) (r : Option BatchFault) → cond b (Some TooManyAlerts) r ≡ None → b ≡ false
+    enough true r k = cc
+    enough false r k = refl
+
+-- ---- what the alerts of a batch have in common
+
+abbrev Common : model.Alert → model.Alert → Type 0
+Common a x = (x.observer ≡ a.observer) × (x.config ≡ a.config)
+
+common : (a : model.Alert) (xs : List model.Alert) → list_all (is_alike a) xs ≡ true → All (Common a) xs
+common a [] h k d l = absurd (omega (arith, l))
+common a (x ∷ xs) h zero d l =
+    let p = both (is_alike a x) (list_all (is_alike a) xs) h in
+    let q = both (same_bytes x.observer a.observer) (same_bytes x.config a.config) p.0 in
+    ((same_bytes_decides x.observer a.observer).0 q.0, (same_bytes_decides x.config a.config).0 q.1)
+common a (x ∷ xs) h (suc k) d l = common a xs (both (is_alike a x) (list_all (is_alike a) xs) h).1 k d (omega (arith, l))
+
+-- the alerts of a batch have the observer and the configuration of the first
+pub common_first : (xs : List Alert) (d : Alert) (b : Batch) → map alert_of xs ≡ b → batch_fault b ≡ None → All (Common (alert_of (slice_index_or xs 0 d))) b
+common_first [] d b e h = absurd (none (ap batch_fault e ∙ h))
+  where
+    none : batch_fault [] ≡ None → ⊥
+    none f = cc
+common_first (x ∷ xs) d b e h = subst (All (Common (alert_of x))) e (first (ap batch_fault e ∙ h))
+  where
+    alike : (c l : Bool) → cond c (Some TooManyAlerts) (cond (not l) (Some MixedAlerts) None) ≡ None → l ≡ true
+    alike true l f = cc
+    alike false true f = refl
+    alike false false f = cc
+
+    first : batch_fault (map alert_of (x ∷ xs)) ≡ None → All (Common (alert_of x)) (map alert_of (x ∷ xs))
+    first f zero d l = (refl, refl)
+    first f (suc k) d l = common (alert_of x) (map alert_of xs) (alike _ (list_all (is_alike (alert_of x)) (map alert_of xs)) f) k d (omega (arith, l))
+
+pub observers_same : (xs : List Alert) (d : Alert) (b : Batch) → map alert_of xs ≡ b → batch_fault b ≡ None → All (λ a. a.observer ≡ (slice_index_or xs 0 d).observer) b
+observers_same xs d b e h k d' l = (common_first xs d b e h k d' l).0
+
+pub configs_same : (xs : List Alert) (d : Alert) (b : Batch) → map alert_of xs ≡ b → batch_fault b ≡ None → All (λ a. a.config ≡ (slice_index_or xs 0 d).config) b
+configs_same xs d b e h k d' l = (common_first xs d b e h k d' l).1
+
+-- ---- stretches of an outbox
+
+map_take : (n : ℕ) (xs : List Alert) → map alert_of (take n xs) ≡ take n (map alert_of xs)
+map_take zero xs = refl
+map_take (suc n) [] = refl
+map_take (suc n) (x ∷ xs) = ap (λ l. alert_of x ∷ l) (map_take n xs)
+
+map_drop : (n : ℕ) (xs : List Alert) → map alert_of (drop n xs) ≡ drop n (map alert_of xs)
+map_drop zero xs = refl
+map_drop (suc n) [] = refl
+map_drop (suc n) (x ∷ xs) = map_drop n xs
+
+-- the oldest alerts that are not flushed, as the definitions see them
+pub oldest_seen : (n m : ℕ) (xs : List Alert) → map alert_of (take n (drop m xs)) ≡ take n (drop m (map alert_of xs))
+oldest_seen n m xs = map_take n (drop m xs) ∙ ap (take n) (map_drop m xs)
+
+-- no more than there are
+pub take_least : {k : ℕ} (m n : ℕ) (xs : List Alert) → k ≡ min m n → m ≡ length xs → take k xs ≡ take n xs
+take_least {k} m n xs is e =
+    elim (cases_lt m n) [
+      | inl less ↦ (
+          let all : k ≡ m = grind (arith, is, less) in
+          ap (λ j. take j xs) all ∙ take_all m xs (omega (arith, e)) ∙ sym (take_all n xs (omega (arith, e, less)))
+          )
+      | inr least ↦ ap (λ j. take j xs) (grind (arith, is, least))
+    ]
+
+sound_alike : (t : Observers) (owner : Process) (a : model.Alert) (xs : List model.Alert) → is_sound t owner a ≡ true → All (λ x. is_sound t owner x ≡ true) xs → list_all (is_alike a) xs ≡ true
+sound_alike t owner a [] s h = refl
+sound_alike t owner a (x ∷ xs) s h =
+    let p = parts_of t owner a s in
+    let q = parts_of t owner x (h 0 x (omega arith)) in
+    and (is_alike a x) _
+    (and (same_bytes x.observer a.observer) _ ((same_bytes_decides x.observer a.observer).1 (q.observer ∙ sym p.observer)) ((same_bytes_decides x.config a.config).1 (q.config ∙ sym p.config)))
+    (sound_alike t owner a xs s (λ k d l. h (suc k) d (omega (arith, l))))
+
+sound_batch : (t : Observers) (owner : Process) (xs : List model.Alert) → All (λ x. is_sound t owner x ≡ true) xs → length xs ≤ 2048 → 1 ≤ length xs → batch_fault xs ≡ None
+sound_batch t owner [] h few some = absurd (omega (arith, some))
+sound_batch t owner (a ∷ xs) h few some =
+    let enough : nat_lt 2048 (length (a ∷ xs)) ≡ false = grind (arith, few) in
+    let alike = sound_alike t owner a xs (h 0 a (omega arith)) (λ k d l. h (suc k) d (omega (arith, l))) in
+    rw (enough, alike) refl
+
+-- what is not flushed of an outbox is a batch, where there is any
+pub unflushed_batch : (t : Observers) (owner : Process) (o : Outbox) (i : Index) → IsOutbox t owner o i → 1 ≤ length (unflushed o) → batch_fault (unflushed o) ≡ None
+unflushed_batch t owner o i h some =
+    sound_batch t owner (unflushed o)
+    (All-take (λ x. is_sound t owner x ≡ true) 2048 (drop o.flushed o.raised) (All-drop (λ x. is_sound t owner x ≡ true) o.flushed o.raised h.raised.sound))
+    (let l = length-take 2048 (drop o.flushed o.raised) in grind (arith, l)) some
+
+-- alerts that are some are their own batch
+pub some_batch : (xs : List model.Alert) → 1 ≤ length xs → batch_of xs ≡ Some xs
+some_batch [] h = absurd (omega (arith, h))
+some_batch (x ∷ xs) h = refl
+
+-- without alerts there is no batch
+pub no_batch : (xs : List model.Alert) → length xs ≡ 0 → batch_of xs ≡ None
+no_batch [] h = refl
+no_batch (x ∷ xs) h = absurd (omega (arith, h))
+
+-- an outbox of which these alerts were flushed
+pub flush_is : (items alerts : List Alert) (f n : ℕ) {o : Outbox} → record { raised = map alert_of items; flushed = f } ≡ o → map alert_of alerts ≡ unflushed (record { raised = map alert_of items; flushed = f }) → n ≡ length alerts
+    → record { raised = map alert_of items; flushed = f + n } ≡ flush o
+flush_is items alerts f n e seen many =
+    let count : n ≡ length (unflushed (record { raised = map alert_of items; flushed = f })) = many ∙ sym (length_mapped alerts) ∙ ap length seen in
+    ap (λ k. record { raised = map alert_of items; flushed = f + k }) count ∙ ap flush e

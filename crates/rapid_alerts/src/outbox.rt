@@ -1,0 +1,251 @@
+// The outbox of one observer.
+
+ghost use Rattle.std.specs.Prelude.{◌≡◌, ◌≤◌, ◌+◌, length, take, drop, map, vec_len, OnOk, OnErr, IfOk, IfErr};
+ghost use Rattle.rapid_model.specs.Outbox as model;
+ghost use Rattle.rapid_model.specs.Alert.{kind_fits as fits};
+ghost use Rattle.rapid_model.specs.Batch.{batch_of};
+ghost use Rattle.rapid_alerts.specs.Alerts.{alert_of};
+ghost use Rattle.rapid_alerts.specs.Outboxes.{AreRaised, refusal, verdict};
+ghost use Rattle.rapid_alerts.specs.Refusals.{Refuses, RefusesIfAny, answer_of};
+
+use crate::index::Index;
+use crate::{Alert, Batch, Kind, RaiseError};
+use rapid_endpoint::Process;
+use rapid_rings::ObserverTable;
+use std::alloc::{AllocError, Global};
+use std::marker::Model;
+
+/// What became of an alert that was not refused.
+#[derive(Clone, Copy, Debug, PartialEq, Eq)]
+pub enum Raising {
+    /// It is raised now.
+    Raised,
+    /// It was raised here before; nothing changed.
+    Already,
+}
+
+/// Why an alert is not raised, whatever was raised before.
+fn refusal_of<T: ObserverTable>(table: &T, owner: &Process, alert: &Alert) -> Option<RaiseError>
+    ensures { RefusesIfAny (refusal (T.observers table.now) owner.now (alert_of alert.now)) result }
+{
+    if alert.config != table.id() {
+        Some(RaiseError::OldConfiguration)
+    } else if !is_own(table, owner, alert) {
+        Some(RaiseError::WrongObserver)
+    } else if !kind_fits(table, alert) {
+        Some(RaiseError::WrongKind)
+    } else {
+        None
+    }
+}
+
+/// Whether the owner is the alert's observer, and the one that the table has.
+fn is_own<T: ObserverTable>(table: &T, owner: &Process, alert: &Alert) -> bool
+    ensures { result ≡ model.is_own (T.observers table.now) owner.now (alert_of alert.now) }
+{
+    alert.observer == *owner
+        && alert.ring < table.params().k()
+        && table.observer(alert.ring, &alert.subject) == Some(*owner)
+}
+
+/// Whether the kind is Remove exactly where the subject is a member.
+fn kind_fits<T: ObserverTable>(table: &T, alert: &Alert) -> bool
+    ensures { result ≡ fits (T.observers table.now) (alert_of alert.now) }
+{
+    match alert.kind {
+        Kind::Remove => table.is_member(&alert.subject),
+        Kind::Join => !table.is_member(&alert.subject),
+    }
+}
+
+/// What is answered to an alert after those of an index.
+fn verdict_of<T: ObserverTable>(
+    table: &T,
+    owner: &Process,
+    index: &Index,
+    alert: &Alert,
+) -> Result<Raising, RaiseError>
+    ensures answer { IfOk result (λ raising. verdict (T.observers table.now) owner.now index.now (alert_of alert.now) ≡ answer_of raising) }
+    ensures refused { IfErr result (Refuses (verdict (T.observers table.now) owner.now index.now (alert_of alert.now))) }
+{
+    match refusal_of(table, owner, alert) {
+        Some(error) => Err(error),
+        None => {
+            if index.has(alert) {
+                Ok(Raising::Already)
+            } else if index.has_room(alert) {
+                Ok(Raising::Raised)
+            } else {
+                Err(RaiseError::TooManyJoiners)
+            }
+        }
+    }
+}
+
+/// The first alerts, at most as many as a batch has.
+fn first(alloc: Global, alerts: &[Alert]) -> Result<Vec<Alert>, AllocError>
+    ensures items { IfOk result (λ first. first.items ≡ take 2048 alerts.now) }
+    ensures bound { IfOk result (λ first. vec_len first ≤ length alerts.now) }
+{
+    Vec::from_slice(alloc, &alerts[..alerts.len().min(Batch::MOST)])
+}
+
+/// The first alerts after those that are flushed, at most as many as a batch has.
+fn oldest(alloc: Global, raised: &[Alert], flushed: usize) -> Result<Vec<Alert>, AllocError>
+    requires { flushed ≤ length raised.now }
+    ensures items { IfOk result (λ alerts. alerts.items ≡ take 2048 (drop flushed raised.now)) }
+    ensures bound { IfOk result (λ alerts. flushed + vec_len alerts ≤ length raised.now) }
+{
+    let alerts = first(alloc, &raised[flushed..])?;
+    Ok(alerts)
+}
+
+/// The outbox of one observer in one configuration: the alerts that it raised, in order, and how many of them went out.
+///
+/// An alert is raised once and never withdrawn. It goes out in a batch, and again after each [`Outbox::resend`].
+#[derive(Debug, Drop)]
+pub struct Outbox<T: ObserverTable> {
+    table: T,
+    owner: Process,
+    raised: Vec<Alert>,
+    index: Index,
+    flushed: usize,
+    alloc: Global,
+}
+
+impl<T: ObserverTable> Model for Outbox<T> {
+    ghost use Rattle.std.specs.Prelude.{map};
+    ghost use Rattle.rapid_alerts.specs.Alerts.{alert_of};
+    ghost use Rattle.rapid_alerts.specs.Outboxes.{OwnedOutbox, owned_code, IsOutbox};
+
+    ghost Value = { OwnedOutbox T };
+
+    ghost coded = { owned_code T.code };
+
+    ghost view = { λ o. record { table = o.table; owner = o.owner; outbox = record { raised = map alert_of o.raised.items; flushed = o.flushed } } };
+
+    ghost invariant = { λ o. IsOutbox (T.observers o.table) o.owner (record { raised = map alert_of o.raised.items; flushed = o.flushed }) o.index };
+}
+
+impl<T: ObserverTable> Outbox<T> {
+    /// The outbox of an observer in the configuration of this table; nothing is raised.
+    pub fn new(alloc: Global, table: T, owner: Process) -> Outbox<T>
+        ensures table { result.table ≡ table }
+        ensures owner { result.owner ≡ owner }
+        ensures empty { result.outbox ≡ model.empty_outbox }
+    {
+        Outbox {
+            table,
+            owner,
+            raised: Vec::new(alloc),
+            index: Index::new(alloc),
+            flushed: 0,
+            alloc,
+        }
+    }
+
+    /// Raises an alert, unless it was raised here before.
+    ///
+    /// # Errors
+    ///
+    /// The first that holds: `OldConfiguration` where the alert is of another configuration than the table's;
+    /// `WrongObserver` where the owner is not the alert's observer or not the table's observer of this subject on this
+    /// ring; `WrongKind` unless the kind is Remove exactly where the subject is a member; `TooManyJoiners` where the
+    /// alert is on a 513th joiner. `OutOfMemory` comes only for an alert that would be raised. Each leaves the outbox as
+    /// it was.
+    pub fn raise(&mut self, alert: Alert) -> Result<Raising, RaiseError>
+        ensures raised { OnOk result (self.new.outbox ≡ model.raise (T.observers self.old.table) self.old.owner self.old.outbox (alert_of alert)) }
+        ensures answer { IfOk result (λ raising. model.raising (T.observers self.old.table) self.old.owner self.old.outbox (alert_of alert) ≡ answer_of raising) }
+        ensures refused { IfErr result (Refuses (model.raising (T.observers self.old.table) self.old.owner self.old.outbox (alert_of alert))) }
+        ensures unchanged { OnErr result (self.new ≡ self.old) }
+        ensures table { self.new.table ≡ self.old.table }
+        ensures owner { self.new.owner ≡ self.old.owner }
+    {
+        match self.judge(&alert)? {
+            Raising::Already => Ok(Raising::Already),
+            Raising::Raised => {
+                self.keep(alert)?;
+                Ok(Raising::Raised)
+            }
+        }
+    }
+
+    /// What is answered to an alert where there is memory.
+    fn judge(&self, alert: &Alert) -> Result<Raising, RaiseError>
+        ensures answer { IfOk result (λ raising. model.raising (T.observers self.now.table) self.now.owner self.now.outbox (alert_of alert.now) ≡ answer_of raising) }
+        ensures refused { IfErr result (Refuses (model.raising (T.observers self.now.table) self.now.owner self.now.outbox (alert_of alert.now))) }
+    {
+        verdict_of(&self.table, &self.owner, &self.index, alert)
+    }
+
+    /// Keeps an alert that is to be raised. Want of memory leaves the outbox as it was.
+    fn keep(&mut self, alert: Alert) -> Result<(), AllocError>
+        requires { model.raising (T.observers self.old.table) self.old.owner self.old.outbox (alert_of alert) ≡ model.Raised }
+        ensures kept { OnOk result (self.new.outbox ≡ model.after_raising model.Raised self.old.outbox (alert_of alert)) }
+        ensures unchanged { OnErr result (self.new ≡ self.old) }
+        ensures table { self.new.table ≡ self.old.table }
+        ensures owner { self.new.owner ≡ self.old.owner }
+    {
+        self.raised.try_reserve(1)?;
+        self.index.add(&alert)?;
+        match self.raised.push(alert) {
+            Ok(()) => Ok(()),
+            Err(_) => unreachable!(),
+        }
+    }
+
+    /// The batch of the oldest alerts that are not flushed, at most 2,048, which count as flushed from now on; none
+    /// where there is none. Want of memory leaves the outbox as it was.
+    pub fn flush(&mut self) -> Result<Option<Batch>, AllocError>
+        ensures flushed { OnOk result (self.new.outbox ≡ model.flush self.old.outbox) }
+        ensures batch { IfOk result (λ batch. batch ≡ batch_of (model.unflushed self.old.outbox)) }
+        ensures unchanged { OnErr result (self.new ≡ self.old) }
+        ensures table { self.new.table ≡ self.old.table }
+        ensures owner { self.new.owner ≡ self.old.owner }
+    {
+        let alerts = oldest(self.alloc, &self.raised, self.flushed)?;
+        let count = alerts.len();
+        if count == 0 {
+            return Ok(None);
+        }
+        let batch = Batch::of(alerts)?;
+        self.flushed += count;
+        Ok(Some(batch))
+    }
+
+    /// Makes all alerts count as not flushed. It takes no memory.
+    pub fn resend(&mut self)
+        ensures resent { self.new.outbox ≡ model.resend self.old.outbox }
+        ensures table { self.new.table ≡ self.old.table }
+        ensures owner { self.new.owner ≡ self.old.owner }
+    {
+        self.flushed = 0;
+    }
+
+    /// The alerts that were raised, in order: each is the owner's and well-formed, and none stands there twice.
+    pub fn raised(&self) -> &[Alert]
+        ensures value { map alert_of result.now ≡ self.now.outbox.raised }
+        ensures sound { AreRaised (T.observers self.now.table) self.now.owner self.now.outbox.raised }
+    {
+        self.raised.as_slice()
+    }
+
+    /// An equal outbox over a table that says the same, as another share of one table does.
+    pub fn try_copy(&self, table: T) -> Result<Outbox<T>, AllocError>
+    where
+        T: Drop,
+        requires { T.observers table ≡ T.observers self.now.table }
+        ensures table { IfOk result (λ copy. copy.table ≡ table) }
+        ensures owner { IfOk result (λ copy. copy.owner ≡ self.now.owner) }
+        ensures state { IfOk result (λ copy. copy.outbox ≡ self.now.outbox) }
+    {
+        Ok(Outbox {
+            table,
+            owner: self.owner,
+            raised: Vec::from_slice(self.alloc, &self.raised)?,
+            index: self.index.try_copy()?,
+            flushed: self.flushed,
+            alloc: self.alloc,
+        })
+    }
+}
