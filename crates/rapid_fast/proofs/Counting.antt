@@ -1,5 +1,5 @@
 -- Counters that ascend by their cuts, as the map from each cut to its count.
-use Rattle.std.proofs.Common.{◌≡◌, ℕ, ◌+◌, ◌≤◌, ◌<◌, Bool, true, false, cond, T, List, [], length, set, get_or, refl, sym, ap, subst, ◌∙◌, arith, Some, None, unwrap_or, Result, Ok, Err}
+use Rattle.std.proofs.Common.{◌≡◌, ℕ, ◌+◌, ◌≤◌, ◌<◌, Bool, true, false, cond, T, List, [], length, set, get_or, sym, ap, subst, ◌∙◌, arith, unwrap_or}
 use Rattle.std.specs.declared.cmp.Ordering.TheVariants.{Less, Equal, Greater}
 use Rattle.std.specs.Ordering.{nat_cmp, ordering_index}
 use Rattle.std.specs.Cmp.{nat_cmp_total}

@@ -1,4 +1,4 @@
-use Rattle.std.proofs.Common.{◌≡◌, ◌≤◌, ◌+◌, arith, subst}
+use Rattle.std.proofs.Common.{◌≡◌, arith}
 use Rattle.rapid_model.specs.FastRound.{count_of}
 use Rattle.rapid_fast.proofs.Counting.{count_at, raised_at, sorted-raised_at, begun_at, sorted-begun_at}
 use Rattle.rapid_fast.proofs.counts.CutCounts.add.Goals as goal

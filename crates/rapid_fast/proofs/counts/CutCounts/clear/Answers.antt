@@ -1,4 +1,4 @@
-use Rattle.std.proofs.Common.{ap, sym, subst, T, ◌∙◌}
+use Rattle.std.proofs.Common.{ap, ◌∙◌}
 use Rattle.std.specs.FinMap as map
 use Rattle.rapid_fast.proofs.Counting.{no_counts}
 use Rattle.rapid_fast.proofs.counts.CutCounts.clear.Goals as goal

@@ -1,8 +1,6 @@
-use Rattle.std.proofs.Common.{ℕ, ◌≤◌, ◌+◌, ◌≡◌, subst, ap, sym, ◌∙◌, arith, unwrap_or}
-use Rattle.std.specs.Ordering.{nat_cmp}
-use Rattle.std.specs.FinSet as set
+use Rattle.std.proofs.Common.{◌≡◌, ap, ◌∙◌, arith, unwrap_or}
 use Rattle.std.specs.FinMap as map
-use Rattle.rapid_model.specs.Cut.{Cut, cut_cmp}
+use Rattle.rapid_model.specs.Cut.{cut_cmp}
 use Rattle.rapid_model.specs.FastRound.{count_of}
 use Rattle.rapid_fast.proofs.round.FastRound.new.Goals as goal
 

@@ -1,7 +1,5 @@
-use Rattle.std.proofs.Common.{ℕ, ◌≡◌, ap, sym, ◌∙◌, cond, Some, None, true, false}
+use Rattle.std.proofs.Common.{ap, sym, ◌∙◌, Some}
 use Rattle.std.specs.FinSet as set
-use Rattle.rapid_model.specs.FastRound.{fast_decision, hear_vote}
-use Rattle.rapid_fast.specs.OwnRound.{after_vote}
 use Rattle.rapid_fast.proofs.Deciding.{decision-known, after_vote-known, decided, undecided, heard_now, round_kept}
 use Rattle.rapid_fast.proofs.round.FastRound.take.Goals as goal
 use Rattle.rapid_fast.proofs.round.FastRound.take.Goals.{then-completes+in_ok-try_copy, else-completes}
