@@ -17,11 +17,8 @@ use Rattle.rapid_model.proofs.Lists.{In}
 use Rattle.rapid_model.proofs.Orders.{processes_total, processes_exact, tie_decides}
 use Rattle.rapid_safety.proofs.Atoms.{push, taken_in, IsMark, Atom, marks, ticks, raises, resends, waits, ignores, hears_batch, hears_vote, hears_promise, hears_notice, hears_decision, Lives, enters, does, leaves}
 use Rattle.rapid_safety.proofs.Kept.{atom_config, atom_me}
+use Rattle.rapid_safety.proofs.NodeWorks.{nil_end}
 use Rattle.rapid_safety.proofs.Detecting.{DetectorKept, lives_detector, detector_taken}
-
-nil_end : (xs : List Act) → xs ++ [] ≡ xs
-nil_end [] = refl
-nil_end (x ∷ xs) = ap (λ l. x ∷ l) (nil_end xs)
 
 -- one act more
 ticks_push : (t : Observers) (p q : Process) (before : List Act) (n : ℕ) (acts : List Act) (a : Act) →

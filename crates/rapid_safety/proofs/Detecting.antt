@@ -22,6 +22,7 @@ use Rattle.rapid_model.proofs.Orders.{same_bytes_decides, reports_total, reports
 use Rattle.rapid_safety.proofs.Atoms.{push, message, taken_in, IsIdle, Atom, marks, ticks, raises, resends, waits, flushes, begins, ignores, hears_batch, proposes, casts, Lives, enters, does, leaves}
 use Rattle.rapid_safety.proofs.Kept.{atom_config}
 use Rattle.rapid_safety.proofs.TickWorks.{filter_map-append}
+use Rattle.rapid_safety.proofs.NodeWorks.{nil_end}
 use Rattle.rapid_safety.proofs.Words.{VoteKept, lives_vote}
 
 -- the batches about a configuration among these messages
@@ -136,14 +137,10 @@ no_batch : List ℕ → Option Message → Type 0
 no_batch id None = Unit {0}
 no_batch id (Some m) = batch_in id m.sender m.body ≡ None
 
-nil_batches : (xs : List (List Alert)) → xs ++ [] ≡ xs
-nil_batches [] = refl
-nil_batches (x ∷ xs) = ap (λ l. x ∷ l) (nil_batches xs)
-
 batches_push : (id : List ℕ) (heard : List Message) (m : Option Message) → no_batch id m → batches_of id (push heard m) ≡ batches_of id heard
 unfolding no_batch
 batches_push id heard None h = refl
-batches_push id heard (Some m) h = filter_map-append (λ (x : Message). batch_in id x.sender x.body) heard (m ∷ []) ∙ ap (λ o. batches_of id heard ++ cons_option o []) h ∙ nil_batches (batches_of id heard)
+batches_push id heard (Some m) h = filter_map-append (λ (x : Message). batch_in id x.sender x.body) heard (m ∷ []) ∙ ap (λ o. batches_of id heard ++ cons_option o []) h ∙ nil_end (batches_of id heard)
 
 detector_stays : (heard : List Message) (m : Option Message) (s t : MemberState) → no_batch (current_id s) m → t.config ≡ s.config → t.detector ≡ s.detector → t.proposal ≡ s.proposal → DetectorKept heard s → DetectorKept (push heard m) t
 detector_stays heard m s t none config detector proposal k =

@@ -17,7 +17,7 @@ use Rattle.rapid_model.specs.Justified.{alerts_taken}
 use Rattle.rapid_safety.proofs.Atoms.{taken_in, Lives}
 use Rattle.rapid_safety.proofs.Kept.{lives_config, lives_me}
 use Rattle.rapid_safety.proofs.TickWorks.{filter_map-append}
-use Rattle.rapid_safety.proofs.NodeWorks.{Stepped, goes_on, installs}
+use Rattle.rapid_safety.proofs.NodeWorks.{nil_end, Stepped, goes_on, installs}
 use Rattle.rapid_safety.proofs.Logs.{acts_at, is_here, here_to, acts_here, acts_elsewhere}
 use Rattle.rapid_safety.proofs.Histories.{Lived}
 use Rattle.rapid_safety.proofs.LifeSteps.{comes_steps}
@@ -38,14 +38,6 @@ CutIn c me acts v = (before : List Act) × (after : List Act) × (acts ≡ befor
 cut_grows : (c : Configuration) (me : Process) (acts more : List Act) (v : Cut) → CutIn c me acts v → CutIn c me (acts ++ more) v
 cut_grows c me acts more v h = (h.0, h.1 ++ more, ap (λ l. l ++ more) h.2 ∙ append_assoc h.0 h.1 more, h.3)
 
-nil_acts : (xs : List Act) → xs ≡ xs ++ []
-nil_acts [] = refl
-nil_acts (x ∷ xs) = ap (λ l. x ∷ l) (nil_acts xs)
-
-nil_cuts : (xs : List Cut) → xs ++ [] ≡ xs
-nil_cuts [] = refl
-nil_cuts (x ∷ xs) = ap (λ l. x ∷ l) (nil_cuts xs)
-
 -- a life in which all that was taken was heard
 life_cut : (c : Configuration) (me : Process) (acts : List Act) (heard : List Message) (s : MemberState) (d : Option Cut) → Lives c me acts heard s d → heard ≡ taken_in me acts → (v : Cut) → first_cut acts ≡ Some v → CutIn c me acts v
 life_cut c me acts heard s d l sync v h =
@@ -57,7 +49,7 @@ life_cut c me acts heard s d l sync v h =
     let cut : cut_of (observers_of s.config) (direct_reports (observers_of s.config) (alerts_taken (observers_of s.config) s.me acts)) ≡ Some v = ap (cut_of (observers_of s.config)) (sym direct) ∙ det.cut v own in (
       acts,
       [],
-      nil_acts acts,
+      sym (nil_end acts),
       subst (λ p. cut_of (observers_of c) (direct_reports (observers_of c) (alerts_taken (observers_of c) p acts)) ≡ Some v) mine
           (subst (λ x. cut_of (observers_of x) (direct_reports (observers_of x) (alerts_taken (observers_of x) s.me acts)) ≡ Some v) config cut),
     )
@@ -93,7 +85,7 @@ quiet_cut : (w : World) (n : Node) (xs : List Act) → Proposals w → filter_ma
 unfolding Proposals
 quiet_cut w n xs old none c v h =
     let same : first_cut (acts_at w.log n.me c ++ xs) ≡ first_cut (acts_at w.log n.me c) =
-    ap first_of (filter_map-append proposed_by (acts_at w.log n.me c) xs ∙ ap (λ l. filter_map proposed_by (acts_at w.log n.me c) ++ l) none ∙ nil_cuts (filter_map proposed_by (acts_at w.log n.me c))) in
+    ap first_of (filter_map-append proposed_by (acts_at w.log n.me c) xs ∙ ap (λ l. filter_map proposed_by (acts_at w.log n.me c) ++ l) none ∙ nil_end (filter_map proposed_by (acts_at w.log n.me c))) in
     cut_grows c n.me (acts_at w.log n.me c) xs v (old n.me c v (sym same ∙ h))
 
 quiet_halt : (w : World) (i : ℕ) (p : Peer) (before : List Act) (e : Event) → Comes w i p before e → filter_map proposed_by (before ++ HasHalted ∷ []) ≡ []

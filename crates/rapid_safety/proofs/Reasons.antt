@@ -20,6 +20,7 @@ use Rattle.rapid_model.proofs.Lists.{In, in_split, in_left}
 use Rattle.rapid_model.proofs.Orders.{same_bytes_decides}
 use Rattle.rapid_safety.proofs.Atoms.{push, message, taken_in, HasReason, asked_to, went_down, echoes, Atom, marks, raises, flushes, Lives, enters, does, leaves}
 use Rattle.rapid_safety.proofs.Kept.{atom_config, atom_me, AreOwn, lives_own}
+use Rattle.rapid_safety.proofs.NodeWorks.{nil_end}
 use Rattle.rapid_safety.proofs.TickWorks.{filter_map-append, own_drop, own_first, items_back}
 use Rattle.rapid_safety.proofs.Words.{Said, body_of, said_body, mark_body}
 use Rattle.rapid_safety.proofs.Detecting.{observers_id}
@@ -101,10 +102,6 @@ raised_stays t me o a b h =
 asked_kind : (c : Configuration) (j : Process) → is_member c j ≡ false → kind_for (observers_of c) j ≡ Join
 unfolding observers_of
 asked_kind c j e = ap (λ b. cond b Remove Join) e
-
-nil_end : (xs : List Act) → xs ++ [] ≡ xs
-nil_end [] = refl
-nil_end (x ∷ xs) = ap (λ l. x ∷ l) (nil_end xs)
 
 caused : (acts : List Act) (s : MemberState) (a : Alert) → AgesKept acts s → HasReason acts s a → CauseIn s.config s.me acts a a.kind ⊎ EchoIn s.config s.me acts a.subject
 caused acts s _ k (asked_to j n off known) = inl (subst (CauseIn s.config s.me acts (alert_on s j n)) (sym (asked_kind s.config j off)) known)
