@@ -2,3 +2,10 @@ pub mod Pieces
 pub mod Bodies
 pub mod Frames
 pub mod Joined
+pub mod Readers
+pub mod Loops
+pub mod Parts
+pub mod Spelt
+pub mod Fronts
+pub mod Feeds
+pub mod Streams

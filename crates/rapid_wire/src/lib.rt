@@ -1,14 +1,21 @@
 //! Frames: one spelling a message.
 #![tactic(auto)]
 
-ghost use Rattle.rapid_wire.specs.Laws.{NoFrameBeginsAnother, EveryMessageFits};
+ghost use Rattle.rapid_wire.specs.Laws.{NoFrameBeginsAnother, EveryMessageFits, CuttingChangesNothing};
 
+mod decoding;
 mod encoding;
+mod fault;
+mod feed;
+mod kinds;
 mod numbers;
+mod reading;
 mod told;
 mod writing;
 
 pub use encoding::encode;
+pub use fault::WireFault;
+pub use feed::Feed;
 
 /// No frame is the beginning of another, and no two messages have one frame.
 pub fn no_frame_begins_another()
@@ -18,4 +25,10 @@ pub fn no_frame_begins_another()
 /// Every message that can be spelt fits into a frame of at most 65,536 bytes after its length.
 pub fn every_message_fits()
     ensures { EveryMessageFits }
+{}
+
+/// However a stream is cut, its messages and its end are the same: what a feed answers of its beginning,
+/// and then of what it held with the bytes that follow, is what the whole stream says.
+pub fn cutting_changes_nothing()
+    ensures { CuttingChangesNothing }
 {}

@@ -1,0 +1,69 @@
+// Whole frames as messages.
+
+ghost use Rattle.std.specs.Prelude.{◌≡◌, ◌<◌, ◌∷◌, All, IfOk, IfErr};
+ghost use Rattle.rapid_model.specs.Frame.{IsMessage, version, payload};
+ghost use Rattle.rapid_model.specs.Feed.{IsKind};
+ghost use Rattle.rapid_wire.specs.Faults.{Gives, IsFaultOf};
+ghost use Rattle.rapid_wire.specs.Reading.{message_in};
+
+use crate::WireFault;
+use crate::encoding::VERSION;
+use crate::kinds::read_body;
+use crate::reading::{PROCESS_BYTES, process_in, read_front};
+use crate::told::tell_message;
+use rapid_node::Message;
+use std::alloc::Global;
+
+/// Each byte is below 256. It does nothing: what it ensures is for proofs.
+#[inline(always)]
+pub(crate) fn tell_bytes(bytes: &[u8])
+    ensures { All (λ b. b < 256) bytes.now }
+{
+    let _ = bytes;
+}
+
+/// The message of a kind whose sender and body are these bytes.
+#[tactic(auto, unfolding(crate::specs::Reading::message_in, crate::specs::Reading::process_at))]
+fn read_message(alloc: Global, kind: u8, bytes: &[u8]) -> Result<Message, WireFault>
+    ensures { Gives (λ m. m) result (message_in kind bytes.now) }
+{
+    let (front, rest) = read_front(bytes, PROCESS_BYTES)?;
+    let sender = process_in(front);
+    let body = read_body(alloc, sender, kind, rest)?;
+    Ok(Message::new(sender, body))
+}
+
+/// The kind of a whole frame, and what follows it. The first that holds: `BadBody` below two bytes,
+/// `BadVersion` where the first is not the version of this format, `BadKind` where the second is no
+/// kind of a message.
+#[tactic(auto, using(crate::proofs::Fronts::short_fault, crate::proofs::Fronts::version_fault, crate::proofs::Fronts::kind_fault, crate::proofs::Fronts::opened))]
+fn open_frame(whole: &[u8]) -> Result<(u8, &[u8]), WireFault>
+    ensures kind { IfOk result (λ x. IsKind x.0) }
+    ensures parts { IfOk result (λ x. whole.now ≡ version ∷ x.0 ∷ x.1.now) }
+    ensures fault { IfErr result (IsFaultOf whole.now) }
+{
+    let [first, kind, rest @ ..] = whole else {
+        return Err(WireFault::BadBody);
+    };
+    if *first != VERSION {
+        return Err(WireFault::BadVersion);
+    }
+    if !(1..=13).contains(kind) {
+        return Err(WireFault::BadKind);
+    }
+    Ok((*kind, rest))
+}
+
+/// The message of a whole frame, after its length. The faults of its first two bytes come first, then
+/// `BadBody` where the rest is not spelt as a message of this kind is.
+pub(crate) fn decode(alloc: Global, whole: &[u8]) -> Result<Message, WireFault>
+    ensures valid { IfOk result IsMessage }
+    ensures spelt { IfOk result (λ m. whole.now ≡ payload m) }
+    ensures fault { IfErr result (IsFaultOf whole.now) }
+{
+    let (kind, rest) = open_frame(whole)?;
+    tell_bytes(rest);
+    let message = read_message(alloc, kind, rest)?;
+    tell_message(&message);
+    Ok(message)
+}

@@ -1,0 +1,145 @@
+// Messages of a stream of bytes.
+
+ghost use Rattle.std.specs.Prelude.{◌≡◌, ◌≤◌, [], drop, length, Ok, None, IfOk, IfErr, IfSome, OnOk, OnErr};
+ghost use Rattle.rapid_model.specs.Feed.{StreamEnd, Left, IsFront, Whole, BeginsWith, IsTooLong, IsIncomplete};
+ghost use Rattle.rapid_wire.specs.declared.fault.WireFault.TheVariants.{TooLong};
+ghost use Rattle.rapid_wire.specs.Feeding.{IsNext, IsFrontFault, fed, lasting_of};
+
+use crate::WireFault;
+use crate::decoding::{decode, tell_bytes};
+use crate::numbers::length_in;
+use bytes::BytesMut;
+use rapid_node::Message;
+use std::alloc::{AllocError, Global};
+use std::marker::Model;
+
+/// How many bytes the length of a frame has.
+const LENGTH_BYTES: usize = 4;
+
+/// The most bytes of a frame after its length.
+const MOST_BYTES: usize = 65_536;
+
+/// The messages of a stream of bytes that comes in pieces. A feed holds the bytes that were fed and not
+/// yet answered as messages; whoever asks for messages until there is none before the next piece comes
+/// has it hold no more than one frame and that piece. A fault is for good.
+#[derive(Debug, Drop)]
+pub struct Feed {
+    held: BytesMut,
+    fault: Option<WireFault>,
+    alloc: Global,
+}
+
+impl Model for Feed {
+    ghost use Rattle.rapid_model.specs.Feed.{StreamEnd};
+    ghost use Rattle.rapid_wire.specs.Feeding.{end_of, IsLasting};
+
+    ghost Value = { StreamEnd };
+
+    ghost view = { λ f. end_of f.held.items f.fault };
+
+    ghost invariant = { λ f. IsLasting f.fault };
+}
+
+/// The whole frame in front of the bytes, after its length, and how many bytes it has with that; none
+/// where no whole frame is there.
+#[tactic(auto, using(crate::proofs::Fronts::begins_at, crate::proofs::Fronts::too_long_at, crate::proofs::Fronts::not_whole_at))]
+fn first_frame(bytes: &[u8]) -> Result<Option<(&[u8], usize)>, WireFault>
+    ensures whole { IfOk result (λ o. IfSome o (λ x. BeginsWith bytes.now x.0.now (drop x.1 bytes.now))) }
+    ensures within { IfOk result (λ o. IfSome o (λ x. x.1 ≤ length bytes.now)) }
+    ensures none { result ≡ Ok None → IsIncomplete bytes.now }
+    ensures fault { IfErr result (λ e. (e ≡ TooLong) × IsTooLong bytes.now) }
+{
+    tell_bytes(bytes);
+    if bytes.len() < LENGTH_BYTES {
+        return Ok(None);
+    }
+    let (head, rest) = bytes.split_at(LENGTH_BYTES);
+    let length = length_in(head) as usize;
+    if length > MOST_BYTES {
+        return Err(WireFault::TooLong);
+    }
+    if rest.len() < length {
+        return Ok(None);
+    }
+    let (whole, _) = rest.split_at(length);
+    Ok(Some((whole, LENGTH_BYTES + length)))
+}
+
+/// The message in front of the bytes and how many bytes its frame has, none where no whole frame is
+/// there; or the fault that stands in its place.
+#[tactic(auto, using(crate::proofs::Fronts::fault_in_front, crate::proofs::Fronts::length_fault, crate::proofs::Fronts::message_in_front))]
+fn front(alloc: Global, bytes: &[u8]) -> Result<Option<(Message, usize)>, WireFault>
+    ensures whole { IfOk result (λ o. IfSome o (λ x. IsFront bytes.now (Whole x.0 (drop x.1 bytes.now)))) }
+    ensures within { IfOk result (λ o. IfSome o (λ x. x.1 ≤ length bytes.now)) }
+    ensures none { result ≡ Ok None → IsIncomplete bytes.now }
+    ensures fault { IfErr result (IsFrontFault bytes.now) }
+{
+    match first_frame(bytes)? {
+        Some((whole, length)) => {
+            let message = decode(alloc, whole)?;
+            Ok(Some((message, length)))
+        }
+        None => Ok(None),
+    }
+}
+
+/// The fault, where it is one of the stream.
+fn lasting(fault: WireFault) -> Option<WireFault>
+    ensures { result ≡ lasting_of fault }
+{
+    match fault {
+        WireFault::OutOfMemory => None,
+        _ => Some(fault),
+    }
+}
+
+impl Feed {
+    /// A feed that was fed nothing.
+    pub fn new(alloc: Global) -> Feed
+        ensures { result ≡ Left [] }
+    {
+        Feed {
+            held: BytesMut::new(alloc),
+            fault: None,
+            alloc,
+        }
+    }
+
+    /// Takes the next piece of the stream, which is passed over after a fault. Want of memory leaves the
+    /// feed as it was.
+    #[tactic(auto, using(crate::proofs::Feeds::fed_open, crate::proofs::Feeds::fed_failed))]
+    pub fn feed(&mut self, piece: &[u8]) -> Result<(), AllocError>
+        ensures fed { OnOk result (self.new ≡ fed self.old piece.now) }
+        ensures unchanged { OnErr result (self.new ≡ self.old) }
+    {
+        if self.fault.is_some() {
+            return Ok(());
+        }
+        self.held.extend_from_slice(piece)
+    }
+
+    /// The next message of the stream, none where no whole frame is there. The first fault that stands in
+    /// a message's place is answered then and at each later call: `TooLong` as soon as the four bytes of
+    /// a length are there that is above 65,536, the others once the whole frame is there, in this order:
+    /// `BadBody` where it has no kind, `BadVersion`, `BadKind`, `BadBody` where it is spelt as no message
+    /// is. `OutOfMemory` leaves the feed as it was.
+    #[tactic(auto, using(crate::proofs::Feeds::same_fault, crate::proofs::Feeds::next_none, crate::proofs::Feeds::next_some, crate::proofs::Feeds::next_fault, crate::proofs::Feeds::is_lasting))]
+    pub fn next(&mut self) -> Result<Option<Message>, WireFault>
+        ensures { IsNext self.old self.new result }
+    {
+        if let Some(fault) = self.fault {
+            return Err(fault);
+        }
+        match front(self.alloc, self.held.as_slice()) {
+            Ok(Some((message, length))) => {
+                self.held.advance(length);
+                Ok(Some(message))
+            }
+            Ok(None) => Ok(None),
+            Err(fault) => {
+                self.fault = lasting(fault);
+                Err(fault)
+            }
+        }
+    }
+}

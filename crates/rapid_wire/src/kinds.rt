@@ -1,0 +1,177 @@
+// What messages say, by kind.
+
+ghost use Rattle.std.specs.Prelude.{◌≡◌, IfOk};
+ghost use Rattle.rapid_model.specs.Ballot.{IsClassicBallot};
+ghost use Rattle.rapid_model.specs.Process as process;
+ghost use Rattle.rapid_model.specs.Message as model;
+ghost use Rattle.rapid_node.specs.Bodies.{CanSay, body_of};
+ghost use Rattle.rapid_wire.specs.Faults.{Gives};
+ghost use Rattle.rapid_wire.specs.Reading.{both, made, all_of, byte_at, process_at, id_at, cut_at, classic_at, report_at, items_at, answer_at, choice_at, confirmed_in, body_in};
+
+use crate::WireFault;
+use crate::reading::{
+    ID_BYTES, PROCESS_BYTES, classic_of, ended, id_in, process_in, read_answer, read_batch,
+    read_byte, read_cut, read_front, read_numbers, read_report,
+};
+use rapid_config::{ConfigError, ConfigId, Configuration, Cut};
+use rapid_endpoint::Process;
+use rapid_node::Body;
+use rapid_paxos::Ballot;
+use std::alloc::Global;
+
+/// An identifier.
+#[tactic(auto, unfolding(crate::specs::Reading::id_at))]
+fn read_id(bytes: &[u8]) -> Result<ConfigId, WireFault>
+    ensures { Gives (λ x. x) result (all_of id_at bytes.now) }
+{
+    let (front, rest) = read_front(bytes, ID_BYTES)?;
+    ended(rest)?;
+    Ok(id_in(front))
+}
+
+/// A batch of this observer.
+#[tactic(auto, unfolding(crate::specs::Reading::id_at))]
+fn read_batch_body(alloc: Global, sender: Process, bytes: &[u8]) -> Result<Body, WireFault>
+    ensures value { Gives body_of result (all_of (made (λ x. model.Batch x.0 x.1) (both id_at items_at)) bytes.now) }
+    ensures said { IfOk result (CanSay sender) }
+{
+    let (front, rest) = read_front(bytes, ID_BYTES)?;
+    let id = id_in(front);
+    let batch = read_batch(alloc, sender, id, rest)?;
+    Ok(Body::Batch(id, batch))
+}
+
+/// An identifier and a cut.
+#[tactic(auto, unfolding(crate::specs::Reading::id_at))]
+fn read_decided(alloc: Global, bytes: &[u8]) -> Result<(ConfigId, Cut), WireFault>
+    ensures { Gives (λ x. x) result (all_of (both id_at cut_at) bytes.now) }
+{
+    let (front, rest) = read_front(bytes, ID_BYTES)?;
+    let cut = read_cut(alloc, rest)?;
+    Ok((id_in(front), cut))
+}
+
+/// An identifier and a classic ballot.
+#[tactic(auto, unfolding(crate::specs::Reading::id_at, crate::specs::Reading::classic_at))]
+fn read_prepare(bytes: &[u8]) -> Result<(ConfigId, Ballot), WireFault>
+    ensures value { Gives (λ x. x) result (all_of (both id_at classic_at) bytes.now) }
+    ensures classic { IfOk result (λ x. IsClassicBallot x.1) }
+{
+    let (front, rest) = read_front(bytes, ID_BYTES)?;
+    let (round, position, rest) = read_numbers(rest)?;
+    let ballot = classic_of(round, position)?;
+    ended(rest)?;
+    Ok((id_in(front), ballot))
+}
+
+/// An identifier, a classic ballot and the vote that a promise reports.
+#[tactic(auto, unfolding(crate::specs::Reading::id_at, crate::specs::Reading::classic_at))]
+fn read_promise(alloc: Global, bytes: &[u8]) -> Result<Body, WireFault>
+    ensures value { Gives body_of result
+        (all_of (made (λ x. model.Promise x.0.0 x.0.1 x.1) (both (both id_at classic_at) report_at)) bytes.now) }
+    ensures said { IfOk result (λ b. (sender : process.Process) → CanSay sender b) }
+{
+    let (front, rest) = read_front(bytes, ID_BYTES)?;
+    let (round, position, rest) = read_numbers(rest)?;
+    let ballot = classic_of(round, position)?;
+    let vote = read_report(alloc, rest)?;
+    Ok(Body::Promise(id_in(front), ballot, vote))
+}
+
+/// An identifier, a classic ballot and a cut.
+#[tactic(auto, unfolding(crate::specs::Reading::id_at, crate::specs::Reading::classic_at, crate::specs::Reading::choice_at))]
+fn read_choice(alloc: Global, bytes: &[u8]) -> Result<(ConfigId, Ballot, Cut), WireFault>
+    ensures value { Gives (λ x. ((x.0, x.1), x.2)) result (all_of choice_at bytes.now) }
+    ensures classic { IfOk result (λ x. IsClassicBallot x.1) }
+{
+    let (front, rest) = read_front(bytes, ID_BYTES)?;
+    let (round, position, rest) = read_numbers(rest)?;
+    let ballot = classic_of(round, position)?;
+    let cut = read_cut(alloc, rest)?;
+    Ok((id_in(front), ballot, cut))
+}
+
+/// A joiner and what a host answers it.
+#[tactic(auto, unfolding(crate::specs::Reading::process_at))]
+fn read_reply(alloc: Global, bytes: &[u8]) -> Result<Body, WireFault>
+    ensures value { Gives body_of result (all_of (made (λ x. model.Reply x.0 x.1) (both process_at answer_at)) bytes.now) }
+    ensures said { IfOk result (λ b. (sender : process.Process) → CanSay sender b) }
+{
+    let (front, rest) = read_front(bytes, PROCESS_BYTES)?;
+    let answer = read_answer(alloc, rest)?;
+    Ok(Body::Reply(process_in(front), answer))
+}
+
+/// An identifier and a ring.
+#[tactic(auto, unfolding(crate::specs::Reading::id_at))]
+fn read_request(bytes: &[u8]) -> Result<(ConfigId, u8), WireFault>
+    ensures { Gives (λ x. x) result (all_of (both id_at byte_at) bytes.now) }
+{
+    let (front, rest) = read_front(bytes, ID_BYTES)?;
+    let (ring, rest) = read_byte(rest)?;
+    ended(rest)?;
+    Ok((id_in(front), ring))
+}
+
+/// A configuration.
+#[tactic(auto, unfolding(crate::specs::Reading::confirmed_in))]
+fn read_confirm(alloc: Global, bytes: &[u8]) -> Result<Body, WireFault>
+    ensures value { Gives body_of result (confirmed_in bytes.now) }
+    ensures said { IfOk result (λ b. (sender : process.Process) → CanSay sender b) }
+{
+    match Configuration::from_bytes(alloc, bytes) {
+        Ok(configuration) => Ok(Body::Confirm(configuration)),
+        Err(ConfigError::OutOfMemory) => Err(WireFault::OutOfMemory),
+        Err(_) => Err(WireFault::BadBody),
+    }
+}
+
+/// What a message of this kind from this sender says.
+#[tactic(auto, unfolding(crate::specs::Reading::body_in))]
+pub(crate) fn read_body(
+    alloc: Global,
+    sender: Process,
+    kind: u8,
+    bytes: &[u8],
+) -> Result<Body, WireFault>
+    ensures value { Gives body_of result (body_in kind bytes.now) }
+    ensures said { IfOk result (CanSay sender) }
+{
+    match kind {
+        1 => read_batch_body(alloc, sender, bytes),
+        2 => {
+            let (id, cut) = read_decided(alloc, bytes)?;
+            Ok(Body::FastVote(id, cut))
+        }
+        3 => {
+            let (id, ballot) = read_prepare(bytes)?;
+            Ok(Body::Prepare(id, ballot))
+        }
+        4 => read_promise(alloc, bytes),
+        5 => {
+            let (id, ballot, cut) = read_choice(alloc, bytes)?;
+            Ok(Body::Accept(id, ballot, cut))
+        }
+        6 => {
+            let (id, ballot, cut) = read_choice(alloc, bytes)?;
+            Ok(Body::Accepted(id, ballot, cut))
+        }
+        7 => {
+            let (id, cut) = read_decided(alloc, bytes)?;
+            Ok(Body::Decision(id, cut))
+        }
+        8 => {
+            ended(bytes)?;
+            Ok(Body::PreJoin)
+        }
+        9 => read_reply(alloc, bytes),
+        10 => {
+            let (id, ring) = read_request(bytes)?;
+            Ok(Body::JoinRequest(id, ring))
+        }
+        11 => read_confirm(alloc, bytes),
+        12 => Ok(Body::Probe(read_id(bytes)?)),
+        13 => Ok(Body::ProbeAck(read_id(bytes)?)),
+        _ => Err(WireFault::BadBody),
+    }
+}

@@ -1,0 +1,309 @@
+// How the parts of frames are read. A part that ends a body takes all bytes that it is given.
+
+ghost use Rattle.std.specs.Prelude.{◌≡◌, ◌≤◌, ◌==◌, All, Some, None, IfOk, length, map, if◌then◌else◌};
+ghost use Rattle.rapid_model.specs.Ballot.{IsClassicBallot};
+ghost use Rattle.rapid_model.specs.Message.{item_of};
+ghost use Rattle.rapid_alerts.specs.Alerts.{alert_of, kind_of};
+ghost use Rattle.rapid_paxos.specs.Reported.{last_of};
+ghost use Rattle.rapid_node.specs.Bodies.{IsFrom, CanAnswer, answer_of};
+ghost use Rattle.rapid_wire.specs.Faults.{Gives};
+ghost use Rattle.rapid_wire.specs.Reading.{both, all_of, many, front_at, byte_at, number_at, process_at, cut_at, is_cut, is_classic, is_ballot, numbers_at, ballot_at, report_at, kind_at, item_at, items_at, observers_at, made, id_at, safe_from, answer_at};
+
+use crate::WireFault;
+use crate::numbers::number_in;
+use rapid_alerts::{Alert, Kind};
+use rapid_config::{ConfigError, ConfigId, Cut};
+use rapid_endpoint::Process;
+use rapid_node::{Answer, Batch, RingObservers};
+use rapid_paxos::Ballot;
+use std::alloc::Global;
+
+/// How many bytes a process has.
+pub(crate) const PROCESS_BYTES: usize = 22;
+
+/// How many bytes the identifier of a configuration has.
+pub(crate) const ID_BYTES: usize = 32;
+
+/// Nothing is left.
+pub(crate) fn ended(rest: &[u8]) -> Result<(), WireFault>
+    ensures { Gives (λ x. x) result (if length rest.now == 0 then Some tt else None) }
+{
+    if rest.is_empty() {
+        Ok(())
+    } else {
+        Err(WireFault::BadBody)
+    }
+}
+
+/// One byte, and the rest.
+#[tactic(auto, unfolding(crate::specs::Reading::byte_at))]
+pub(crate) fn read_byte(bytes: &[u8]) -> Result<(u8, &[u8]), WireFault>
+    ensures { Gives (λ x. (x.0, x.1.now)) result (byte_at bytes.now) }
+{
+    match bytes {
+        [] => Err(WireFault::BadBody),
+        [first, rest @ ..] => Ok((*first, rest)),
+    }
+}
+
+/// This many bytes, and the rest.
+pub(crate) fn read_front(bytes: &[u8], count: usize) -> Result<(&[u8], &[u8]), WireFault>
+    ensures value { Gives (λ x. (x.0.now, x.1.now)) result (front_at count bytes.now) }
+    ensures length { IfOk result (λ x. length x.0.now ≡ count) }
+{
+    if bytes.len() < count {
+        return Err(WireFault::BadBody);
+    }
+    Ok(bytes.split_at(count))
+}
+
+/// A number of two bytes, and the rest.
+#[tactic(auto, unfolding(crate::specs::Reading::number_at))]
+fn read_number(bytes: &[u8]) -> Result<(u16, &[u8]), WireFault>
+    ensures { Gives (λ x. (x.0, x.1.now)) result (number_at bytes.now) }
+{
+    let (front, rest) = read_front(bytes, 2)?;
+    Ok((number_in(front), rest))
+}
+
+/// The process of these bytes.
+pub(crate) fn process_in(bytes: &[u8]) -> Process
+    requires { length bytes.now ≡ 22 }
+    ensures { result ≡ bytes.now }
+{
+    match Process::read(bytes) {
+        Some((process, _)) => process,
+        None => unreachable!(),
+    }
+}
+
+/// The identifier of these bytes.
+pub(crate) fn id_in(bytes: &[u8]) -> ConfigId
+    requires { length bytes.now ≡ 32 }
+    ensures { result ≡ bytes.now }
+{
+    match bytes.first_chunk::<32>() {
+        Some(chunk) => ConfigId::new(*chunk),
+        None => unreachable!(),
+    }
+}
+
+/// This many processes, and the rest.
+fn read_processes(
+    alloc: Global,
+    count: usize,
+    bytes: &[u8],
+) -> Result<(Vec<Process>, &[u8]), WireFault>
+    ensures { Gives (λ x. (x.0.items, x.1.now)) result (many count process_at bytes.now) }
+{
+    let mut processes = Vec::new(alloc);
+    let mut rest = bytes;
+    for _ in 0..count {
+        let (front, after) = read_front(rest, PROCESS_BYTES)?;
+        processes.push(process_in(front))?;
+        rest = after;
+    }
+    Ok((processes, rest))
+}
+
+/// The cut of these processes, if they are one.
+fn cut_of(processes: Vec<Process>) -> Result<Cut, WireFault>
+    ensures { Gives (λ cut. cut) result (if is_cut processes.items then Some processes.items else None) }
+{
+    match Cut::new(processes) {
+        Ok(cut) => Ok(cut),
+        Err(ConfigError::OutOfMemory) => Err(WireFault::OutOfMemory),
+        Err(_) => Err(WireFault::BadBody),
+    }
+}
+
+/// A cut.
+#[tactic(auto, unfolding(crate::specs::Reading::cut_at))]
+pub(crate) fn read_cut(alloc: Global, bytes: &[u8]) -> Result<Cut, WireFault>
+    ensures { Gives (λ cut. cut) result (all_of cut_at bytes.now) }
+{
+    let (count, rest) = read_number(bytes)?;
+    let (processes, rest) = read_processes(alloc, usize::from(count), rest)?;
+    let cut = cut_of(processes)?;
+    ended(rest)?;
+    Ok(cut)
+}
+
+/// A round and a position, and the rest.
+#[tactic(auto, unfolding(crate::specs::Reading::numbers_at))]
+pub(crate) fn read_numbers(bytes: &[u8]) -> Result<(u8, u16, &[u8]), WireFault>
+    ensures { Gives (λ x. (record { round = x.0; position = x.1 }, x.2.now)) result (numbers_at bytes.now) }
+{
+    let (round, rest) = read_byte(bytes)?;
+    let (position, rest) = read_number(rest)?;
+    Ok((round, position, rest))
+}
+
+/// The classic ballot of a round and a position, if there is one.
+pub(crate) fn classic_of(round: u8, position: u16) -> Result<Ballot, WireFault>
+    ensures value { Gives (λ b. b) result
+        (if is_classic (record { round = round; position = position }) then Some (record { round = round; position = position }) else None) }
+    ensures classic { IfOk result IsClassicBallot }
+{
+    match Ballot::classic(round, usize::from(position)) {
+        Some(ballot) => Ok(ballot),
+        None => Err(WireFault::BadBody),
+    }
+}
+
+/// The ballot of a round and a position, if there is one.
+fn ballot_of(round: u8, position: u16) -> Result<Ballot, WireFault>
+    ensures { Gives (λ b. b) result
+        (if is_ballot (record { round = round; position = position }) then Some (record { round = round; position = position }) else None) }
+{
+    if round == 1 && position == 0 {
+        Ok(Ballot::FAST)
+    } else {
+        classic_of(round, position)
+    }
+}
+
+/// A ballot and a cut.
+#[tactic(auto, unfolding(crate::specs::Reading::ballot_at))]
+fn read_vote(alloc: Global, bytes: &[u8]) -> Result<(Ballot, Cut), WireFault>
+    ensures { Gives (λ x. x) result (all_of (both ballot_at cut_at) bytes.now) }
+{
+    let (round, position, rest) = read_numbers(bytes)?;
+    let ballot = ballot_of(round, position)?;
+    let cut = read_cut(alloc, rest)?;
+    Ok((ballot, cut))
+}
+
+/// The vote that a promise reports, or none.
+#[tactic(auto, unfolding(crate::specs::Reading::report_at))]
+pub(crate) fn read_report(alloc: Global, bytes: &[u8]) -> Result<Option<(Ballot, Cut)>, WireFault>
+    ensures { Gives last_of result (all_of report_at bytes.now) }
+{
+    let (mark, rest) = read_byte(bytes)?;
+    match mark {
+        0 => {
+            ended(rest)?;
+            Ok(None)
+        }
+        1 => Ok(Some(read_vote(alloc, rest)?)),
+        _ => Err(WireFault::BadBody),
+    }
+}
+
+/// The kind of an alert, and the rest.
+#[tactic(auto, unfolding(crate::specs::Reading::kind_at))]
+fn read_kind(bytes: &[u8]) -> Result<(Kind, &[u8]), WireFault>
+    ensures { Gives (λ x. (kind_of x.0, x.1.now)) result (kind_at bytes.now) }
+{
+    let (byte, rest) = read_byte(bytes)?;
+    match byte {
+        1 => Ok((Kind::Remove, rest)),
+        2 => Ok((Kind::Join, rest)),
+        _ => Err(WireFault::BadBody),
+    }
+}
+
+/// The ring, the kind and the bytes of the subject of an alert, and the rest.
+#[tactic(auto, unfolding(crate::specs::Reading::item_at, crate::specs::Reading::process_at))]
+fn read_item(bytes: &[u8]) -> Result<(u8, Kind, &[u8], &[u8]), WireFault>
+    ensures value { Gives (λ x. (record { ring = x.0; kind = kind_of x.1; subject = x.2.now }, x.3.now)) result (item_at bytes.now) }
+    ensures length { IfOk result (λ x. length x.2.now ≡ 22) }
+{
+    let (ring, rest) = read_byte(bytes)?;
+    let (kind, rest) = read_kind(rest)?;
+    let (subject, rest) = read_front(rest, PROCESS_BYTES)?;
+    Ok((ring, kind, subject, rest))
+}
+
+/// This many alerts of an observer for a configuration, and the rest.
+fn read_alerts(
+    alloc: Global,
+    observer: Process,
+    config: ConfigId,
+    count: usize,
+    bytes: &[u8],
+) -> Result<(Vec<Alert>, &[u8]), WireFault>
+    ensures value { Gives (λ x. (map item_of (map alert_of x.0.items), x.1.now)) result (many count item_at bytes.now) }
+    ensures from { IfOk result (λ x. All (IsFrom observer config) (map alert_of x.0.items)) }
+{
+    let mut alerts = Vec::new(alloc);
+    let mut rest = bytes;
+    for _ in 0..count {
+        let (ring, kind, subject, after) = read_item(rest)?;
+        let alert = Alert {
+            observer,
+            subject: process_in(subject),
+            ring,
+            kind,
+            config,
+        };
+        alerts.push(alert)?;
+        rest = after;
+    }
+    Ok((alerts, rest))
+}
+
+/// The alerts of a batch.
+#[tactic(auto, unfolding(crate::specs::Reading::items_at))]
+pub(crate) fn read_batch(
+    alloc: Global,
+    observer: Process,
+    config: ConfigId,
+    bytes: &[u8],
+) -> Result<Batch, WireFault>
+    ensures value { Gives (λ x. map item_of x) result (all_of items_at bytes.now) }
+    ensures from { IfOk result (λ x. All (IsFrom observer config) x) }
+{
+    let (count, rest) = read_number(bytes)?;
+    let (alerts, rest) = read_alerts(alloc, observer, config, usize::from(count), rest)?;
+    if alerts.is_empty() || alerts.len() > Batch::MOST {
+        return Err(WireFault::BadBody);
+    }
+    ended(rest)?;
+    Ok(Batch::new(alerts)?)
+}
+
+/// The observers of a joiner.
+#[tactic(auto, unfolding(crate::specs::Reading::observers_at))]
+fn read_observers(alloc: Global, bytes: &[u8]) -> Result<RingObservers, WireFault>
+    ensures value { Gives (λ x. x) result (all_of observers_at bytes.now) }
+    ensures some { IfOk result (λ x. 1 ≤ length x) }
+{
+    let (count, rest) = read_byte(bytes)?;
+    let (processes, rest) = read_processes(alloc, usize::from(count), rest)?;
+    if processes.is_empty() || processes.len() > RingObservers::MOST {
+        return Err(WireFault::BadBody);
+    }
+    ended(rest)?;
+    Ok(RingObservers::new(processes)?)
+}
+
+/// An identifier and a joiner's observers.
+#[tactic(auto, unfolding(crate::specs::Reading::id_at))]
+fn read_safe(alloc: Global, bytes: &[u8]) -> Result<Answer, WireFault>
+    ensures value { Gives answer_of result (all_of (made safe_from (both id_at observers_at)) bytes.now) }
+    ensures can { IfOk result CanAnswer }
+{
+    let (front, rest) = read_front(bytes, ID_BYTES)?;
+    let observers = read_observers(alloc, rest)?;
+    Ok(Answer::Safe(id_in(front), observers))
+}
+
+/// What a host answers.
+#[tactic(auto, unfolding(crate::specs::Reading::answer_at))]
+pub(crate) fn read_answer(alloc: Global, bytes: &[u8]) -> Result<Answer, WireFault>
+    ensures value { Gives answer_of result (all_of answer_at bytes.now) }
+    ensures can { IfOk result CanAnswer }
+{
+    let (code, rest) = read_byte(bytes)?;
+    if code == 1 {
+        return read_safe(alloc, rest);
+    }
+    ended(rest)?;
+    match code {
+        2 => Ok(Answer::EndpointInUse),
+        3 => Ok(Answer::ConfigurationChanged),
+        4 => Ok(Answer::TooManyJoiners),
+        _ => Err(WireFault::BadBody),
+    }
+}
