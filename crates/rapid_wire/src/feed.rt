@@ -22,6 +22,9 @@ const MOST_BYTES: usize = 65_536;
 /// The messages of a stream of bytes that comes in pieces. A feed holds the bytes that were fed and not
 /// yet answered as messages; whoever asks for messages until there is none before the next piece comes
 /// has it hold no more than one frame and that piece. A fault is for good.
+///
+/// A byte is copied once as it is fed. Bytes that are held move to the front of the buffer only where at
+/// least as many were answered, so feeding a stream byte by byte takes linear time.
 #[derive(Debug, Drop)]
 pub struct Feed {
     held: BytesMut,
