@@ -10,6 +10,8 @@ mod feed;
 mod kinds;
 mod numbers;
 mod reading;
+#[cfg(test)]
+mod tests;
 mod told;
 mod writing;
 
