@@ -18,6 +18,7 @@ use Rattle.rapid_model.proofs.Lists.{In, in_left, in_from, contains_from}
 use Rattle.rapid_safety.specs.Evidence.{Evidence}
 use Rattle.rapid_safety.proofs.Atoms.{message}
 use Rattle.rapid_safety.proofs.TickWorks.{map-append}
+use Rattle.rapid_safety.proofs.NodeWorks.{nil_end}
 use Rattle.rapid_safety.proofs.Logs.{acts_at, acts_here, here_from}
 use Rattle.rapid_safety.proofs.Lived.{get_map}
 use Rattle.rapid_safety.proofs.Spoken.{TookSaid, took_kept, none_took, known_said}
@@ -65,11 +66,11 @@ line_push : (c : Configuration) (us : List Cut) (u : Cut) → line_from c (us ++
 line_push c [] u = refl
 line_push c (v ∷ vs) u = ap (λ l. c ∷ l) (line_push (apply c v) vs u)
 
-line_last : (c : Configuration) (us : List Cut) → (before : List Configuration) × (line_from c us ≡ before ++ reached c us ∷ [])
+pub line_last : (c : Configuration) (us : List Cut) → (before : List Configuration) × (line_from c us ≡ before ++ reached c us ∷ [])
 line_last c [] = ([], refl)
 line_last c (u ∷ us) = let r = line_last (apply c u) us in (c ∷ r.0, ap (λ l. c ∷ l) r.1)
 
-line_more : (c : Configuration) (us more : List Cut) → (rest : List Configuration) × (line_from c (us ++ more) ≡ line_from c us ++ rest)
+pub line_more : (c : Configuration) (us more : List Cut) → (rest : List Configuration) × (line_from c (us ++ more) ≡ line_from c us ++ rest)
 line_more c [] [] = ([], refl)
 line_more c [] (v ∷ vs) = (line_from (apply c v) vs, refl)
 line_more c (u ∷ us) more = let r = line_more (apply c u) us more in (r.0, ap (λ l. c ∷ l) r.1)
@@ -93,10 +94,6 @@ Follows f w xs (Joining j) = xs ≡ []
 Follows f w xs (Member s) = BehindAt f w xs s.config
 Follows f w xs (Removed c) = Behind f w xs
 Follows f w xs (Halted shown) = Behind f w xs
-
-nil_end : (xs : List Stamp) → xs ++ [] ≡ xs
-nil_end [] = refl
-nil_end (x ∷ xs) = ap (λ l. x ∷ l) (nil_end xs)
 
 -- nothing ends each line
 behind_none : (f : Configuration) (w : World) (xs : List Stamp) → xs ≡ [] → Behind f w xs
@@ -279,13 +276,13 @@ lined_run f es are =
 
 -- ---- of two lines one begins the other
 
-abbrev Begins : List Cut → List Cut → Type 0
+abbrev pub Begins : List Cut → List Cut → Type 0
 Begins us vs = (more : List Cut) × (vs ≡ us ++ more)
 
 abbrev pub OneCut : World → Type 0
 OneCut w = (c : Configuration) (u v : Cut) → IsChange w c u → IsChange w c v → u ≡ v
 
-one_line : (w : World) → OneCut w → (c : Configuration) (us vs : List Cut) → EachChange (IsChange w) c us → EachChange (IsChange w) c vs → Begins us vs ⊎ Begins vs us
+pub one_line : (w : World) → OneCut w → (c : Configuration) (us vs : List Cut) → EachChange (IsChange w) c us → EachChange (IsChange w) c vs → Begins us vs ⊎ Begins vs us
 one_line w one c [] vs h g = inl (vs, refl)
 one_line w one c (u ∷ us) [] h g = inr (u ∷ us, refl)
 one_line w one c (u ∷ us) (v ∷ vs) h g =
@@ -295,7 +292,7 @@ one_line w one c (u ∷ us) (v ∷ vs) h g =
       | inr r ↦ inr (r.0, ap₂ (λ x xs. x ∷ xs) same r.1)
     ]
 
-stretch_more : (f : Configuration) (us vs : List Cut) (xs : List Stamp) → Begins us vs → IsStretchOf xs (map stamp (line_from f us)) → IsStretchOf xs (map stamp (line_from f vs))
+pub stretch_more : (f : Configuration) (us vs : List Cut) (xs : List Stamp) → Begins us vs → IsStretchOf xs (map stamp (line_from f us)) → IsStretchOf xs (map stamp (line_from f vs))
 stretch_more f us vs xs b h =
     let l = line_more f us b.0 in (
       h.0,
