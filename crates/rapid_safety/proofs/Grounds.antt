@@ -32,6 +32,7 @@ use Rattle.rapid_safety.proofs.Polls.{exists_counted}
 use Rattle.rapid_safety.proofs.Spoken.{entry_in, in_did, TookSaid, took_said, known_said}
 use Rattle.rapid_safety.proofs.Asides.{Asides, asides_run}
 use Rattle.rapid_safety.proofs.Rules.{said_sent}
+use Rattle.rapid_safety.proofs.News.{came_said}
 use Rattle.rapid_safety.proofs.Speakers.{accepted_above}
 use Rattle.rapid_safety.proofs.Deciding.{lives_evidence}
 use Rattle.rapid_safety.proofs.Steps.{Comes, by_tick, by_packet, by_probe, Steps, stays, starts, notes, stops, moves, ends}
@@ -97,12 +98,6 @@ came_none w i p _ _ d (by_packet _ x at sent to) (inl s) = cc
 came_none w i p _ _ d (by_packet _ x at sent to) (inr n) = n
 came_none w i _ _ _ d (by_probe p c k s ok at ob down) (inl z) = cc
 came_none w i _ _ _ d (by_probe p c k s ok at ob down) (inr n) = n
-
-came_said : (w : World) (i : ℕ) (p : Peer) (before : List Act) (e : Event) (m : Message) → Comes w i p before e → PacketsSaid w → e ≡ Receive m → SaidIn w.log m.sender m.body
-unfolding PacketsSaid
-came_said w i p _ _ m (by_tick _ at) said is = cc
-came_said w i p _ _ m (by_packet _ x at sent to) said is = let same : x.message ≡ m = cc in subst (λ (z : Message). SaidIn w.log z.sender z.body) same (said x (in_from w.packets x sent))
-came_said w i _ _ _ m (by_probe p c k s ok at ob down) said is = cc
 
 some_config : {x y : Configuration} → Some x ≡ Some y → x ≡ y
 some_config e = cc

@@ -6,7 +6,7 @@ use Rattle.rapid_model.specs.Configuration.{Configuration}
 use Rattle.rapid_model.specs.Apply.{apply}
 use Rattle.rapid_model.specs.Joiner.{Joiner}
 use Rattle.rapid_model.specs.Message.{Message, Confirm}
-use Rattle.rapid_model.specs.Node.{Node, Phase, Joining, Member, Removed, Halted, MemberState, Outcome, Event, Receive, member_in, member_config, has_installed, configuration_of, seed_node, fresh_member}
+use Rattle.rapid_model.specs.Node.{Node, Phase, Joining, Member, Removed, Halted, MemberState, Outcome, Event, member_in, member_config, has_installed, configuration_of, seed_node, fresh_member}
 use Rattle.rapid_model.specs.World.{World, Peer, Act, Installed}
 use Rattle.rapid_model.specs.WorldStep.{install_acts, acts_of}
 use Rattle.rapid_model.proofs.Lists.{In, in_from}
@@ -18,8 +18,7 @@ use Rattle.rapid_safety.proofs.Histories.{Lived}
 use Rattle.rapid_safety.proofs.LifeSteps.{comes_steps}
 use Rattle.rapid_safety.proofs.Lived.{JoinerSteps, joins_still, joins, joiner_steps, removed_stays, halted_stays}
 use Rattle.rapid_safety.proofs.PacketsSent.{SaidIn, PacketsSaid}
-use Rattle.rapid_safety.proofs.Steps.{Comes, by_tick, by_packet, by_probe}
-use Rattle.rapid_safety.proofs.News.{Moves}
+use Rattle.rapid_safety.proofs.News.{Moves, came_said}
 
 -- the acts of the node in a configuration after the step, where it is a member there
 abbrev pub acts_then : (w v : World) → Moves w v → Configuration → List Act
@@ -36,15 +35,6 @@ pub data MoveKind (w v : World) (m : Moves w v) : Node → Type 0 where
       MoveKind w v m (seed_node c m.peer.node.me)
   stays_out : member_in m.peer.node ≡ None → MoveKind w v m m.peer.node
 
--- the message that comes was said
-came_said : (w : World) (i : _) (p : Peer) (before : List Act) (e : Event) (from : Process) (b : Rattle.rapid_model.specs.Message.Body) → Comes w i p before e → PacketsSaid w → e ≡ Receive (message from b) → SaidIn w.log from b
-unfolding PacketsSaid
-came_said w i p _ _ from b (by_tick _ at) said h = cc
-came_said w i p _ _ from b (by_packet _ x at sent to) said h =
-    let same : x.message ≡ message from b = cc in
-    subst (λ (z : Message). SaidIn w.log z.sender z.body) same (said x (in_from w.packets x sent))
-came_said w i _ _ _ from b (by_probe p c k s ok at ob down) said h = cc
-
 module _ (w v : World) (m : Moves w v) (lived : Lived w) (said : PacketsSaid w) where
   of_member : (s : MemberState) (n : Node) → m.peer.node.phase ≡ Member s → Stepped s.config (acts_at w.log m.peer.node.me s.config) m.peer.node (acts_of m.before m.peer.node m.outcome) n → MoveKind w v m n
   of_member s _ at (goes_on heard t life sync) = member_goes_on s t at (lives_config s.config m.peer.node.me _ heard t None life)
@@ -52,7 +42,7 @@ module _ (w v : World) (m : Moves w v) (lived : Lived w) (said : PacketsSaid w) 
 
   of_joiner : (j : Joiner) (e : Event) (o : Outcome) → m.peer.node.phase ≡ Joining j → m.event ≡ e → JoinerSteps m.peer.node e o → MoveKind w v m o.node
   of_joiner j _ _ at is (joins_still e k es) = joiner_goes_on j k at
-  of_joiner j _ _ at is (joins from c member) = joiner_enters j from c at (came_said w m.place m.peer m.before m.event from (Confirm c) m.comes said is)
+  of_joiner j _ _ at is (joins from c member) = joiner_enters j from c at (came_said w m.place m.peer m.before m.event (message from (Confirm c)) m.comes said is)
 
   pub kind_of : MoveKind w v m m.outcome.node
   kind_of = by m.peer.node.phase refl

@@ -2,13 +2,14 @@
 use Rattle.std.proofs.Common.{◌≡◌, ◌⊎◌, inl, inr, ℕ, Bool, true, List, [], ◌∷◌, ◌++◌, map, refl, sym, ap, subst, ◌∙◌, Some}
 use Rattle.rapid_model.specs.Process.{Process}
 use Rattle.rapid_model.specs.Configuration.{Configuration}
-use Rattle.rapid_model.specs.Message.{Body}
-use Rattle.rapid_model.specs.Node.{Node, Destination, Effect, Says, Outcome, Event, joiner_node, halt, configuration_of}
+use Rattle.rapid_model.specs.Message.{Message, Body}
+use Rattle.rapid_model.specs.Node.{Node, Destination, Effect, Says, Outcome, Event, Receive, joiner_node, halt, configuration_of}
 use Rattle.rapid_model.specs.NodeStep.{node_step}
 use Rattle.rapid_model.specs.World.{World, Peer, Act, Took, Did, Ticked, Probed, Installed, HasHalted, Crashed, Entry, is_running}
 use Rattle.rapid_model.specs.WorldStep.{entry, install_acts, acts_of, moved}
-use Rattle.rapid_model.proofs.Lists.{In, in_split, in_right, in_map}
+use Rattle.rapid_model.proofs.Lists.{In, in_split, in_right, in_from, in_map}
 use Rattle.rapid_safety.proofs.Logs.{get_set, get_push}
+use Rattle.rapid_safety.proofs.PacketsSent.{SaidIn, PacketsSaid}
 use Rattle.rapid_safety.proofs.Spoken.{entry_in}
 use Rattle.rapid_safety.proofs.Steps.{StandsAt, Comes, by_tick, by_packet, by_probe, Steps, stays, starts, notes, stops, moves, ends}
 
@@ -38,6 +39,13 @@ pub come_stands : (w : World) (i : ℕ) (p : Peer) (before : List Act) (e : Even
 come_stands w i p _ _ (by_tick _ at) = (p, at, refl)
 come_stands w i p _ _ (by_packet _ x at sent to) = (p, at, refl)
 come_stands w i _ _ _ (by_probe p c k s ok at ob down) = (p, at, refl)
+
+-- the message that comes was said
+pub came_said : (w : World) (i : ℕ) (p : Peer) (before : List Act) (e : Event) (m : Message) → Comes w i p before e → PacketsSaid w → e ≡ Receive m → SaidIn w.log m.sender m.body
+unfolding PacketsSaid
+came_said w i p _ _ m (by_tick _ at) said is = cc
+came_said w i p _ _ m (by_packet _ x at sent to) said is = let same : x.message ≡ m = cc in subst (λ (z : Message). SaidIn w.log z.sender z.body) same (said x (in_from w.packets x sent))
+came_said w i _ _ _ m (by_probe p c k s ok at ob down) said is = cc
 
 one_quiet : (a : Act) → IsQuietAct a → AllQuiet (a ∷ [])
 unfolding AllQuiet

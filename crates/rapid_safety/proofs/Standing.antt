@@ -1,11 +1,10 @@
 -- Each configuration that was installed stands on the line.
-use Rattle.std.proofs.Common.{◌≡◌, inl, inr, List, [], ◌∷◌, ◌++◌, map, refl, sym, ap, subst, ◌∙◌, append_assoc}
-use Rattle.std.specs.Prelude.{Contains}
+use Rattle.std.proofs.Common.{◌≡◌, inl, inr, List, [], ◌∷◌, ◌++◌, refl, sym, ap, subst, ◌∙◌, append_assoc}
 use Rattle.rapid_model.specs.Cut.{Cut}
-use Rattle.rapid_model.specs.Configuration.{Configuration, AreMembers, stamp}
+use Rattle.rapid_model.specs.Configuration.{Configuration, AreMembers}
 use Rattle.rapid_model.specs.World.{World, Peer, Act, Took, Did, Ticked, Probed, Installed, HasHalted, Crashed, Entry, MarkedEvent}
 use Rattle.rapid_model.specs.Run.{run, founded}
-use Rattle.rapid_model.specs.Agreement.{line_from, EachChange, IsStretchOf, NoCollision}
+use Rattle.rapid_model.specs.Agreement.{line_from, NoCollision}
 use Rattle.rapid_model.proofs.Lists.{In, in_left, in_right, in_from, contains_from}
 use Rattle.rapid_safety.specs.Standing.{InstallsStand}
 use Rattle.rapid_safety.proofs.Descent.{reached, Descends}
