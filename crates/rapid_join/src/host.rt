@@ -1,6 +1,6 @@
 // The side of a member in a join.
 
-ghost use Rattle.std.specs.Prelude.{◌≡◌, true, false, map, IfOk, OnOk, OnErr};
+ghost use Rattle.std.specs.Prelude.{◌≡◌, ◌≤◌, true, false, map, IfOk, OnOk, OnErr};
 ghost use Rattle.std.specs.Arc.{arc_value};
 ghost use Rattle.std.specs.FinSet as set;
 ghost use Rattle.rapid_model.specs.Apply as apply;
@@ -31,8 +31,9 @@ pub struct Host {
 }
 
 impl Model for Host {
-    ghost use Rattle.std.specs.Prelude.{◌≡◌};
+    ghost use Rattle.std.specs.Prelude.{◌≡◌, ◌≤◌};
     ghost use Rattle.std.specs.Arc.{arc_value};
+    ghost use Rattle.std.specs.FinSet as set;
     ghost use Rattle.rapid_model.specs.JoinSides.{HostSide};
     ghost use Rattle.rapid_join.specs.Hosts.{host_code};
 
@@ -42,7 +43,7 @@ impl Model for Host {
 
     ghost view = { λ h. record { config = h.configuration; me = h.me; pending = h.pending } };
 
-    ghost invariant = { λ h. arc_value h.rings ≡ h.configuration };
+    ghost invariant = { λ h. (arc_value h.rings ≡ h.configuration) × (set.len h.pending ≤ 512) };
 }
 
 impl Host {
@@ -118,6 +119,7 @@ impl Host {
           pending = model.pending_after (model.join_request self.old.config self.old.me self.old.pending joiner.now id ring) self.old.pending joiner.now;
         }) }
         ensures unchanged { OnErr result (self.new ≡ self.old) }
+        ensures few { set.len self.new.pending ≤ 512 }
     {
         if self.configuration.is_member(joiner) {
             self.confirm()

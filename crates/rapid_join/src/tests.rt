@@ -5,7 +5,7 @@ ghost use Rattle.std.specs.Prelude.{◌≤◌, length};
 use crate::{Host, HostAnswer, Joiner, JoinerAnswer, Reply, RingObservers};
 use rapid_config::{ConfigId, Configuration, Params};
 use rapid_endpoint::{Endpoint, Process, ProcessId};
-use std::alloc::Global;
+use std::alloc::{AllocError, Global};
 use std::process::Abort;
 use std::test::Fail;
 
@@ -246,5 +246,35 @@ fn observers_are_shared(rt: HostRuntime) -> Result<(), Fail> {
     assert!(rt; copy.as_slice() == observers.as_slice());
     let safe = Reply::Safe(ConfigId::zero(), copy);
     assert_eq!(rt; safe.code(), 1);
+    Ok(())
+}
+
+/// A request, made again where its growth is refused.
+fn asked(host: &mut Host, joiner: &Process, id: ConfigId) -> Result<HostAnswer, AllocError> {
+    match host.join_request(joiner, id, 0) {
+        Err(_refused) => host.join_request(joiner, id, 0),
+        answer => answer,
+    }
+}
+
+/// How many waited for the change, asked again where a growth is refused.
+fn confirmed(host: &mut Host, next: &Configuration) -> Result<usize, AllocError> {
+    match host.confirms(next) {
+        Err(_refused) => Ok(host.confirms(next)?.len()),
+        Ok(answers) => Ok(answers.len()),
+    }
+}
+
+/// Where some growth is refused the host is as it was, so that it answers the same when it is asked again.
+#[test]
+fn want_of_memory_leaves_the_host_as_it_was(rt: HostRuntime) -> Result<(), Fail> {
+    let configuration = founded(rt.alloc(), &[process(1)])?;
+    let mut host = Host::new(rt.alloc(), &configuration, &process(1))?;
+    for joiner in 2..5 {
+        let answer = asked(&mut host, &process(joiner), configuration.id())?;
+        assert!(rt; number(&answer) == 6, "of {joiner}");
+    }
+    assert_eq!(rt; confirmed(&mut host, &configuration)?, 3);
+    assert_eq!(rt; confirmed(&mut host, &configuration)?, 0);
     Ok(())
 }
