@@ -1,6 +1,6 @@
 //! The command line.
 
-ghost use Rattle.std.specs.Prelude.{◌≡◌, ◌≢◌, ◌≤◌, IfSome};
+ghost use Rattle.std.specs.Prelude.{◌≡◌, ◌≢◌, ◌≤◌, ◌⊎◌, IfSome};
 ghost use Rattle.std.specs.Io.KnownBytes.{Appends};
 ghost use Rattle.clap.specs.Words.{kind_of};
 ghost use Rattle.rapid_model.specs.DetectText.{detect_text};
@@ -125,7 +125,8 @@ fn matches_of<'a, S: AsStr>(alloc: Global, words: &'a [S]) -> Result<ArgMatches<
     grammar(alloc)?.try_get_matches_from(words)
 }
 
-/// Does what the words ask for, of which the first is the program's name, and answers the status.
+/// Does what the words ask for, of which the first is the program's name, and answers the status. Where that is 0,
+/// either what the input prints was written, and nothing else, or the input was not read, as for help.
 pub fn run_words<S: AsStr, R: Read, O: Write, E: Write>(
     alloc: Global,
     words: &[S],
@@ -133,7 +134,9 @@ pub fn run_words<S: AsStr, R: Read, O: Write, E: Write>(
     out: &mut O,
     err: &mut E,
 ) -> u8
-    ensures { result ≤ 3 }
+    ensures written { result ≡ 0 →
+        IfSome (R.remaining reader.old) (λ input. Appends (O.contents out.old) (O.contents out.new) (detect_text input)) ⊎ (reader.new ≡ reader.old) }
+    ensures status { result ≤ 3 }
 {
     match matches_of(alloc, words) {
         Err(error) => tell(&error, out, err),
