@@ -45,10 +45,10 @@ no_items : {K : Type 0} (t : K → K → Bool) → ((q : K) → t q q ≡ true) 
 no_items t itself [] h = refl
 no_items t itself (x ∷ xs) h = let wrong : true ≡ false = sym (ap (λ b. b || list_any (t x) xs) (itself x)) ∙ h x in cc
 
-in_any : {K : Type 0} (t : K → K → Bool) → ((q : K) → t q q ≡ true) → (xs : List K) (x : K) → In xs x → list_any (t x) xs ≡ true
-in_any t itself [] x h = absurd h
-in_any t itself (y ∷ ys) x (inl e) = ap (λ z. t x z || list_any (t x) ys) e ∙ ap (λ b. b || list_any (t x) ys) (itself x)
-in_any t itself (y ∷ ys) x (inr i) = by (t x y) (list_any (t x) ys) (in_any t itself ys x i)
+pub any_in : {K : Type 0} (f : K → Bool) (xs : List K) (x : K) → In xs x → f x ≡ true → list_any f xs ≡ true
+any_in f [] x i h = absurd i
+any_in f (y ∷ ys) x (inl e) h = ap (λ b. b || list_any f ys) (ap f e ∙ h)
+any_in f (y ∷ ys) x (inr i) h = by (f y) (list_any f ys) (any_in f ys x i h)
   where
     by : (a b : Bool) → b ≡ true → (a || b) ≡ true
     by true b e = refl
@@ -69,7 +69,7 @@ module _ {K : Type 0} {R : K → K → Ordering} (o : IsTotalOrder R) (exact : s
 
   pub items_one : (k x : K) → In (set.items (set.insert (set.empty {R = R}) k)) x → x ≡ k
   items_one k x h =
-      by (eq_by_cmp R x k) refl (sym (contains_one k x) ∙ set.contains-items (set.insert (set.empty {R = R}) k) x ∙ in_any (eq_by_cmp R) itself (set.items (set.insert (set.empty {R = R}) k)) x h)
+      by (eq_by_cmp R x k) refl (sym (contains_one k x) ∙ set.contains-items (set.insert (set.empty {R = R}) k) x ∙ any_in (eq_by_cmp R x) (set.items (set.insert (set.empty {R = R}) k)) x h (itself x))
     where
       by : (b : Bool) → eq_by_cmp R x k ≡ b → (b || false) ≡ true → x ≡ k
       by true e g = (tie_decides o exact x k).0 e
@@ -97,7 +97,7 @@ map_some f [] h e = h refl
 map_some f (x ∷ xs) h e = cc
 
 -- the reports on nobody
-subjects_none : subjects set.empty ≡ []
+pub subjects_none : subjects set.empty ≡ []
 unfolding subjects
 subjects_none = ap (λ xs. in_order process_cmp (map (λ (x : Report). x.0) xs)) (items_none reports_total reports_exact)
 
@@ -117,10 +117,10 @@ union_is = set.same_set reports_total reports_exact _ one (λ q. set.contains-un
 
 -- ---- the host observes the guest
 
-abbrev id : List ℕ
+abbrev pub id : List ℕ
 id = configuration_id two
 
-abbrev t : Observers
+abbrev pub t : Observers
 t = observers_of two
 
 observer_is : ring_observer (other ∷ host ∷ []) 0 guest ≡ Some host
@@ -138,7 +138,7 @@ observers_are = ap (λ o. cons_option o []) observer_is
 observes_it : observes t host 0 guest ≡ true
 observes_it = ap (λ o. option_eq same_bytes o (Some host)) observed
 
-id_itself : same_bytes id id ≡ true
+pub id_itself : same_bytes id id ≡ true
 id_itself = (same_bytes_decides id id).1 refl
 
 room : is_full_for set.empty guest ≡ false
@@ -175,7 +175,7 @@ s0 = fresh_member two host
 abbrev pub n0 : Node
 n0 = seed_node two host
 
-abbrev waiting : ProcessSet
+abbrev pub waiting : ProcessSet
 waiting = set.insert set.empty guest
 
 abbrev s1 : MemberState
@@ -231,14 +231,14 @@ abbrev pub v : Cut
 v = guest ∷ []
 
 -- the first of two votes decides nothing
-first_vote_is : (k : ℕ) → fast_decision (fresh_round 2) k v ≡ None
+pub first_vote_is : (k : ℕ) → fast_decision (fresh_round 2) k v ≡ None
 unfolding fast_decision
 first_vote_is k =
     ap (λ b. cond b None (cond (unwrap_or (finmap.get (finmap.empty {R = cut_cmp}) v) 0 + 1 == 2) (Some v) None)) (set.contains-empty nat_cmp k)
     ∙ ap (λ o. cond (unwrap_or o 0 + 1 == 2) (Some v) None) (finmap.get-empty cut_cmp v)
 
 -- the round of the host after its own vote
-abbrev voted_first : FastRound
+abbrev pub voted_first : FastRound
 voted_first = hear_vote (fresh_round 2) 1 v
 
 abbrev counted : FastRound
@@ -278,7 +278,7 @@ s5 = record s4 { proposal = Some v }
 abbrev s6 : MemberState
 s6 = record (vote_seen s5) { acceptor = after_accept fresh_acceptor fast_ballot v; voted = true }
 
-abbrev s7 : MemberState
+abbrev pub s7 : MemberState
 s7 = record (vote_seen s6) { fast = voted_first }
 
 abbrev pub n2 : Node
@@ -329,7 +329,7 @@ node_ticks = ap (settle host (stamp two ∷ []) []) work_is
 
 -- ---- the other member hears the batch
 
-abbrev q0 : MemberState
+abbrev pub q0 : MemberState
 q0 = fresh_member two other
 
 abbrev q1 : MemberState
@@ -384,11 +384,11 @@ hears_vote : receive_as_member [] s7 other vote ≡ decided (Some v)
 unfolding receive_as_member take fresh_member
 hears_vote = ap (λ b. cond b (decided (fast_decision voted_first 0 v)) (sends s7 (catch_up [] other (Some id)))) id_itself ∙ ap decided second_vote_is
 
-other_in : is_member three other ≡ true
+pub other_in : is_member three other ≡ true
 unfolding apply
 other_in = refl
 
-host_in : is_member three host ≡ true
+pub host_in : is_member three host ≡ true
 unfolding apply
 host_in = refl
 
@@ -396,13 +396,13 @@ pub guest_in : is_member three guest ≡ true
 unfolding apply
 guest_in = refl
 
-confirms_it : confirms three waiting ≡ (guest, Confirms three) ∷ []
+pub confirms_it : confirms three waiting ≡ (guest, Confirms three) ∷ []
 unfolding confirms
 confirms_it =
     ap (map (λ j. (j, cond (is_member three j) (Confirms three) (Replies ConfigurationChanged)))) (all_one guest (set.items waiting) (items_one processes_total processes_exact guest) (items_some processes_total processes_exact guest))
     ∙ ap (λ b. (guest, cond b (Confirms three) (Replies ConfigurationChanged)) ∷ []) guest_in
 
-confirms_none : confirms three set.empty ≡ []
+pub confirms_none : confirms three set.empty ≡ []
 unfolding confirms
 confirms_none = ap (λ xs. map (λ j. (j, cond (is_member three j) (Confirms three) (Replies ConfigurationChanged))) (in_order process_cmp xs)) (items_none processes_total processes_exact)
 
@@ -416,7 +416,7 @@ n3 = entered host
 abbrev pub m2 : Node
 m2 = entered other
 
-abbrev installed_by : Process → Bool → List (Process × HostAnswer) → Option Outcome
+abbrev pub installed_by : Process → Bool → List (Process × HostAnswer) → Option Outcome
 installed_by p b ys =
     Some (record {
       node = record (entered p) { phase = cond b (Member (fresh_member three p)) (Removed three) };

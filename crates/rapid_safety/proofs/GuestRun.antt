@@ -1,5 +1,5 @@
 -- The run in which a guest joins two founders, one of which catches up.
-use Rattle.std.proofs.Common.{◌≡◌, ◌⊎◌, inl, inr, ℕ, true, false, cond, List, [], ◌∷◌, map, refl, sym, ap, subst, ◌∙◌, Option, Some, None}
+use Rattle.std.proofs.Common.{◌≡◌, ◌⊎◌, inl, inr, ℕ, true, false, cond, List, [], ◌∷◌, ◌++◌, map, refl, sym, ap, subst, ◌∙◌, Option, Some, None}
 use Rattle.std.specs.Prelude.{filter_map, drop}
 use Rattle.rapid_model.specs.Process.{identifier, endpoint, same_bytes}
 use Rattle.rapid_model.specs.Configuration.{Configuration, configuration_id, stamp}
@@ -16,7 +16,7 @@ use Rattle.rapid_model.specs.History.{Sent, sent}
 use Rattle.rapid_model.specs.Agreement.{NoCollision}
 use Rattle.rapid_model.proofs.Lists.{In, in_from, contains_from}
 use Rattle.rapid_model.proofs.Orders.{same_bytes_decides}
-use Rattle.rapid_safety.specs.Examples.{other, host, guest, two, three, happens, guest_run}
+use Rattle.rapid_safety.specs.Examples.{other, host, guest, two, three, happens, guest_asks, guest_run}
 use Rattle.rapid_safety.proofs.Atoms.{message}
 use Rattle.rapid_safety.proofs.GuestNodes.{n0, n1, n2, n3, m0, m1, m2, batch, vote, decision, done, votes, node_pre, node_request, node_ticks, node_batch, node_vote, node_again, node_decision, guest_in, ids_differ}
 
@@ -27,10 +27,10 @@ id = configuration_id two
 abbrev j0 : Node
 j0 = joiner_node guest (endpoint host)
 
-abbrev j1 : Node
+abbrev pub j1 : Node
 j1 = record j0 { phase = Joining (after_tick (fresh_joiner (endpoint host))) }
 
-abbrev out : Node → List Rattle.rapid_model.specs.Node.Effect → Outcome
+abbrev pub out : Node → List Rattle.rapid_model.specs.Node.Effect → Outcome
 out n es = record { node = n; effects = es }
 
 -- ---- the worlds
@@ -53,7 +53,7 @@ w4 = moved w3 2 (added j1) (Took (message host (Reply guest (Safe id (host ∷ [
 abbrev w5 : World
 w5 = moved w4 1 (added n0) (Took (message guest (JoinRequest id 0)) ∷ []) (out n1 [])
 
-abbrev w6 : World
+abbrev pub w6 : World
 w6 = moved w5 1 (added n1) (Ticked ∷ []) (out n2 done)
 
 abbrev w7 : World
@@ -113,7 +113,7 @@ step10 : world_step w9 (happens (Deliver 8)) ≡ w10
 unfolding world_step hands fresh_member
 step10 = ap (settled w9 0 (added m1) (Took (message host decision) ∷ [])) node_decision
 
-node_joins : node_step j1 (Receive (message host (Confirm three))) ≡ Some (out (seed_node three guest) [])
+pub node_joins : node_step j1 (Receive (message host (Confirm three))) ≡ Some (out (seed_node three guest) [])
 unfolding node_step receive_as_joiner
 node_joins = ap (λ b. Some (cond b (out (seed_node three guest) []) (joins_on guest [] [] (after_tick (fresh_joiner (endpoint host))) []))) guest_in
 
@@ -121,14 +121,21 @@ step11 : world_step w10 (happens (Deliver 7)) ≡ w11
 unfolding world_step hands fresh_member
 step11 = ap (settled w10 2 (added j1) (Took (message host (Confirm three)) ∷ [])) node_joins
 
+-- the events of the asking after the first, and then others
+abbrev from : ℕ → List MarkedEvent → List MarkedEvent
+from n rest = drop n guest_asks ++ rest
+
+pub asked_is : (rest : List MarkedEvent) → run (guest_asks ++ rest) (founded two) ≡ run rest w6
+asked_is rest =
+    ap (run (from 1 rest)) step1 ∙ ap (run (from 2 rest)) step2 ∙ ap (run (from 3 rest)) step3 ∙ ap (run (from 4 rest)) step4
+    ∙ ap (run (from 5 rest)) step5 ∙ ap (run rest) step6
+
 -- the last events of the run
-abbrev from : ℕ → List MarkedEvent
-from n = drop n guest_run
+abbrev last : ℕ → List MarkedEvent
+last n = drop n guest_run
 
 run_is : run guest_run (founded two) ≡ w11
-run_is =
-    ap (run (from 1)) step1 ∙ ap (run (from 2)) step2 ∙ ap (run (from 3)) step3 ∙ ap (run (from 4)) step4 ∙ ap (run (from 5)) step5
-    ∙ ap (run (from 6)) step6 ∙ ap (run (from 7)) step7 ∙ ap (run (from 8)) step8 ∙ ap (run (from 9)) step9 ∙ ap (run (from 10)) step10 ∙ step11
+run_is = asked_is (last 6) ∙ ap (run (last 7)) step7 ∙ ap (run (last 8)) step8 ∙ ap (run (last 9)) step9 ∙ ap (run (last 10)) step10 ∙ step11
 
 -- ---- what the three installed
 
@@ -143,7 +150,7 @@ pub decision_sent : Sent (run guest_run (founded two)) host (Decision (configura
 decision_sent = subst (λ w. Sent w host decision) (sym run_is) decision_said
 
 -- the configuration of an act that installs
-abbrev installs_of : Act → Option Configuration
+abbrev pub installs_of : Act → Option Configuration
 installs_of (Installed c) = Some c
 installs_of a = None
 
@@ -171,9 +178,10 @@ either c d (inl x) (inr y) e = absurd (apart (ap configuration_id x ∙ e ∙ ap
 either c d (inr x) (inl y) e = absurd (apart (ap configuration_id y ∙ sym e ∙ ap configuration_id (sym x)))
 either c d (inr x) (inr y) e = sym x ∙ y
 
-none_collide : NoCollision w11
-none_collide e f c d he hf ce df =
-    either c d (one_of c (subst (λ l. In l c) log_installs (of_log w11.log e c (in_from w11.log e he) ce))) (one_of d (subst (λ l. In l d) log_installs (of_log w11.log f d (in_from w11.log f hf) df)))
+-- a world in which these were installed
+pub none_collide : (w : World) → filter_map (λ (e : Entry). installs_of e.act) w.log ≡ two ∷ two ∷ three ∷ three ∷ three ∷ [] → NoCollision w
+none_collide w all e f c d he hf ce df =
+    either c d (one_of c (subst (λ l. In l c) all (of_log w.log e c (in_from w.log e he) ce))) (one_of d (subst (λ l. In l d) all (of_log w.log f d (in_from w.log f hf) df)))
 
 pub joins_apart : NoCollision (run guest_run (founded two))
-joins_apart = subst NoCollision (sym run_is) none_collide
+joins_apart = subst NoCollision (sym run_is) (none_collide w11 log_installs)
