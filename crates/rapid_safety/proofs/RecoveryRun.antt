@@ -1,20 +1,20 @@
 -- The run in which a change is recovered.
 use Rattle.std.proofs.Common.{◌≡◌, ◌+◌, ◌≤◌, ◌<◌, inl, inr, ℕ, zero, suc, Bool, true, false, cond, ◌&&◌, List, [], ◌∷◌, ◌++◌, map, count_by, refl, sym, ap, subst, ◌∙◌, Some, arith}
-use Rattle.std.specs.Prelude.{◌*◌, filter_map, replicate, drop}
+use Rattle.std.specs.Prelude.{◌*◌, filter_map, replicate, drop, Contains}
 use Rattle.std.specs.List.{list_any}
 use Rattle.rapid_model.specs.Process.{Process, identifier, endpoint, same_bytes}
 use Rattle.rapid_model.specs.Cut.{Cut}
-use Rattle.rapid_model.specs.Configuration.{stamp}
+use Rattle.rapid_model.specs.Configuration.{stamp, configuration_id}
 use Rattle.rapid_model.specs.Quorum.{size}
 use Rattle.rapid_model.specs.Ballot.{fast_ballot}
 use Rattle.rapid_model.specs.FastPaxos.{IsQuorumAt, IsChosenAt}
-use Rattle.rapid_model.specs.Message.{Body, Message, FastVote, Decision, Confirm}
+use Rattle.rapid_model.specs.Message.{Body, Message, FastVote, Accepted, Decision, Confirm}
 use Rattle.rapid_model.specs.Node.{To, Others, Says, seed_node, fresh_member}
 use Rattle.rapid_model.specs.World as world
 use Rattle.rapid_model.specs.World.{World, Peer, Took, Ticked, Entry, Deliver, MarkedEvent}
 use Rattle.rapid_model.specs.WorldStep.{added, settled, moved, hands, world_step}
 use Rattle.rapid_model.specs.Run.{run, founded}
-use Rattle.rapid_model.specs.History.{Sent, sent}
+use Rattle.rapid_model.specs.History.{Sent, sent, Received, received}
 use Rattle.rapid_model.specs.Chosen.{Voted, said_about}
 use Rattle.rapid_model.specs.Agreement.{NoCollision}
 use Rattle.rapid_model.proofs.Lists.{In, in_from, contains_from}
@@ -157,7 +157,29 @@ chosen_there =
 pub chosen_later : IsChosenAt two.members (said_about (run recovered_run (founded two)) two) second_ballot (guest ∷ [])
 chosen_later = subst (λ w. IsChosenAt two.members (said_about w two) second_ballot v) (sym run_is) chosen_there
 
--- ---- and none at the fast ballot
+-- ---- each founder takes both notices
+
+other_takes : (q : Process) → In (other ∷ host ∷ []) q → Received w14 other two q accepted
+unfolding ticks fresh_member
+other_takes q (inl e) = subst (λ x. Received w14 other two x accepted) e (contains_from (received w14 other two) (message other accepted) (inr (inr (inr (inr (inr (inl refl)))))))
+other_takes q (inr (inl e)) = subst (λ x. Received w14 other two x accepted) e (contains_from (received w14 other two) (message host accepted) (inr (inr (inr (inr (inr (inr (inl refl))))))))
+other_takes q (inr (inr n)) = absurd n
+
+host_takes : (q : Process) → In (other ∷ host ∷ []) q → Received w14 host two q accepted
+unfolding ticks fresh_member
+host_takes q (inl e) = subst (λ x. Received w14 host two x accepted) e (contains_from (received w14 host two) (message other accepted) (inr (inr (inr (inr (inr (inr (inr (inl refl)))))))))
+host_takes q (inr (inl e)) = subst (λ x. Received w14 host two x accepted) e (contains_from (received w14 host two) (message host accepted) (inr (inr (inr (inr (inr (inr (inl refl))))))))
+host_takes q (inr (inr n)) = absurd n
+
+each_takes : (p q : Process) → In (other ∷ host ∷ []) p → In (other ∷ host ∷ []) q → Received w14 p two q accepted
+each_takes p q (inl e) j = subst (λ x. Received w14 x two q accepted) e (other_takes q j)
+each_takes p q (inr (inl e)) j = subst (λ x. Received w14 x two q accepted) e (host_takes q j)
+each_takes p q (inr (inr n)) j = absurd n
+
+pub all_take : (p q : Process) → Contains two.members p → Contains two.members q → Received (run recovered_run (founded two)) p two q (Accepted (configuration_id two) second_ballot (guest ∷ []))
+all_take p q h k = subst (λ w. Received w p two q accepted) (sym run_is) (each_takes p q (in_from two.members p h) (in_from two.members q k))
+
+-- ---- none is chosen at the fast ballot
 
 is_fast_vote : Body → Bool
 is_fast_vote (FastVote i u) = true

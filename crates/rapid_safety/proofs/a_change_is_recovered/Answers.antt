@@ -1,5 +1,5 @@
 use Rattle.rapid_safety.proofs.Founders.{params_fit, founders_fit}
-use Rattle.rapid_safety.proofs.RecoveryRun.{recovers_apart, all_install, chosen_later, not_chosen_fast, never_told}
+use Rattle.rapid_safety.proofs.RecoveryRun.{recovers_apart, all_install, chosen_later, not_chosen_fast, all_take, never_told}
 use Rattle.rapid_safety.proofs.a_change_is_recovered.Goals as goal
 
 pub returns-clause-params : goal.returns-clause-params
@@ -19,6 +19,9 @@ returns-clause-chosen c = chosen_later
 
 pub returns-clause-not_fast : goal.returns-clause-not_fast
 returns-clause-not_fast c = not_chosen_fast
+
+pub returns-clause-heard : goal.returns-clause-heard
+returns-clause-heard c = all_take
 
 pub returns-clause-untold : goal.returns-clause-untold
 returns-clause-untold c = never_told
