@@ -1,28 +1,15 @@
 -- Messages as the definitions see them.
-use Rattle.std.specs.Prelude.{◌≡◌, ◌≤◌, ℕ, List, length, map, All}
+use Rattle.std.specs.Prelude.{◌≡◌, ℕ, List, map, All}
 use Rattle.rapid_model.specs.Process.{Process}
 use Rattle.rapid_model.specs.Alert.{Alert}
 use Rattle.rapid_model.specs.Ballot.{IsClassicBallot}
 use Rattle.rapid_model.specs.Message as model
 use Rattle.rapid_paxos.specs.Reported.{last_of}
-use Rattle.rapid_node.specs.declared.answer.Answer.{Answer}
-use Rattle.rapid_node.specs.declared.answer.Answer.TheVariants.{Safe, EndpointInUse, ConfigurationChanged, TooManyJoiners}
+use Rattle.rapid_join.specs.declared.reply.Reply as joining
+use Rattle.rapid_join.specs.Answers.{NamesObservers}
+pub use Rattle.rapid_join.specs.Answers.{answer_of}
 use Rattle.rapid_node.specs.declared.message.Body.{Body}
 use Rattle.rapid_node.specs.declared.message.Body.TheVariants.{Batch, FastVote, Prepare, Promise, Accept, Accepted, Decision, PreJoin, Reply, JoinRequest, Confirm, Probe, ProbeAck}
-
--- An answer.
-abbrev pub answer_of : Answer → model.Answer
-answer_of (Safe id os) = model.Safe id os
-answer_of EndpointInUse = model.EndpointInUse
-answer_of ConfigurationChanged = model.ConfigurationChanged
-answer_of TooManyJoiners = model.TooManyJoiners
-
--- The number of an answer.
-abbrev pub answer_code : model.Answer → ℕ
-answer_code (model.Safe id os) = 1
-answer_code model.EndpointInUse = 2
-answer_code model.ConfigurationChanged = 3
-answer_code model.TooManyJoiners = 4
 
 -- What a message says.
 abbrev pub body_of : Body → model.Body
@@ -45,11 +32,8 @@ abbrev pub IsFrom : Process → List ℕ → Alert → Type 0
 IsFrom observer id a = (a.observer ≡ observer) × (a.config ≡ id)
 
 -- This can be answered: the answer Safe names an observer.
-abbrev pub CanAnswer : Answer → Type 0
-CanAnswer (Safe id os) = 1 ≤ length os
-CanAnswer EndpointInUse = Unit {0}
-CanAnswer ConfigurationChanged = Unit {0}
-CanAnswer TooManyJoiners = Unit {0}
+abbrev pub CanAnswer : joining.Reply → Type 0
+CanAnswer a = NamesObservers a
 
 -- The process can say this: a batch has its own alerts for the configuration that it names, and what is asked, promised
 -- or accepted after a Prepare is at a classic ballot.

@@ -1,0 +1,84 @@
+// For how long processes were unstable.
+
+ghost use Rattle.std.specs.Prelude.{◌≡◌, IfOk, OnOk, OnErr};
+ghost use Rattle.std.specs.FinMap as map;
+ghost use Rattle.rapid_model.specs.Tick.{age_of, next_ages};
+
+use rapid_endpoint::Process;
+use std::alloc::{AllocError, Global};
+use std::collections::BTreeMap;
+use std::marker::Model;
+
+/// The age to which processes grow.
+const MOST: u8 = 41;
+
+/// At how many successive ticks, at most 41, each process was unstable.
+#[derive(Debug, Drop)]
+pub(crate) struct Ages {
+    ages: BTreeMap<Process, u8>,
+    alloc: Global,
+}
+
+impl Model for Ages {
+    ghost use Rattle.std.specs.Prelude.{ℕ};
+    ghost use Rattle.std.specs.FinMap as map;
+    ghost use Rattle.rapid_model.specs.Process.{process_cmp};
+    ghost use Rattle.rapid_model.specs.Codes.{ages_code};
+
+    ghost Value = { map.FinMap process_cmp ℕ };
+
+    ghost coded = { ages_code };
+
+    ghost view = { λ a. map.from_entries a.ages.entries };
+}
+
+impl Ages {
+    /// No process was unstable.
+    pub(crate) fn new(alloc: Global) -> Ages
+        ensures { result ≡ map.empty }
+    {
+        Ages {
+            ages: BTreeMap::new(alloc),
+            alloc,
+        }
+    }
+
+    /// At how many successive ticks the process was unstable.
+    pub(crate) fn of(&self, process: &Process) -> u8
+        ensures { result ≡ age_of self.now process.now }
+    {
+        self.ages.get(process).copied().unwrap_or(0)
+    }
+
+    /// The ages a tick later, at which these processes are unstable.
+    pub(crate) fn next(&self, unstable: &[Process]) -> Result<Ages, AllocError>
+        ensures { IfOk result (λ ages. ages ≡ next_ages self.now unstable.now) }
+    {
+        let count = unstable.len();
+        let mut next = Ages::new(self.alloc);
+        for i in 0..count {
+            let process = unstable[count - 1 - i];
+            next.insert(process, self.of(&process).saturating_add(1).min(MOST))?;
+        }
+        Ok(next)
+    }
+
+    /// Sets the age of a process. Want of memory leaves the ages as they were.
+    fn insert(&mut self, process: Process, age: u8) -> Result<(), AllocError>
+        ensures ok { OnOk result (self.new ≡ map.insert self.old process age) }
+        ensures unchanged { OnErr result (self.new ≡ self.old) }
+    {
+        self.ages.insert(process, age)?;
+        Ok(())
+    }
+
+    /// Equal ages.
+    pub(crate) fn try_copy(&self) -> Result<Ages, AllocError>
+        ensures { IfOk result (λ ages. ages ≡ self.now) }
+    {
+        Ok(Ages {
+            ages: self.ages.clone()?,
+            alloc: self.alloc,
+        })
+    }
+}
