@@ -19,7 +19,7 @@ const KEPT: usize = 64;
 
 /// The last 64 configurations that were left, each with the cut decided there. Copies share one list.
 #[derive(Debug, Drop)]
-pub struct Decisions {
+pub(crate) struct Decisions {
     decided: ArcSlice<(ConfigId, Cut)>,
 }
 
@@ -51,7 +51,7 @@ fn copy_all(
 
 impl Decisions {
     /// No decision.
-    pub fn new(alloc: Global) -> Result<Decisions, AllocError>
+    pub(crate) fn new(alloc: Global) -> Result<Decisions, AllocError>
         ensures { IfOk result (λ d. d ≡ []) }
     {
         let decided = ArcSlice::from_vec(Vec::new(alloc))?;
@@ -59,7 +59,12 @@ impl Decisions {
     }
 
     /// The decisions with one more, of which the last 64 are kept.
-    pub fn with(&self, alloc: Global, id: ConfigId, cut: Cut) -> Result<Decisions, AllocError>
+    pub(crate) fn with(
+        &self,
+        alloc: Global,
+        id: ConfigId,
+        cut: Cut,
+    ) -> Result<Decisions, AllocError>
         ensures { IfOk result (λ d. d ≡ last_64 (self.now ++ (id, cut) ∷ [])) }
     {
         let decided = self.decided.as_slice();
@@ -83,7 +88,7 @@ impl Decisions {
     }
 
     /// Answers a message about a configuration that was left.
-    pub fn catch_up(
+    pub(crate) fn catch_up(
         &self,
         alloc: Global,
         out: &mut Vec<Output>,
@@ -100,7 +105,7 @@ impl Decisions {
     }
 
     /// Equal decisions, which share the list.
-    pub fn try_copy(&self) -> Result<Decisions, AllocError>
+    pub(crate) fn try_copy(&self) -> Result<Decisions, AllocError>
         ensures { IfOk result (λ d. d ≡ self.now) }
     {
         let decided = self.decided.clone()?;

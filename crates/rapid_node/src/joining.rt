@@ -1,15 +1,15 @@
 // What goes out in a join.
 
 ghost use Rattle.std.specs.Prelude.{◌≡◌, ◌++◌, All, map, flat_map, OnOk};
-ghost use Rattle.rapid_model.specs.Node.{outputs};
+ghost use Rattle.rapid_model.specs.Node.{To, Says, outputs};
 ghost use Rattle.rapid_model.specs.Receive.{answer_to};
-ghost use Rattle.rapid_join.specs.Answers.{answered_of, host_answer_of};
+ghost use Rattle.rapid_join.specs.Answers.{answered_of, host_answer_of, request_of, sent_by};
 ghost use Rattle.rapid_join.specs.Answers.{AnswersObservers};
 
 use crate::Body;
-use crate::output::{Output, answer};
+use crate::output::{Output, answer, say_to};
 use rapid_endpoint::Process;
-use rapid_join::HostAnswer;
+use rapid_join::{HostAnswer, JoinRequest, JoinerAnswer};
 use std::alloc::{AllocError, Global};
 
 /// Says what a host answers to a joiner. What is long is shared.
@@ -46,7 +46,7 @@ pub(crate) fn say_answer(
 }
 
 /// Says what a host answers to the joiners that waited.
-pub fn say_all(
+pub(crate) fn say_all(
     alloc: Global,
     out: &mut Vec<Output>,
     me: Process,
@@ -59,4 +59,34 @@ pub fn say_all(
         say_answer(alloc, out, me, joiner, answered)?;
     }
     Ok(())
+}
+
+/// Sends a joiner's requests.
+fn send_requests(
+    out: &mut Vec<Output>,
+    me: Process,
+    requests: &[JoinRequest],
+) -> Result<(), AllocError>
+    ensures { OnOk result (out.new.items ≡ out.old.items ++ outputs me (map (λ x. Says (To x.0) x.1) (map request_of requests.now))) }
+{
+    for request in requests {
+        let body = Body::JoinRequest(request.id, request.ring);
+        say_to(out, me, request.to, body)?;
+    }
+    Ok(())
+}
+
+/// Sends what a joiner answers.
+pub(crate) fn send_joining(
+    out: &mut Vec<Output>,
+    me: Process,
+    answered: &JoinerAnswer,
+) -> Result<(), AllocError>
+    ensures { OnOk result (out.new.items ≡ out.old.items ++ outputs me (map (λ x. Says (To x.0) x.1) (sent_by answered.now))) }
+{
+    match answered {
+        JoinerAnswer::Nothing => Ok(()),
+        JoinerAnswer::PreJoin(seed) => say_to(out, me, *seed, Body::PreJoin),
+        JoinerAnswer::Requests(requests) => send_requests(out, me, requests.as_slice()),
+    }
 }

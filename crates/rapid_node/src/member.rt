@@ -28,7 +28,7 @@ use std::sync::Arc;
 
 /// What a member keeps in a configuration. The configuration's members and its rings are shared with all copies.
 #[derive(Debug, Drop)]
-pub struct MemberState {
+pub(crate) struct MemberState {
     configuration: Configuration,
     rings: SharedRings,
     me: Process,
@@ -86,7 +86,7 @@ impl Model for MemberState {
 impl MemberState {
     /// A member that enters the configuration of these rings.
     #[tactic(auto, using(crate::proofs::Places::has_place), unfolding(rapid_model::specs::Node::fresh_member))]
-    pub fn new(
+    pub(crate) fn new(
         alloc: Global,
         configuration: &Configuration,
         rings: SharedRings,
@@ -125,14 +125,14 @@ impl MemberState {
     }
 
     /// The configuration.
-    pub fn configuration(&self) -> &Configuration
+    pub(crate) fn configuration(&self) -> &Configuration
         ensures { result.now ≡ self.now.config }
     {
         &self.configuration
     }
 
     /// The rings of the configuration.
-    pub fn rings(&self) -> &Arc<Rings, Global>
+    pub(crate) fn rings(&self) -> &Arc<Rings, Global>
         ensures { result.now.value ≡ self.now.config }
     {
         self.rings.get()
@@ -140,7 +140,7 @@ impl MemberState {
 
     /// What each pending joiner gets after a change to the next configuration. None is pending afterwards.
     #[tactic(auto, using(crate::proofs::Hosts::confirms_give))]
-    pub fn confirms(
+    pub(crate) fn confirms(
         &mut self,
         next: &Configuration,
     ) -> Result<Vec<(Process, HostAnswer)>, AllocError>
@@ -216,7 +216,7 @@ impl MemberState {
 
     /// An equal member, which shares the configuration's members and the rings.
     #[tactic(auto, unfolding(rapid_model::specs::Node::fresh_member))]
-    pub fn try_copy(&self) -> Result<MemberState, AllocError>
+    pub(crate) fn try_copy(&self) -> Result<MemberState, AllocError>
         ensures { IfOk result (λ s. s ≡ self.now) }
     {
         let mut copy = self.anew()?;

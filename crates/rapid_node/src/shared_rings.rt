@@ -13,7 +13,7 @@ use std::sync::Arc;
 
 /// The rings of a configuration, which all parts of a member and all its copies share.
 #[derive(Debug, Drop)]
-pub struct SharedRings {
+pub(crate) struct SharedRings {
     rings: Arc<Rings, Global>,
 }
 
@@ -28,21 +28,21 @@ impl Model for SharedRings {
 
 impl SharedRings {
     /// These rings, to be shared.
-    pub fn new(rings: Arc<Rings, Global>) -> SharedRings
+    pub(crate) fn new(rings: Arc<Rings, Global>) -> SharedRings
         ensures { result ≡ arc_value rings }
     {
         SharedRings { rings }
     }
 
     /// The rings.
-    pub fn get(&self) -> &Arc<Rings, Global>
+    pub(crate) fn get(&self) -> &Arc<Rings, Global>
         ensures { arc_value result.now ≡ self.now }
     {
         &self.rings
     }
 
     /// The same rings.
-    pub fn try_copy(&self) -> Result<SharedRings, AllocError>
+    pub(crate) fn try_copy(&self) -> Result<SharedRings, AllocError>
         ensures { IfOk result (λ s. s ≡ self.now) }
     {
         let rings = Arc::try_clone(&self.rings)?;

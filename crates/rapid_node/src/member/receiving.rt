@@ -186,7 +186,7 @@ impl MemberState {
 
     /// A message at a member, where these are the decisions of its node.
     #[tactic(auto, unfolding(rapid_model::specs::Receive::receive_as_member))]
-    pub fn receive(
+    pub(crate) fn receive(
         &mut self,
         out: &mut Vec<Output>,
         decisions: &Decisions,

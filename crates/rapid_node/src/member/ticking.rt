@@ -279,7 +279,7 @@ impl MemberState {
 
     /// A tick: last, a ballot is begun where one is due.
     #[tactic(auto, unfolding(rapid_model::specs::Tick::on_tick))]
-    pub fn on_tick(&mut self, out: &mut Vec<Output>) -> Result<Option<Cut>, AllocError>
+    pub(crate) fn on_tick(&mut self, out: &mut Vec<Output>) -> Result<Option<Cut>, AllocError>
         ensures state { OnOk result (self.new ≡ (tick.on_tick self.old).state) }
         ensures out { OnOk result (out.new.items ≡ out.old.items ++ outputs self.old.me (tick.on_tick self.old).effects) }
         ensures decided { IfOk result (λ d. d ≡ (tick.on_tick self.old).decided) }

@@ -21,7 +21,7 @@ use std::alloc::AllocError;
 impl MemberState {
     /// Raises an alert; a refusal is ignored.
     #[tactic(auto, unfolding(rapid_model::specs::Member::raise_alert))]
-    pub fn raise(&mut self, alert: Alert) -> Result<(), AllocError>
+    pub(crate) fn raise(&mut self, alert: Alert) -> Result<(), AllocError>
         ensures state { OnOk result (self.new ≡ member.raise_alert self.old (alert_of alert)) }
         ensures same { OnOk result (IsSameMember self.old self.new) }
     {

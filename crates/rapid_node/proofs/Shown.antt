@@ -1,0 +1,23 @@
+-- What a node shows.
+use Rattle.std.proofs.Common.{◌≡◌, sym, refl, Option}
+use Rattle.rapid_model.specs.Process.{Process}
+use Rattle.rapid_model.specs.Configuration.{Configuration}
+use Rattle.rapid_model.specs.Node as model
+use Rattle.rapid_model.specs.Node.{shown_in}
+use Rattle.rapid_node.specs.declared.phase.State.{State}
+use Rattle.rapid_node.specs.declared.phase.State.TheVariants.{Joining, Member, Removed, Halted}
+use Rattle.rapid_node.specs.Phases.{phase_of, IsState}
+
+-- the configuration that a node keeps is the one that its phase shows
+pub shows : (me : Process) (shown : Option Configuration) (s : State) → IsState me shown s → shown_in (phase_of shown s) ≡ shown
+shows me shown (Joining j) is = sym is.0
+shows me shown (Member s) is = sym is.0
+shows me shown (Removed c) is = sym is
+shows me shown Halted is = refl
+
+-- a node in the phase Halted shows what that phase keeps
+pub halted_shows : (shown c : Option Configuration) (s : State) → phase_of shown s ≡ model.Halted c → shown ≡ c
+halted_shows shown c (Joining j) e = cc
+halted_shows shown c (Member s) e = cc
+halted_shows shown c (Removed d) e = cc
+halted_shows shown c Halted e = cc

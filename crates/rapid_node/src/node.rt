@@ -1,0 +1,554 @@
+// One node.
+
+ghost use Rattle.std.specs.Prelude.{◌≡◌, ◌<◌, ◌-◌, ◌^◌, ◌++◌, ◌∷◌, [], false, true, length, map, flat_map, IfOk, OnOk, IfErr, OnErr, IfSome, IsTrue, Some, None, Err};
+ghost use Rattle.std.specs.Option.{option_map};
+ghost use Rattle.rapid_model.specs.Apply.{apply};
+ghost use Rattle.std.specs.Arc.{arc_slice_items};
+ghost use Rattle.rapid_model.specs.Configuration.{configuration_id, is_member, stamp};
+ghost use Rattle.rapid_model.specs.Host.{confirms};
+ghost use Rattle.rapid_model.specs.Joiner.{after_tick, asks_at_tick};
+ghost use Rattle.rapid_model.specs.Message as message;
+ghost use Rattle.rapid_model.specs.Message.{caught_up_by};
+ghost use Rattle.rapid_model.specs.Node as model;
+ghost use Rattle.rapid_model.specs.NodeStep as step;
+ghost use Rattle.rapid_model.specs.Tick.{on_tick};
+ghost use Rattle.rapid_model.specs.Receive as receive;
+ghost use Rattle.rapid_join.specs.Answers.{answer_of};
+ghost use Rattle.rapid_node.specs.Bodies.{CanSay, body_of};
+ghost use Rattle.rapid_node.specs.Members.{IsSameMember};
+ghost use Rattle.rapid_node.specs.Phases.{phase_of, name_of, IsState};
+ghost use Rattle.rapid_node.specs.Steps.{event_of, Continues, HasOutcome, Stops, IsFault};
+ghost use Rattle.rapid_node.specs.declared.fault.NodeFault.TheVariants as fault;
+
+use crate::decisions::Decisions;
+use crate::joining::{say_all, send_joining};
+use crate::member::MemberState;
+use crate::output::Output;
+use crate::phase::State;
+use crate::{Answer, Body, Event, Message, NodeFault, Outputs, Phase};
+use rapid_alerts::{Alert, Kind};
+use rapid_config::{ConfigError, ConfigId, Configuration, Cut, Stamp};
+use rapid_endpoint::{Endpoint, Process};
+use rapid_join::Joiner;
+use std::alloc::{AllocError, Global};
+use std::marker::Model;
+use std::mem;
+use std::sync::ArcSlice;
+
+/// How many views a node installs at most.
+const MOST_VIEWS: usize = 65536;
+
+/// One node of the service: a process that joins, is a member, was removed or has halted. It does no input or output: it
+/// is told of events, one [`Node::step`] each, and answers what is to be sent.
+#[derive(Debug, Drop)]
+pub struct Node {
+    me: Process,
+    state: State,
+    // the configuration that the node shows
+    shown: Option<Configuration>,
+    installed: ArcSlice<Stamp>,
+    decisions: Decisions,
+    alloc: Global,
+}
+
+impl Model for Node {
+    ghost use Rattle.std.specs.Arc.{arc_slice_items};
+    ghost use Rattle.rapid_model.specs.Node.{Node as ModelNode};
+    ghost use Rattle.rapid_node.specs.Codes.{node_code};
+
+    ghost Value = { ModelNode };
+
+    ghost coded = { node_code };
+
+    ghost use Rattle.rapid_node.specs.Phases.{phase_of, IsState};
+
+    ghost view = { λ n. record { me = n.me; phase = phase_of n.shown n.state; installed = arc_slice_items n.installed; decisions = n.decisions } };
+
+    ghost invariant = { λ n. IsState n.me n.shown n.state };
+}
+
+/// The configuration that a cut makes.
+fn apply_cut(
+    alloc: Global,
+    configuration: &Configuration,
+    cut: &Cut,
+) -> Result<Configuration, AllocError>
+    requires { configuration.now.height < 2 ^ 64 - 1 }
+    ensures { IfOk result (λ next. next ≡ apply configuration.now cut.now) }
+{
+    match configuration.apply(alloc, cut) {
+        Ok(next) => Ok(next),
+        Err(ConfigError::OutOfMemory) => Err(AllocError),
+        Err(_) => unreachable!(),
+    }
+}
+
+/// Says to the joiners that wait at a member what they get after a change.
+fn confirm_pending(
+    alloc: Global,
+    out: &mut Vec<Output>,
+    me: Process,
+    member: &mut MemberState,
+    next: &Configuration,
+) -> Result<(), AllocError>
+    ensures out { OnOk result (out.new.items ≡ out.old.items ++ model.outputs me (flat_map (λ x. receive.answer_to x.0 x.1) (confirms next.now member.old.pending))) }
+    ensures same { OnOk result (IsSameMember member.old member.new) }
+{
+    let answers = member.confirms(next)?;
+    say_all(alloc, out, me, answers.as_slice())
+}
+
+/// These stamps and one more.
+fn with_stamp(alloc: Global, stamps: &[Stamp], stamp: Stamp) -> Result<ArcSlice<Stamp>, AllocError>
+    ensures { IfOk result (λ all. arc_slice_items all ≡ stamps.now ++ stamp ∷ []) }
+{
+    let mut all = Vec::with_capacity(alloc, stamps.len().saturating_add(1))?;
+    all.extend_from_slice(stamps)?;
+    all.push(stamp)?;
+    ArcSlice::from_vec(all)
+}
+
+impl Node {
+    /// The node of these parts.
+    fn of(
+        alloc: Global,
+        me: Process,
+        state: State,
+        shown: Option<Configuration>,
+        installed: ArcSlice<Stamp>,
+        decisions: Decisions,
+    ) -> Node
+        requires { IsState me shown state }
+        ensures { result ≡ record { me = me; phase = phase_of shown state; installed = arc_slice_items installed; decisions = decisions } }
+    {
+        Node {
+            me,
+            state,
+            shown,
+            installed,
+            decisions,
+            alloc,
+        }
+    }
+
+    /// The node of a founder: a member of this configuration, which has the height 0. The caller sees that the process
+    /// is a member.
+    pub fn seed(
+        alloc: Global,
+        configuration: &Configuration,
+        process: Process,
+    ) -> Result<Node, AllocError>
+        requires { is_member configuration.now process ≡ true }
+        ensures { IfOk result (λ node. node ≡ model.seed_node configuration.now process) }
+    {
+        let shown = Some(configuration.try_copy(alloc)?);
+        let installed = with_stamp(alloc, &[], configuration.stamp())?;
+        let decisions = Decisions::new(alloc)?;
+        let state = State::found(alloc, configuration, process)?;
+        Ok(Node::of(alloc, process, state, shown, installed, decisions))
+    }
+
+    /// The node of a process that joins by the seed at this endpoint.
+    pub fn joiner(alloc: Global, process: Process, seed: Endpoint) -> Result<Node, AllocError>
+        ensures { IfOk result (λ node. node ≡ model.joiner_node process seed) }
+    {
+        let installed = ArcSlice::from_vec(Vec::new(alloc))?;
+        let decisions = Decisions::new(alloc)?;
+        let state = State::Joining(Joiner::new(process, seed));
+        Ok(Node::of(alloc, process, state, None, installed, decisions))
+    }
+
+    /// The process.
+    pub fn process(&self) -> Process
+        ensures { result ≡ self.now.me }
+    {
+        self.me
+    }
+
+    /// The stamps of all configurations that it installed, in order.
+    pub fn installed(&self) -> &[Stamp]
+        ensures { result.now ≡ self.now.installed }
+    {
+        self.installed.as_slice()
+    }
+
+    /// The configuration that it shows: the present one, or the last where it was removed or has halted; none before
+    /// the first.
+    #[tactic(auto, using(crate::proofs::Shown::shows))]
+    pub fn configuration(&self) -> Option<&Configuration>
+        ensures { option_map (λ c. c.now) result ≡ model.configuration_of self.now }
+    {
+        self.shown.as_ref()
+    }
+
+    /// The phase.
+    pub fn phase(&self) -> Phase
+        ensures { result ≡ name_of self.now.phase }
+    {
+        match &self.state {
+            State::Joining(_) => Phase::Joining,
+            State::Member(_) => Phase::Member,
+            State::Removed(_) => Phase::Removed,
+            State::Halted => Phase::Halted,
+        }
+    }
+
+    /// Makes the node halt. Nothing else that it shows changes.
+    #[tactic(auto, using(crate::proofs::Shown::shows))]
+    pub fn halt(&mut self)
+        ensures { self.new ≡ model.halt self.old }
+    {
+        self.state = State::Halted;
+    }
+
+    /// An equal node. What never changes in a configuration is shared.
+    pub fn try_copy(&self) -> Result<Node, AllocError>
+        ensures { IfOk result (λ node. node ≡ self.now) }
+    {
+        let shown = copy_shown(self.alloc, &self.shown)?;
+        let installed = self.installed.clone()?;
+        let decisions = self.decisions.try_copy()?;
+        let state = self.state.try_copy(self.alloc)?;
+        Ok(Node::of(self.alloc, self.me, state, shown, installed, decisions))
+    }
+
+    /// It joins.
+    #[tactic(auto, using(crate::proofs::Shown::halted_shows))]
+    fn be_joining(&mut self, joiner: Joiner)
+        requires me { joiner.process ≡ self.old.me }
+        requires shown { self.old.phase ≡ model.Halted None }
+        ensures { self.new ≡ record self.old { phase = model.Joining joiner.joiner } }
+    {
+        self.state = State::Joining(joiner);
+    }
+
+    /// It is this member.
+    #[tactic(auto, using(crate::proofs::Shown::halted_shows))]
+    fn be_member(&mut self, member: MemberState)
+        requires me { member.me ≡ self.old.me }
+        requires shown { self.old.phase ≡ model.Halted (Some member.config) }
+        ensures { self.new ≡ record self.old { phase = model.Member member } }
+    {
+        self.state = State::Member(member);
+    }
+
+    /// It was removed.
+    #[tactic(auto, using(crate::proofs::Shown::halted_shows))]
+    fn be_removed(&mut self, configuration: Configuration)
+        requires { self.old.phase ≡ model.Halted (Some configuration) }
+        ensures { self.new ≡ record self.old { phase = model.Removed configuration } }
+    {
+        self.state = State::Removed(configuration);
+    }
+
+    /// Enters the configuration that comes after a member's by a cut.
+    fn enter(
+        &mut self,
+        before: &MemberState,
+        next: Configuration,
+        cut: Cut,
+    ) -> Result<(), AllocError>
+        ensures me { OnOk result (self.new.me ≡ self.old.me) }
+        ensures phase { OnOk result (self.new.phase ≡ step.phase_in next self.old.me) }
+        ensures installed { OnOk result (self.new.installed ≡ self.old.installed ++ stamp next ∷ []) }
+        ensures decisions { OnOk result (self.new.decisions ≡ step.last_64 (self.old.decisions ++ (configuration_id before.now.config, cut) ∷ [])) }
+        ensures unchanged { OnErr result (self.new ≡ self.old) }
+    {
+        let id = before.configuration().id();
+        let decisions = self.decisions.with(self.alloc, id, cut)?;
+        let installed = with_stamp(self.alloc, self.installed.as_slice(), next.stamp())?;
+        let state = State::enter(self.alloc, before.rings(), &next, self.me)?;
+        self.state = state;
+        self.shown = Some(next);
+        self.installed = installed;
+        self.decisions = decisions;
+        Ok(())
+    }
+
+    /// Installs what a decided cut makes: the pending joiners are answered, and the next configuration is entered.
+    #[tactic(auto, unfolding(rapid_model::specs::NodeStep::install))]
+    fn install(
+        &mut self,
+        out: &mut Vec<Output>,
+        mut member: MemberState,
+        cut: Cut,
+    ) -> Result<(), AllocError>
+        requires { member.config.height < 2 ^ 64 - 1 }
+        ensures node { OnOk result (self.new ≡ (step.install self.old.me self.old.installed self.old.decisions member cut).node) }
+        ensures out { OnOk result (out.new.items ≡ out.old.items ++ model.outputs self.old.me (step.install self.old.me self.old.installed self.old.decisions member cut).effects) }
+        ensures unchanged { OnErr result (self.new ≡ self.old) }
+    {
+        let next = apply_cut(self.alloc, member.configuration(), &cut)?;
+        confirm_pending(self.alloc, out, self.me, &mut member, &next)?;
+        self.enter(&member, next, cut)
+    }
+
+    /// What the node is after its member's work: that member, or what the decided cut makes of it.
+    #[tactic(auto, unfolding(rapid_model::specs::NodeStep::settle))]
+    fn settle(
+        &mut self,
+        out: &mut Vec<Output>,
+        member: MemberState,
+        decided: Option<Cut>,
+    ) -> Result<(), NodeFault>
+        requires me { member.me ≡ self.old.me }
+        requires shown { self.old.phase ≡ model.Halted (Some member.config) }
+        ensures ok { OnOk result (Continues self.old.me (step.settle self.old.me self.old.installed self.old.decisions (record { state = member; effects = []; decided = decided })) self.new out.old.items out.new.items) }
+        ensures stop { IfErr result (Stops (step.settle self.old.me self.old.installed self.old.decisions (record { state = member; effects = []; decided = decided }))) }
+        ensures unchanged { OnErr result (self.new ≡ self.old) }
+    {
+        let Some(cut) = decided else {
+            self.be_member(member);
+            return Ok(());
+        };
+        if self.installed.as_slice().len() >= MOST_VIEWS
+            || member.configuration().height() == u64::MAX
+        {
+            return Err(NodeFault::HistoryFull);
+        }
+        self.install(out, member, cut)?;
+        Ok(())
+    }
+
+    /// A tick of a member.
+    #[tactic(auto, using(crate::proofs::Settling::settles, crate::proofs::Settling::settles_not))]
+    fn member_tick(
+        &mut self,
+        out: &mut Vec<Output>,
+        mut member: MemberState,
+    ) -> Result<(), NodeFault>
+        requires me { member.me ≡ self.old.me }
+        requires shown { self.old.phase ≡ model.Halted (Some member.config) }
+        ensures ok { OnOk result (Continues self.old.me (step.settle self.old.me self.old.installed self.old.decisions (on_tick member)) self.new out.old.items out.new.items) }
+        ensures stop { IfErr result (Stops (step.settle self.old.me self.old.installed self.old.decisions (on_tick member))) }
+        ensures unchanged { OnErr result (self.new ≡ self.old) }
+    {
+        let decided = member.on_tick(out)?;
+        self.settle(out, member, decided)
+    }
+
+    /// A message at a member.
+    #[tactic(auto, using(crate::proofs::Settling::settles, crate::proofs::Settling::settles_not))]
+    fn member_receive(
+        &mut self,
+        out: &mut Vec<Output>,
+        mut member: MemberState,
+        message: &Message,
+    ) -> Result<(), NodeFault>
+        requires me { member.me ≡ self.old.me }
+        requires shown { self.old.phase ≡ model.Halted (Some member.config) }
+        ensures ok { OnOk result (Continues self.old.me (step.settle self.old.me self.old.installed self.old.decisions (receive.receive_as_member self.old.decisions member message.now.sender message.now.body)) self.new out.old.items out.new.items) }
+        ensures stop { IfErr result (Stops (step.settle self.old.me self.old.installed self.old.decisions (receive.receive_as_member self.old.decisions member message.now.sender message.now.body))) }
+        ensures unchanged { OnErr result (self.new ≡ self.old) }
+    {
+        let from = message.sender();
+        let decided = member.receive(out, &self.decisions, &from, message.body())?;
+        self.settle(out, member, decided)
+    }
+
+    /// An edge of a member that went down.
+    #[tactic(auto, unfolding(rapid_model::specs::NodeStep::settle))]
+    fn member_edge_down(
+        &mut self,
+        mut member: MemberState,
+        config: ConfigId,
+        ring: u8,
+        subject: &Process,
+    ) -> Result<(), AllocError>
+        requires me { member.me ≡ self.old.me }
+        requires shown { self.old.phase ≡ model.Halted (Some member.config) }
+        ensures ok { OnOk result (Continues self.old.me (step.step_edge_down self.old (model.Member member) config ring subject.now) self.new [] []) }
+        ensures unchanged { OnErr result (self.new ≡ self.old) }
+    {
+        member.raise(Alert {
+            observer: self.me,
+            subject: *subject,
+            ring,
+            kind: Kind::Remove,
+            config,
+        })?;
+        self.be_member(member);
+        Ok(())
+    }
+
+    /// A tick while it joins.
+    #[tactic(auto, using(crate::proofs::Asking::asked))]
+    fn joiner_tick(&mut self, out: &mut Vec<Output>, mut joiner: Joiner) -> Result<(), AllocError>
+        requires me { joiner.process ≡ self.old.me }
+        requires shown { self.old.phase ≡ model.Halted None }
+        ensures ok { OnOk result (Continues self.old.me (step.step_tick self.old (model.Joining joiner.joiner)) self.new out.old.items out.new.items) }
+        ensures unchanged { OnErr result (self.new ≡ self.old) }
+    {
+        let question = joiner.on_tick();
+        send_joining(out, self.me, &question)?;
+        self.be_joining(joiner);
+        Ok(())
+    }
+
+    /// A reply while it joins.
+    #[tactic(auto, using(crate::proofs::Asking::replied))]
+    fn joiner_reply(
+        &mut self,
+        out: &mut Vec<Output>,
+        joiner: Joiner,
+        process: &Process,
+        reply: &Answer,
+    ) -> Result<(), AllocError>
+        requires me { joiner.process ≡ self.old.me }
+        requires shown { self.old.phase ≡ model.Halted None }
+        ensures ok { OnOk result (Continues self.old.me (Some (receive.joins_on self.old.me self.old.installed self.old.decisions joiner.joiner (receive.replied self.old.me joiner.joiner process.now (answer_of reply.now)))) self.new out.old.items out.new.items) }
+        ensures unchanged { OnErr result (self.new ≡ self.old) }
+    {
+        let answer = joiner.on_reply(self.alloc, process, reply)?;
+        send_joining(out, self.me, &answer)?;
+        self.be_joining(joiner);
+        Ok(())
+    }
+
+    /// A Confirm while it joins: one that contains it makes it a member.
+    #[tactic(auto, unfolding(rapid_model::specs::Receive::receive_as_joiner))]
+    fn joiner_confirm(
+        &mut self,
+        joiner: Joiner,
+        configuration: &Configuration,
+    ) -> Result<(), AllocError>
+        requires me { joiner.process ≡ self.old.me }
+        requires shown { self.old.phase ≡ model.Halted None }
+        ensures ok { OnOk result (Continues self.old.me (Some (receive.receive_as_joiner self.old.me self.old.installed self.old.decisions joiner.joiner (message.Confirm configuration.now))) self.new [] []) }
+        ensures unchanged { OnErr result (self.new ≡ self.old) }
+    {
+        if !configuration.is_member(&self.me) {
+            self.be_joining(joiner);
+            return Ok(());
+        }
+        let node = Node::seed(self.alloc, configuration, self.me)?;
+        *self = node;
+        Ok(())
+    }
+
+    /// A message while it joins.
+    #[tactic(auto, using(crate::proofs::Settling::said_nothing), unfolding(rapid_model::specs::Receive::receive_as_joiner))]
+    fn joiner_receive(
+        &mut self,
+        out: &mut Vec<Output>,
+        joiner: Joiner,
+        message: &Message,
+    ) -> Result<(), AllocError>
+        requires me { joiner.process ≡ self.old.me }
+        requires shown { self.old.phase ≡ model.Halted None }
+        ensures ok { OnOk result (Continues self.old.me (step.step_receive self.old (model.Joining joiner.joiner) message.now) self.new out.old.items out.new.items) }
+        ensures unchanged { OnErr result (self.new ≡ self.old) }
+    {
+        match message.body() {
+            Body::Reply(process, reply) => self.joiner_reply(out, joiner, process, reply),
+            Body::Confirm(configuration) => self.joiner_confirm(joiner, configuration),
+            Body::Batch(..)
+            | Body::FastVote(..)
+            | Body::Prepare(..)
+            | Body::Promise(..)
+            | Body::Accept(..)
+            | Body::Accepted(..)
+            | Body::Decision(..)
+            | Body::PreJoin
+            | Body::JoinRequest(..)
+            | Body::Probe(_)
+            | Body::ProbeAck(_) => {
+                self.be_joining(joiner);
+                Ok(())
+            }
+        }
+    }
+
+    /// Answers a message about a configuration that was left with the cut decided there.
+    fn catch_up(&self, out: &mut Vec<Output>, message: &Message) -> Result<(), AllocError>
+        ensures { OnOk result (out.new.items ≡ out.old.items ++ model.outputs self.now.me (receive.catch_up self.now.decisions message.now.sender (caught_up_by message.now.body))) }
+    {
+        match message.body().caught_up_by() {
+            Some(id) => {
+                let from = message.sender();
+                self.decisions.catch_up(self.alloc, out, self.me, &from, id)
+            }
+            None => Ok(()),
+        }
+    }
+
+    /// A message after its removal.
+    fn removed_receive(
+        &mut self,
+        out: &mut Vec<Output>,
+        configuration: Configuration,
+        message: &Message,
+    ) -> Result<(), AllocError>
+        requires shown { self.old.phase ≡ model.Halted (Some configuration) }
+        ensures ok { OnOk result (Continues self.old.me (Some (record { node = record self.old { phase = model.Removed configuration }; effects = receive.catch_up self.old.decisions message.now.sender (caught_up_by message.now.body) })) self.new out.old.items out.new.items) }
+        ensures unchanged { OnErr result (self.new ≡ self.old) }
+    {
+        self.catch_up(out, message)?;
+        self.be_removed(configuration);
+        Ok(())
+    }
+
+    /// One step, after which what goes out stands after what stood there before.
+    #[tactic(auto, using(crate::proofs::Settling::said_nothing, crate::proofs::Shown::shows), unfolding(rapid_model::specs::NodeStep::node_step))]
+    fn step_into(&mut self, out: &mut Vec<Output>, event: &Event) -> Result<(), NodeFault>
+        ensures step { OnOk result (Continues self.old.me (step.node_step self.old (event_of event.now)) self.new out.old.items out.new.items) }
+        ensures fault { IfErr result (IsFault self.old (event_of event.now) self.new) }
+        ensures running { OnOk result (model.is_halted self.old ≡ false) }
+    {
+        match mem::replace(&mut self.state, State::Halted) {
+            State::Halted => Err(NodeFault::Halted),
+            State::Joining(joiner) => match event {
+                Event::Tick => Ok(self.joiner_tick(out, joiner)?),
+                Event::Receive(message) => Ok(self.joiner_receive(out, joiner, message)?),
+                Event::EdgeDown(..) => {
+                    self.be_joining(joiner);
+                    Ok(())
+                }
+            },
+            State::Member(member) => match event {
+                Event::Tick => self.member_tick(out, member),
+                Event::Receive(message) => self.member_receive(out, member, message),
+                Event::EdgeDown(config, ring, subject) => {
+                    Ok(self.member_edge_down(member, *config, *ring, subject)?)
+                }
+            },
+            State::Removed(configuration) => match event {
+                Event::Receive(message) => Ok(self.removed_receive(out, configuration, message)?),
+                Event::Tick | Event::EdgeDown(..) => {
+                    self.be_removed(configuration);
+                    Ok(())
+                }
+            },
+        }
+    }
+
+    /// One step, and what is to be sent after it, in order.
+    ///
+    /// # Errors
+    ///
+    /// `Halted` exactly where the node had halted, which changes nothing. `OutOfMemory`, and `HistoryFull` where a
+    /// decided cut cannot be installed because 65,536 views are installed or the height is the last: the node halts, sends
+    /// nothing of this step and shows what it showed before.
+    pub fn step(&mut self, event: &Event) -> Result<Outputs, NodeFault>
+        ensures step { IfOk result (λ sent. HasOutcome self.old.me (step.node_step self.old (event_of event.now)) self.new sent.items) }
+        ensures fault { IfErr result (IsFault self.old (event_of event.now) self.new) }
+        ensures running { OnOk result (model.is_halted self.old ≡ false) }
+    {
+        let mut out = Vec::new(self.alloc);
+        self.step_into(&mut out, event)?;
+        Ok(out)
+    }
+}
+
+/// An equal configuration, if there is one.
+fn copy_shown(
+    alloc: Global,
+    shown: &Option<Configuration>,
+) -> Result<Option<Configuration>, AllocError>
+    ensures { IfOk result (λ copy. copy ≡ shown.now) }
+{
+    match shown {
+        Some(configuration) => Ok(Some(configuration.try_copy(alloc)?)),
+        None => Ok(None),
+    }
+}
