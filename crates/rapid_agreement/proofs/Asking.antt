@@ -1,23 +1,23 @@
 -- What a coordinator asks for may be asked for.
-use Rattle.std.proofs.Common.{◌≡◌, ◌≢◌, ℕ, zero, suc, ◌+◌, ◌-◌, ◌≤◌, ◌<◌, ◌↔◌, Bool, true, false, cond, not, ◌&&◌, ◌||◌, nat_le, T, List, [], ◌∷◌, ◌++◌, map, length, Contains, count_by, nat_eq, refl, sym, ap, subst, ◌∙◌, arith, Option, Some, None, unwrap_or, inl, inr, ◌⊎◌, eqb, eq-eqb, eqb-true, ne_eqb}
+use Rattle.std.proofs.Common.{◌≡◌, ◌≢◌, ℕ, zero, suc, ◌+◌, ◌≤◌, ◌<◌, ◌↔◌, Bool, true, false, cond, not, ◌&&◌, ◌||◌, T, List, [], ◌∷◌, ◌++◌, map, length, Contains, count_by, nat_eq, refl, sym, ap, subst, ◌∙◌, arith, Option, Some, None, unwrap_or, inl, inr, eq-eqb, eqb-true, ne_eqb}
 use Rattle.std.specs.declared.cmp.Ordering.{Ordering}
 use Rattle.std.specs.declared.cmp.Ordering.TheVariants.{Less, Equal, Greater}
 use Rattle.std.specs.List.{list_any, range_with_len, find}
 use Rattle.std.specs.Option.{option_map}
-use Rattle.std.specs.Ordering.{nat_cmp, eq_by_cmp, is_eq, is_lt, ordering_reverse}
+use Rattle.std.specs.Ordering.{eq_by_cmp, is_eq, is_lt, ordering_reverse}
 use Rattle.std.specs.Cmp.{tied_itself}
 use Rattle.std.specs.FinSet as set
 use Rattle.std.specs.FinMap as finmap
 use Rattle.std.specs.FinMap.Entries as entry
-use Rattle.std.proofs.lemmas.Bool.{and_from, and_parts, or_cases, or_parts, cases_Bool, cases_eq, leb-true, leb-false, true≢false}
-use Rattle.rapid_model.specs.Cut.{Cut, cut_cmp, same_cut}
+use Rattle.std.proofs.lemmas.Bool.{and_from, and_parts, or_cases, cases_Bool, cases_eq, leb-true, leb-false, true≢false}
+use Rattle.rapid_model.specs.Cut.{Cut, cut_cmp}
 use Rattle.rapid_model.specs.Quorum.{size, both, fast_size, classic_size, IsClassic}
-use Rattle.rapid_model.specs.Ballot.{Ballot, Vote, UpTo, fast_ballot, same_ballot}
+use Rattle.rapid_model.specs.Ballot.{Ballot, Vote, fast_ballot, same_ballot}
 use Rattle.rapid_model.specs.FastRound.{Counts, count_of}
 use Rattle.rapid_model.specs.Coordinator.{Coordinator, value_of, value_by, is_forced, accept_cut, after_report, begun, counts_promise, completes_promises, is_ballot}
 use Rattle.rapid_model.specs.FastPaxos.{Said, IsProposed, IsReported, IsTop, Several, IsForced, IsSafe, no_vote, one_value, forced, free, MayAccept}
-use Rattle.rapid_model.proofs.Orders.{cuts_total, cuts_exact, ballots_decided, same_cut_decides}
-use Rattle.rapid_model.proofs.Lists.{In, in_from, contains_from, in_left, in_right, in_split}
+use Rattle.rapid_model.proofs.Orders.{cuts_total, ballots_decided, same_cut_decides}
+use Rattle.rapid_model.proofs.Lists.{In, contains_from, in_left, in_right}
 use Rattle.rapid_agreement.specs.Positions.{positions, voters, VoteOnce}
 use Rattle.rapid_agreement.specs.Asking.{Report, after_promises, AreGiven}
 use Rattle.rapid_agreement.proofs.Sets.{size-cons}

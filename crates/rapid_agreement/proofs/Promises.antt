@@ -1,19 +1,18 @@
 -- What a coordinator keeps, in the words of the promises that counted.
-use Rattle.std.proofs.Common.{◌≡◌, ◌≢◌, ℕ, zero, suc, ◌+◌, ◌≤◌, ◌<◌, Bool, true, false, cond, not, ◌&&◌, ◌||◌, List, [], ◌∷◌, ◌++◌, length, Contains, count_by, nat_eq, refl, sym, ap, subst, ◌∙◌, arith, Option, Some, None, unwrap_or, inl, inr, ◌⊎◌, eq-eqb, eqb-true}
+use Rattle.std.proofs.Common.{◌≡◌, ℕ, ◌+◌, ◌≤◌, ◌<◌, Bool, true, false, cond, not, ◌&&◌, ◌||◌, List, [], ◌∷◌, length, count_by, nat_eq, refl, sym, ap, subst, ◌∙◌, arith, Option, Some, None, unwrap_or, inl, inr, ◌⊎◌}
 use Rattle.std.specs.List.{list_any}
-use Rattle.std.specs.Ordering.{nat_cmp, eq_by_cmp, is_eq}
-use Rattle.std.specs.Cmp.{nat_cmp_total, unsigned_tied, tied_itself}
+use Rattle.std.specs.Ordering.{nat_cmp, eq_by_cmp}
+use Rattle.std.specs.Cmp.{nat_cmp_total, unsigned_tied}
 use Rattle.std.specs.FinSet as set
 use Rattle.std.specs.FinMap as map
-use Rattle.std.proofs.lemmas.Bool.{and_from, and_parts}
 use Rattle.rapid_model.specs.Cut.{Cut, cut_cmp, same_cut}
 use Rattle.rapid_model.specs.Ballot.{Ballot, Vote, Before, UpTo, is_below, same_ballot}
 use Rattle.rapid_model.specs.FastRound.{Counts, count_of, one_more}
 use Rattle.rapid_model.specs.Coordinator.{Coordinator, counts_promise, with_report, after_report, begun, is_ballot, is_above}
 use Rattle.rapid_model.proofs.Orders.{cuts_total, ballots_decided}
-use Rattle.rapid_model.proofs.Ballots.{Before-irrefl, Before-from_UpTo, UpTo-from, UpTo-trans}
+use Rattle.rapid_model.proofs.Ballots.{Before-irrefl, Before-from_UpTo, UpTo-from}
 use Rattle.rapid_model.proofs.Rounds.{count_of-one_more}
-use Rattle.rapid_model.proofs.Lists.{In, in_from, contains_from}
+use Rattle.rapid_model.proofs.Lists.{In}
 use Rattle.rapid_agreement.specs.Positions.{VoteOnce}
 use Rattle.rapid_agreement.specs.Asking.{Report, after_promises}
 use Rattle.rapid_agreement.proofs.Sets.{size-cons}

@@ -13,6 +13,7 @@ use Rattle.rapid_model.specs.Cut.{Cut, cut_cmp, same_cut}
 use Rattle.rapid_model.specs.Ballot.{Ballot, ballot_cmp, same_ballot}
 use Rattle.rapid_model.specs.Learner.{Notice, notice_cmp, notice_count}
 use Rattle.rapid_model.proofs.Orders.{ballots_total, ballots_exact, cuts_total, cuts_exact, notices_total, first_equal, second_equal, tie_decides}
+use Rattle.rapid_agreement.proofs.SetLemmas.{insert_known, len-passed, len-failed}
 use Rattle.rapid_fast.proofs.Places.{searchable, put_found, find_found, put_missing, find_missing}
 use Rattle.rapid_paxos.specs.Notices.{Entries, key_cmp, all_notices, notices_of, positions_at, AreEntries}
 
@@ -122,51 +123,6 @@ positions_at-put es k q s = ap (λ o. unwrap_or o fin.empty) (find-put key_cmp k
     by true = refl
     by false = refl
 
--- ---- any set with one more element
-
-module _ {K : Type 0} {R : K → K → Ordering} (o : IsTotalOrder R) (exact : fin.IsAntisymmetric R) (s : fin.FinSet R) (k : K) where
-  pub insert_known : fin.contains s k ≡ true → s ≡ fin.insert s k
-  insert_known known = fin.same_set o exact _ _ (λ q. by q (eq_by_cmp R q k) refl ∙ sym (fin.contains-insert o s k q))
-    where
-      by : (q : K) (b : Bool) → eq_by_cmp R q k ≡ b → fin.contains s q ≡ (b || fin.contains s q)
-      by q true h = ap (fin.contains s) (exact q k (equal_of _ h)) ∙ known
-      by q false h = refl
-
-  module _ (t : K → Bool) where
-    alike : (q x : K) → R q x ≡ Equal → t x ≡ t q
-    alike q x e = ap t (sym (exact q x e))
-
-    kept_in : (q : K) → fin.contains (fin.retain (fin.insert s k) t) q ≡ ((eq_by_cmp R q k || fin.contains s q) && t q)
-    kept_in q = fin.contains-retain (fin.insert s k) t q (alike q) ∙ ap (λ b. b && t q) (fin.contains-insert o s k q)
-
-    retain-passed : t k ≡ true → fin.retain (fin.insert s k) t ≡ fin.insert (fin.retain s t) k
-    retain-passed pass = fin.same_set o exact _ _ (λ q. kept_in q ∙ by q (eq_by_cmp R q k) refl ∙ sym (fin.contains-insert o (fin.retain s t) k q ∙ ap (λ b. eq_by_cmp R q k || b) (fin.contains-retain s t q (alike q))))
-      where
-        by : (q : K) (b : Bool) → eq_by_cmp R q k ≡ b → ((b || fin.contains s q) && t q) ≡ (b || (fin.contains s q && t q))
-        by q true h = ap t (exact q k (equal_of _ h)) ∙ pass
-        by q false h = refl
-
-    retain-failed : t k ≡ false → fin.retain (fin.insert s k) t ≡ fin.retain s t
-    retain-failed fails = fin.same_set o exact _ _ (λ q. kept_in q ∙ by q (eq_by_cmp R q k) refl ∙ sym (fin.contains-retain s t q (alike q)))
-      where
-        and-false : (b : Bool) → (b && false) ≡ false
-        and-false true = refl
-        and-false false = refl
-
-        by : (q : K) (b : Bool) → eq_by_cmp R q k ≡ b → ((b || fin.contains s q) && t q) ≡ (fin.contains s q && t q)
-        by q true h =
-            let no : t q ≡ false = ap t (exact q k (equal_of _ h)) ∙ fails in
-            no ∙ sym (ap (λ b. fin.contains s q && b) no ∙ and-false (fin.contains s q))
-        by q false h = refl
-
-    pub len-passed : t k ≡ true → fin.contains s k ≡ false → fin.len (fin.retain (fin.insert s k) t) ≡ fin.len (fin.retain s t) + 1
-    len-passed pass new =
-        ap fin.len (retain-passed pass) ∙ fin.len-insert o (fin.retain s t) k
-        ∙ ap (λ b. cond b (fin.len (fin.retain s t)) (fin.len (fin.retain s t) + 1)) (fin.contains-retain s t k (alike k) ∙ ap (λ b. b && t k) new)
-
-    pub len-failed : t k ≡ false → fin.len (fin.retain (fin.insert s k) t) ≡ fin.len (fin.retain s t)
-    len-failed fails = ap fin.len (retain-failed fails)
-
 -- ---- a notice of a cut at a ballot
 
 same_itself : (k : Key) → (same_ballot k.0 k.0 && same_cut k.1 k.1) ≡ true
@@ -189,7 +145,7 @@ module _ (es : Entries) (is : AreEntries es) (k : Key) (p : ℕ) where
 
   -- how many there are with the notice
   count_known : fin.contains (positions_at es k) p ≡ true → notice_count (fin.insert (notices_of es) (k, p)) k.0 k.1 ≡ fin.len (positions_at es k)
-  count_known known = ap (λ n. notice_count n k.0 k.1) (sym (insert_known notices_total notices_exact (notices_of es) (k, p) (known_in ∙ known))) ∙ is.counted k.0 k.1
+  count_known known = ap (λ n. notice_count n k.0 k.1) (insert_known notices_total notices_exact (notices_of es) (k, p) (known_in ∙ known)) ∙ is.counted k.0 k.1
 
   count_new : fin.contains (positions_at es k) p ≡ false → notice_count (fin.insert (notices_of es) (k, p)) k.0 k.1 ≡ fin.len (positions_at es k) + 1
   count_new new =

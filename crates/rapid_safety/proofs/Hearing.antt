@@ -21,7 +21,7 @@ use Rattle.rapid_safety.proofs.Kept.{atom_config, atom_me, lives_placed}
 use Rattle.rapid_safety.proofs.TickWorks.{filter_map-append}
 use Rattle.rapid_safety.proofs.Words.{in_push}
 use Rattle.rapid_safety.proofs.Polls.{count_cons, counted_exists}
-use Rattle.rapid_safety.proofs.SetLemmas.{new_in, old_in}
+use Rattle.rapid_agreement.proofs.SetLemmas.{new_in, old_in}
 use Rattle.rapid_safety.proofs.Notices.{notices_exact}
 
 some_place : {m n : ℕ} → Some m ≡ Some n → m ≡ n

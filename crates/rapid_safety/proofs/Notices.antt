@@ -17,7 +17,7 @@ use Rattle.rapid_safety.proofs.Atoms.{push, Known, Atom, marks, hears_notice, Li
 use Rattle.rapid_safety.proofs.Kept.{atom_config, atom_me}
 use Rattle.rapid_safety.proofs.Polls.{count_cons}
 use Rattle.rapid_safety.proofs.Backers.{says_it, Once, said_it}
-use Rattle.rapid_safety.proofs.SetLemmas.{of_insert, new_in, old_in, insert_known, len_new_kept}
+use Rattle.rapid_agreement.proofs.SetLemmas.{of_insert, new_in, old_in, insert_known, len_new_kept}
 use Rattle.rapid_safety.proofs.Votes.{known_more}
 
 pub notices_exact : set.IsAntisymmetric notice_cmp

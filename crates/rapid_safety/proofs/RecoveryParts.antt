@@ -15,7 +15,7 @@ use Rattle.rapid_model.proofs.Orders.{cuts_total, same_cut_decides, notices_tota
 use Rattle.rapid_safety.specs.Examples.{second_ballot}
 use Rattle.rapid_safety.proofs.GuestNodes.{v}
 use Rattle.rapid_safety.proofs.Notices.{notices_exact}
-use Rattle.rapid_safety.proofs.SetLemmas.{len_new_kept}
+use Rattle.rapid_agreement.proofs.SetLemmas.{len_new_kept}
 
 -- ---- the promises
 

@@ -16,7 +16,7 @@ use Rattle.rapid_model.specs.World.{Act}
 use Rattle.rapid_model.proofs.Orders.{same_cut_decides, notices_total}
 use Rattle.rapid_model.proofs.Rounds.{hear_vote-heard, hear_vote-new, count_of-one_more}
 use Rattle.rapid_safety.proofs.Atoms.{Atom, marks, hears_vote, hears_notice, Lives, enters, does, leaves}
-use Rattle.rapid_safety.proofs.SetLemmas.{insert_known, len_new_kept}
+use Rattle.rapid_agreement.proofs.SetLemmas.{insert_known, len_new_kept}
 use Rattle.rapid_safety.proofs.Notices.{notices_exact, is_of, of_is, no_notices}
 
 -- neither counter is complete

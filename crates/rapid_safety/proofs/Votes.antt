@@ -19,7 +19,7 @@ use Rattle.rapid_safety.proofs.Kept.{atom_config, atom_me}
 use Rattle.rapid_safety.proofs.Polls.{count_cons}
 use Rattle.rapid_safety.proofs.Lawful.{taken_more}
 use Rattle.rapid_safety.proofs.Backers.{says_it, Once, said_it}
-use Rattle.rapid_safety.proofs.SetLemmas.{of_insert, new_in, old_in}
+use Rattle.rapid_agreement.proofs.SetLemmas.{of_insert, new_in, old_in}
 
 -- what is known stays known
 pub known_more : (acts : List Act) (o : Option Act) (s t : MemberState) (p : Process) (B : List ℕ → Body) → t.config ≡ s.config → t.me ≡ s.me → Known acts s p (B (current_id s)) → Known (push acts o) t p (B (current_id t))

@@ -1,7 +1,7 @@
-use Rattle.std.proofs.Common.{◌≡◌, ℕ, ◌++◌, ◌∷◌, [], List, inl, inr, refl, sym, ap, ◌∙◌, None}
+use Rattle.std.proofs.Common.{◌≡◌, ◌++◌, ◌∷◌, [], List, inl, inr, refl, ap, ◌∙◌}
 use Rattle.rapid_model.specs.Ballot.{Ballot}
 use Rattle.rapid_model.specs.Coordinator.{Coordinator, after_report, accept_cut, begun}
-use Rattle.rapid_model.proofs.Lists.{in_left, in_right, in_split, contains_from, In}
+use Rattle.rapid_model.proofs.Lists.{in_right, contains_from, In}
 use Rattle.rapid_agreement.specs.Runs.{said_in}
 use Rattle.rapid_agreement.specs.Asking.{Report, after_promises}
 use Rattle.rapid_agreement.proofs.Asking.{asks_lawfully, asks_once}

@@ -1,5 +1,5 @@
 -- Any set with one more element.
-use Rattle.std.proofs.Common.{◌≡◌, ◌+◌, ◌⊎◌, inl, inr, ℕ, Bool, true, false, cond, ◌&&◌, ◌||◌, refl, sym, ap, ◌∙◌}
+use Rattle.std.proofs.Common.{◌≡◌, ◌+◌, ◌⊎◌, inl, inr, Bool, true, false, cond, ◌&&◌, ◌||◌, refl, sym, ap, ◌∙◌, arith}
 use Rattle.std.specs.declared.cmp.Ordering.{Ordering}
 use Rattle.std.specs.declared.cmp.Ordering.TheVariants.{Equal}
 use Rattle.std.specs.Ordering.{eq_by_cmp}
@@ -61,18 +61,17 @@ module _ {K : Type 0} {R : K → K → Ordering} (o : IsTotalOrder R) (exact : s
         by q false h = refl
 
     -- how many pass
+    pub len-passed : t k ≡ true → set.contains s k ≡ false → set.len (set.retain (set.insert s k) t) ≡ set.len (set.retain s t) + 1
+    len-passed pass new =
+        ap set.len (retain-passed pass) ∙ set.len-insert o (set.retain s t) k
+        ∙ ap (λ b. cond b (set.len (set.retain s t)) (set.len (set.retain s t) + 1)) (set.contains-retain s t k (alike k) ∙ ap (λ b. b && t k) new)
+
+    pub len-failed : t k ≡ false → set.len (set.retain (set.insert s k) t) ≡ set.len (set.retain s t)
+    len-failed fails = ap set.len (retain-failed fails)
+
     pub len_new_kept : set.contains s k ≡ false → set.len (set.retain (set.insert s k) t) ≡ cond (t k) 1 0 + set.len (set.retain s t)
     len_new_kept new = by (t k) refl
       where
-        turn : (n : ℕ) → n + 1 ≡ 1 + n
-        turn n = omega Rattle.std.proofs.Common.arith
-
-        zero_more : (n : ℕ) → n ≡ 0 + n
-        zero_more n = omega Rattle.std.proofs.Common.arith
-
         by : (b : Bool) → t k ≡ b → set.len (set.retain (set.insert s k) t) ≡ cond b 1 0 + set.len (set.retain s t)
-        by true pass =
-            ap set.len (retain-passed pass) ∙ set.len-insert o (set.retain s t) k
-            ∙ ap (λ b. cond b (set.len (set.retain s t)) (set.len (set.retain s t) + 1)) (set.contains-retain s t k (alike k) ∙ ap (λ b. b && t k) new)
-            ∙ turn (set.len (set.retain s t))
-        by false fails = ap set.len (retain-failed fails) ∙ zero_more (set.len (set.retain s t))
+        by true pass = let more = len-passed pass new in omega (arith, more)
+        by false fails = let same = len-failed fails in omega (arith, same)
