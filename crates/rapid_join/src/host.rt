@@ -1,15 +1,18 @@
 // The side of a member in a join.
 
-ghost use Rattle.std.specs.Prelude.{◌≡◌, ◌≤◌, true, false, map, IfOk, OnOk, OnErr};
+ghost use Rattle.std.specs.Prelude.{◌≡◌, ◌≤◌, true, false, map, IsTrue, IfOk, OnOk, OnErr};
 ghost use Rattle.std.specs.Arc.{arc_value};
+ghost use Rattle.std.specs.List.{list_any};
 ghost use Rattle.std.specs.FinSet as set;
 ghost use Rattle.rapid_model.specs.Apply as apply;
 ghost use Rattle.rapid_model.specs.Host as model;
-ghost use Rattle.rapid_model.specs.Configuration.{is_member};
+ghost use Rattle.rapid_model.specs.Configuration.{identifiers_ascend, is_member};
+ghost use Rattle.rapid_model.specs.Process.{same_identifier};
 ghost use Rattle.rapid_model.specs.Ring.{observers_of, observes};
 ghost use Rattle.rapid_join.specs.Answers.{host_answer_of, answered_of, safe_for, AnswersObservers};
 ghost use Rattle.rapid_join.specs.Hosts.{fresh_host};
 
+use crate::endpoints::MemberEndpoints;
 use crate::pending::PendingSet;
 use crate::{HostAnswer, Reply, RingObservers};
 use rapid_config::{ConfigId, Configuration};
@@ -25,6 +28,7 @@ use std::sync::Arc;
 pub struct Host {
     configuration: Configuration,
     rings: Arc<Rings, Global>,
+    endpoints: MemberEndpoints,
     me: Process,
     pending: PendingSet,
     alloc: Global,
@@ -35,6 +39,7 @@ impl Model for Host {
     ghost use Rattle.std.specs.Arc.{arc_value};
     ghost use Rattle.std.specs.FinSet as set;
     ghost use Rattle.rapid_model.specs.JoinSides.{HostSide};
+    ghost use Rattle.rapid_join.specs.Endpoints.{endpoints_of};
     ghost use Rattle.rapid_join.specs.Hosts.{host_code};
 
     ghost Value = { HostSide };
@@ -43,7 +48,7 @@ impl Model for Host {
 
     ghost view = { λ h. record { config = h.configuration; me = h.me; pending = h.pending } };
 
-    ghost invariant = { λ h. (arc_value h.rings ≡ h.configuration) × (set.len h.pending ≤ 512) };
+    ghost invariant = { λ h. (arc_value h.rings ≡ h.configuration) × (set.len h.pending ≤ 512) × (h.endpoints ≡ endpoints_of h.configuration.members) };
 }
 
 impl Host {
@@ -72,9 +77,11 @@ impl Host {
         requires { arc_value rings.now ≡ configuration.now }
         ensures { IfOk result (λ host. host ≡ fresh_host configuration.now process.now) }
     {
+        let endpoints = MemberEndpoints::of(alloc, configuration.members())?;
         Ok(Host {
             configuration: configuration.try_copy(alloc)?,
             rings: Arc::try_clone(rings)?,
+            endpoints,
             me: *process,
             pending: PendingSet::new(alloc),
             alloc,
@@ -160,6 +167,7 @@ impl Host {
         Ok(Host {
             configuration: self.configuration.try_copy(self.alloc)?,
             rings: Arc::try_clone(&self.rings)?,
+            endpoints: self.endpoints.try_copy()?,
             me: self.me,
             pending: self.pending.try_copy()?,
             alloc: self.alloc,
@@ -184,13 +192,12 @@ impl Host {
         Ok(HostAnswer::Reply(Reply::Safe(self.configuration.id(), observers)))
     }
 
-    /// Whether a member has the joiner's identifier or its endpoint.
+    /// Whether a member has the joiner's identifier or its endpoint. It costs two binary searches.
     fn collides(&self, joiner: &Process) -> bool
         ensures { result ≡ apply.collides self.now.config.members joiner.now }
     {
-        self.configuration.members().iter().any(|member| {
-            joiner.has_same_identifier(member) || joiner.has_same_endpoint(member)
-        })
+        has_identifier(self.configuration.members(), joiner)
+            || self.endpoints.has(&joiner.endpoint())
     }
 
     /// Whether this member observes the joiner on a ring.
@@ -205,5 +212,16 @@ impl Host {
         ensures { result ≡ model.is_full_for self.now.pending joiner.now }
     {
         !self.pending.contains(joiner) && self.pending.len() >= Host::MOST
+    }
+}
+
+/// Whether a member has the joiner's identifier.
+fn has_identifier(members: &[Process], joiner: &Process) -> bool
+    requires { IsTrue (identifiers_ascend members.now) }
+    ensures { result ≡ list_any (same_identifier joiner.now) members.now }
+{
+    match members.binary_search_by_key(&joiner.id(), |member| member.id()) {
+        Ok(_place) => true,
+        Err(_next) => false,
     }
 }

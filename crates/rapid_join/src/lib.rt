@@ -6,6 +6,7 @@
 #![tactic(auto)]
 
 mod answers;
+mod endpoints;
 mod host;
 mod joiner;
 mod observers;

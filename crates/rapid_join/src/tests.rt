@@ -83,6 +83,33 @@ fn first_questions_at_a_full_host(rt: HostRuntime) -> Result<(), Fail> {
     assert_first_answers(&rt, &host, &cases)
 }
 
+/// Members whose endpoints do not ascend: each identifier and each endpoint of one of them is held, and no other.
+#[test]
+fn first_questions_of_what_members_hold(rt: HostRuntime) -> Result<(), Fail> {
+    let members = [at(10, 40), at(20, 10), at(30, 50), at(40, 20), at(50, 30)];
+    let configuration = founded(rt.alloc(), &members)?;
+    let host = Host::new(rt.alloc(), &configuration, &at(30, 50))?;
+    let cases = [
+        (10, 40, 5),
+        (50, 30, 5),
+        (10, 50, 2),
+        (9, 10, 2),
+        (9, 20, 2),
+        (9, 30, 2),
+        (60, 40, 2),
+        (60, 50, 2),
+        (10, 9, 2),
+        (20, 9, 2),
+        (30, 60, 2),
+        (40, 60, 2),
+        (50, 45, 2),
+        (9, 9, 1),
+        (25, 25, 1),
+        (60, 60, 1),
+    ];
+    assert_first_answers(&rt, &host, &cases)
+}
+
 /// Checks the answers to requests, each of an identifier and a port, with the host's identifier or another, for a ring.
 fn assert_answers(
     rt: &impl Abort,
