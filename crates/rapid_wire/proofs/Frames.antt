@@ -108,7 +108,7 @@ message_fits m h =
     let parts = length-append (opening m) (body_bytes m.body) in
     omega (arith, first, body, parts)
 
-same_payload : (m n : Message) → IsMessage m → IsMessage n → payload m ≡ payload n → m ≡ n
+pub same_payload : (m n : Message) → IsMessage m → IsMessage n → payload m ≡ payload n → m ≡ n
 same_payload m n h k e =
     let parts = split (opening m) (opening n) (body_bytes m.body) (body_bytes n.body) (opening_size m h ∙ sym (opening_size n k)) e in
     let rest = tail_same version version (kind_number m.body ∷ m.sender) (kind_number n.body ∷ n.sender) parts.0 in

@@ -54,7 +54,7 @@ begins bytes b h few long =
     }
 
 -- a frame that begins has its length in front, and is there
-begins_long : (bytes whole rest : List ℕ) → BeginsWith bytes whole rest → (announced bytes ≡ length whole) × (4 + length whole ≤ length bytes)
+pub begins_long : (bytes whole rest : List ℕ) → BeginsWith bytes whole rest → (announced bytes ≡ length whole) × (4 + length whole ≤ length bytes)
 begins_long bytes whole rest h =
     let fits = h.fits in
     let regrouped : bytes ≡ to_be_bytes w32 (length whole) ++ (whole ++ rest) = h.is ∙ append_assoc (to_be_bytes w32 (length whole)) whole rest in
@@ -71,7 +71,7 @@ long_four bytes h =
     let four : length (to_be_bytes w32 h.length) ≡ 4 = refl in
     omega (arith, size, one, four)
 
-long_is : (bytes : List ℕ) → IsTooLong bytes → 65536 < announced bytes
+pub long_is : (bytes : List ℕ) → IsTooLong bytes → 65536 < announced bytes
 long_is bytes h = let above = h.above in let same = announced_is bytes h.rest h.length h.below h.is in omega (arith, above, same)
 
 -- too few bytes for a length

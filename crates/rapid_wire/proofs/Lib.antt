@@ -9,3 +9,5 @@ pub mod Spelt
 pub mod Fronts
 pub mod Feeds
 pub mod Streams
+pub mod Unique
+pub mod Lives

@@ -8,7 +8,7 @@ use Rattle.rapid_model.specs.Feed.{WireFault, TooLong, BadVersion, BadKind, BadB
 begun : (bytes more whole rest : List ℕ) → BeginsWith bytes whole rest → BeginsWith (bytes ++ more) whole (rest ++ more)
 begun bytes more whole rest h = record { fits = h.fits; is = ap (λ l. l ++ more) h.is ∙ append_assoc (framed whole) rest more }
 
-stays_whole : (bytes more : List ℕ) (m : Message) (rest : List ℕ) → IsFront bytes (Whole m rest) → IsFront (bytes ++ more) (Whole m (rest ++ more))
+pub stays_whole : (bytes more : List ℕ) (m : Message) (rest : List ℕ) → IsFront bytes (Whole m rest) → IsFront (bytes ++ more) (Whole m (rest ++ more))
 stays_whole bytes more m rest h = (h.0, begun bytes more _ rest h.1)
 
 stays_faulty : (bytes more : List ℕ) (f : WireFault) → IsFront bytes (Faulty f) → IsFront (bytes ++ more) (Faulty f)

@@ -23,8 +23,10 @@ const MOST_BYTES: usize = 65_536;
 /// yet answered as messages; whoever asks for messages until there is none before the next piece comes
 /// has it hold no more than one frame and that piece. A fault is for good.
 ///
-/// A byte is copied once as it is fed. Bytes that are held move to the front of the buffer only where at
-/// least as many were answered, so feeding a stream byte by byte takes linear time.
+/// A byte is copied as it is fed, and again at most where the bytes that are held move to the front of the
+/// buffer, which they do only where at least as many were answered, or where the buffer grows, which at least
+/// doubles it. So feeding a stream byte by byte takes linear time, and once the buffer has its size each byte
+/// is copied at most twice.
 #[derive(Debug, Drop)]
 pub struct Feed {
     held: BytesMut,

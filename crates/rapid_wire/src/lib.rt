@@ -1,7 +1,7 @@
 //! Frames: one spelling a message.
 #![tactic(auto)]
 
-ghost use Rattle.rapid_wire.specs.Laws.{NoFrameBeginsAnother, EveryMessageFits, CuttingChangesNothing};
+ghost use Rattle.rapid_wire.specs.Laws.{NoFrameBeginsAnother, EveryMessageFits, CuttingChangesNothing, StreamsHaveOneAnswer, FramesAreReadAgain, FeedsAnswerTheirStream};
 
 mod decoding;
 mod encoding;
@@ -33,4 +33,20 @@ pub fn every_message_fits()
 /// and then of what it held with the bytes that follow, is what the whole stream says.
 pub fn cutting_changes_nothing()
     ensures { CuttingChangesNothing }
+{}
+
+/// A stream has only one list of messages, and only one end.
+pub fn streams_have_one_answer()
+    ensures { StreamsHaveOneAnswer }
+{}
+
+/// The frames of messages, one after another, are a stream of these messages, of which nothing is left.
+pub fn frames_are_read_again()
+    ensures { FramesAreReadAgain }
+{}
+
+/// Whatever pieces a feed was given, and whenever it was asked: what it answered, and then what the bytes
+/// that it holds say, is what all its pieces say as one stream; a fault that it answers is that stream's.
+pub fn feeds_answer_their_stream()
+    ensures { FeedsAnswerTheirStream }
 {}
