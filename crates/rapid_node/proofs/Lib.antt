@@ -1,9 +1,3 @@
 pub mod Asking
-pub mod Ballots
-pub mod Batches
-pub mod Echoing
-pub mod Flushing
-pub mod Hosts
-pub mod Places
 pub mod Settling
 pub mod Shown

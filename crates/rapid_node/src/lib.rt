@@ -1,25 +1,17 @@
-//! One node of the membership service (Rapid, USENIX ATC 2018), without input and output: the messages that nodes send each
-//! other, and what a node does with them.
+//! One node of the membership service (Rapid, USENIX ATC 2018), without input and output: how it joins, what it does as a
+//! member with each event, and what it installs.
 #![tactic(auto)]
 
-mod ages;
-mod batch;
-mod decisions;
 mod event;
 mod fault;
-mod joining;
-mod member;
-mod message;
+mod installed;
 mod node;
-mod output;
 mod phase;
-mod shared_rings;
 
-pub use batch::Batch;
 pub use event::Event;
 pub use fault::NodeFault;
-pub use message::{Body, Message};
 pub use node::Node;
-pub use output::{Destination, Output, Outputs};
 pub use phase::Phase;
-pub use rapid_join::{Reply as Answer, RingObservers};
+pub use rapid_alerts::Batch;
+pub use rapid_join::{Reply, RingObservers};
+pub use rapid_member::{Body, Destination, Message, Output, Outputs};

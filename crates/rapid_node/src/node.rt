@@ -3,7 +3,6 @@
 ghost use Rattle.std.specs.Prelude.{◌≡◌, ◌<◌, ◌-◌, ◌^◌, ◌++◌, ◌∷◌, [], false, true, length, map, flat_map, IfOk, OnOk, IfErr, OnErr, IfSome, IsTrue, Some, None, Err};
 ghost use Rattle.std.specs.Option.{option_map};
 ghost use Rattle.rapid_model.specs.Apply.{apply};
-ghost use Rattle.std.specs.Arc.{arc_slice_items};
 ghost use Rattle.rapid_model.specs.Configuration.{configuration_id, is_member, stamp};
 ghost use Rattle.rapid_model.specs.Host.{confirms};
 ghost use Rattle.rapid_model.specs.Joiner.{after_tick, asks_at_tick};
@@ -14,26 +13,25 @@ ghost use Rattle.rapid_model.specs.NodeStep as step;
 ghost use Rattle.rapid_model.specs.Tick.{on_tick};
 ghost use Rattle.rapid_model.specs.Receive as receive;
 ghost use Rattle.rapid_join.specs.Answers.{answer_of};
-ghost use Rattle.rapid_node.specs.Bodies.{CanSay, body_of};
-ghost use Rattle.rapid_node.specs.Members.{IsSameMember};
+ghost use Rattle.rapid_member.specs.Bodies.{CanSay, body_of};
+ghost use Rattle.rapid_member.specs.Members.{IsSameMember};
 ghost use Rattle.rapid_node.specs.Phases.{phase_of, name_of, IsState};
 ghost use Rattle.rapid_node.specs.Steps.{event_of, Continues, HasOutcome, Stops, IsFault};
 ghost use Rattle.rapid_node.specs.declared.fault.NodeFault.TheVariants as fault;
 
-use crate::decisions::Decisions;
-use crate::joining::{say_all, send_joining};
-use crate::member::MemberState;
-use crate::output::Output;
+use crate::installed::Installed;
 use crate::phase::State;
-use crate::{Answer, Body, Event, Message, NodeFault, Outputs, Phase};
+use crate::{Event, NodeFault, Phase};
 use rapid_alerts::{Alert, Kind};
 use rapid_config::{ConfigError, ConfigId, Configuration, Cut, Stamp};
 use rapid_endpoint::{Endpoint, Process};
-use rapid_join::Joiner;
+use rapid_join::{Joiner, Reply};
+use rapid_member::{
+    Body, Decisions, MemberState, Message, Output, Outputs, confirm_pending, send_joining,
+};
 use std::alloc::{AllocError, Global};
 use std::marker::Model;
 use std::mem;
-use std::sync::ArcSlice;
 
 /// How many views a node installs at most.
 const MOST_VIEWS: usize = 65536;
@@ -46,13 +44,12 @@ pub struct Node {
     state: State,
     // the configuration that the node shows
     shown: Option<Configuration>,
-    installed: ArcSlice<Stamp>,
+    installed: Installed,
     decisions: Decisions,
     alloc: Global,
 }
 
 impl Model for Node {
-    ghost use Rattle.std.specs.Arc.{arc_slice_items};
     ghost use Rattle.rapid_model.specs.Node.{Node as ModelNode};
     ghost use Rattle.rapid_node.specs.Codes.{node_code};
 
@@ -62,7 +59,7 @@ impl Model for Node {
 
     ghost use Rattle.rapid_node.specs.Phases.{phase_of, IsState};
 
-    ghost view = { λ n. record { me = n.me; phase = phase_of n.shown n.state; installed = arc_slice_items n.installed; decisions = n.decisions } };
+    ghost view = { λ n. record { me = n.me; phase = phase_of n.shown n.state; installed = n.installed; decisions = n.decisions } };
 
     ghost invariant = { λ n. IsState n.me n.shown n.state };
 }
@@ -83,31 +80,6 @@ fn apply_cut(
     }
 }
 
-/// Says to the joiners that wait at a member what they get after a change.
-fn confirm_pending(
-    alloc: Global,
-    out: &mut Vec<Output>,
-    me: Process,
-    member: &mut MemberState,
-    next: &Configuration,
-) -> Result<(), AllocError>
-    ensures out { OnOk result (out.new.items ≡ out.old.items ++ model.outputs me (flat_map (λ x. receive.answer_to x.0 x.1) (confirms next.now member.old.pending))) }
-    ensures same { OnOk result (IsSameMember member.old member.new) }
-{
-    let answers = member.confirms(next)?;
-    say_all(alloc, out, me, answers.as_slice())
-}
-
-/// These stamps and one more.
-fn with_stamp(alloc: Global, stamps: &[Stamp], stamp: Stamp) -> Result<ArcSlice<Stamp>, AllocError>
-    ensures { IfOk result (λ all. arc_slice_items all ≡ stamps.now ++ stamp ∷ []) }
-{
-    let mut all = Vec::with_capacity(alloc, stamps.len().saturating_add(1))?;
-    all.extend_from_slice(stamps)?;
-    all.push(stamp)?;
-    ArcSlice::from_vec(all)
-}
-
 impl Node {
     /// The node of these parts.
     fn of(
@@ -115,11 +87,11 @@ impl Node {
         me: Process,
         state: State,
         shown: Option<Configuration>,
-        installed: ArcSlice<Stamp>,
+        installed: Installed,
         decisions: Decisions,
     ) -> Node
         requires { IsState me shown state }
-        ensures { result ≡ record { me = me; phase = phase_of shown state; installed = arc_slice_items installed; decisions = decisions } }
+        ensures { result ≡ record { me = me; phase = phase_of shown state; installed = installed; decisions = decisions } }
     {
         Node {
             me,
@@ -142,7 +114,8 @@ impl Node {
         ensures { IfOk result (λ node. node ≡ model.seed_node configuration.now process) }
     {
         let shown = Some(configuration.try_copy(alloc)?);
-        let installed = with_stamp(alloc, &[], configuration.stamp())?;
+        let mut installed = Installed::new(alloc)?;
+        installed.push(configuration.stamp())?;
         let decisions = Decisions::new(alloc)?;
         let state = State::found(alloc, configuration, process)?;
         Ok(Node::of(alloc, process, state, shown, installed, decisions))
@@ -152,7 +125,7 @@ impl Node {
     pub fn joiner(alloc: Global, process: Process, seed: Endpoint) -> Result<Node, AllocError>
         ensures { IfOk result (λ node. node ≡ model.joiner_node process seed) }
     {
-        let installed = ArcSlice::from_vec(Vec::new(alloc))?;
+        let installed = Installed::new(alloc)?;
         let decisions = Decisions::new(alloc)?;
         let state = State::Joining(Joiner::new(process, seed));
         Ok(Node::of(alloc, process, state, None, installed, decisions))
@@ -206,7 +179,7 @@ impl Node {
         ensures { IfOk result (λ node. node ≡ self.now) }
     {
         let shown = copy_shown(self.alloc, &self.shown)?;
-        let installed = self.installed.clone()?;
+        let installed = self.installed.try_copy()?;
         let decisions = self.decisions.try_copy()?;
         let state = self.state.try_copy(self.alloc)?;
         Ok(Node::of(self.alloc, self.me, state, shown, installed, decisions))
@@ -256,11 +229,10 @@ impl Node {
     {
         let id = before.configuration().id();
         let decisions = self.decisions.with(self.alloc, id, cut)?;
-        let installed = with_stamp(self.alloc, self.installed.as_slice(), next.stamp())?;
         let state = State::enter(self.alloc, before.rings(), &next, self.me)?;
+        self.installed.push(next.stamp())?;
         self.state = state;
         self.shown = Some(next);
-        self.installed = installed;
         self.decisions = decisions;
         Ok(())
     }
@@ -392,7 +364,7 @@ impl Node {
         out: &mut Vec<Output>,
         joiner: Joiner,
         process: &Process,
-        reply: &Answer,
+        reply: &Reply,
     ) -> Result<(), AllocError>
         requires me { joiner.process ≡ self.old.me }
         requires shown { self.old.phase ≡ model.Halted None }

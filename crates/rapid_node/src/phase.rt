@@ -6,11 +6,10 @@ ghost use Rattle.rapid_model.specs.Node.{Member, fresh_member};
 ghost use Rattle.rapid_model.specs.NodeStep.{phase_in};
 ghost use Rattle.rapid_node.specs.Phases.{phase_of, IsState};
 
-use crate::member::MemberState;
-use crate::shared_rings::SharedRings;
 use rapid_config::Configuration;
 use rapid_endpoint::Process;
 use rapid_join::Joiner;
+use rapid_member::MemberState;
 use rapid_rings::Rings;
 use std::alloc::{AllocError, Global};
 use std::sync::Arc;
@@ -53,7 +52,7 @@ impl State {
         ensures phase { IfOk result (λ s. phase_of (Some configuration.now) s ≡ Member (fresh_member configuration.now me)) }
         ensures state { IfOk result (IsState me (Some configuration.now)) }
     {
-        let rings = SharedRings::new(Arc::new(alloc, Rings::new(alloc, configuration)?)?);
+        let rings = Arc::new(alloc, Rings::new(alloc, configuration)?)?;
         let member = MemberState::new(alloc, configuration, rings, me)?;
         Ok(State::Member(member))
     }
@@ -73,7 +72,7 @@ impl State {
             return Ok(State::Removed(next.try_copy(alloc)?));
         }
         let rings = Arc::new(alloc, before.next(alloc, next)?)?;
-        let member = MemberState::new(alloc, next, SharedRings::new(rings), me)?;
+        let member = MemberState::new(alloc, next, rings, me)?;
         Ok(State::Member(member))
     }
 

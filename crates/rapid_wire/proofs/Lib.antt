@@ -1,4 +1,5 @@
 pub mod Pieces
+pub mod Batches
 pub mod Bodies
 pub mod Frames
 pub mod Joined

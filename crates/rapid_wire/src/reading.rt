@@ -2,21 +2,23 @@
 
 ghost use Rattle.std.specs.Prelude.{◌≡◌, ◌≤◌, ◌==◌, All, Some, None, IfOk, length, map, if◌then◌else◌};
 ghost use Rattle.rapid_model.specs.Ballot.{IsClassicBallot};
+ghost use Rattle.rapid_model.specs.Batch.{batch_fault};
 ghost use Rattle.rapid_model.specs.Message.{item_of};
 ghost use Rattle.rapid_alerts.specs.Alerts.{alert_of, kind_of};
 ghost use Rattle.rapid_paxos.specs.Reported.{last_of};
-ghost use Rattle.rapid_node.specs.Bodies.{IsFrom, CanAnswer, answer_of};
+ghost use Rattle.rapid_join.specs.Answers.{NamesObservers, answer_of};
+ghost use Rattle.rapid_member.specs.Bodies.{IsFrom};
 ghost use Rattle.rapid_wire.specs.Faults.{Gives};
 ghost use Rattle.rapid_wire.specs.Reading.{both, all_of, many, front_at, byte_at, number_at, process_at, cut_at, is_cut, is_classic, is_ballot, numbers_at, ballot_at, report_at, kind_at, item_at, items_at, observers_at, made, id_at, safe_from, answer_at};
 
 use crate::WireFault;
 use crate::numbers::number_in;
-use rapid_alerts::{Alert, Kind};
+use rapid_alerts::{Alert, BatchError, Kind};
 use rapid_config::{ConfigError, ConfigId, Cut};
 use rapid_endpoint::Process;
-use rapid_node::{Answer, Batch, RingObservers};
+use rapid_node::{Batch, Reply, RingObservers};
 use rapid_paxos::Ballot;
-use std::alloc::Global;
+use std::alloc::{AllocError, Global};
 
 /// How many bytes a process has.
 pub(crate) const PROCESS_BYTES: usize = 22;
@@ -243,6 +245,18 @@ fn read_alerts(
     Ok((alerts, rest))
 }
 
+/// The batch of alerts that are one.
+fn batch_of(alerts: Vec<Alert>) -> Result<Batch, AllocError>
+    requires { batch_fault (map alert_of alerts.items) ≡ None }
+    ensures { IfOk result (λ batch. batch ≡ map alert_of alerts.items) }
+{
+    match Batch::new(alerts) {
+        Ok(batch) => Ok(batch),
+        Err(BatchError::OutOfMemory) => Err(AllocError),
+        Err(_) => unreachable!(),
+    }
+}
+
 /// The alerts of a batch.
 #[tactic(auto, unfolding(crate::specs::Reading::items_at))]
 pub(crate) fn read_batch(
@@ -260,7 +274,7 @@ pub(crate) fn read_batch(
         return Err(WireFault::BadBody);
     }
     ended(rest)?;
-    Ok(Batch::new(alerts)?)
+    Ok(batch_of(alerts)?)
 }
 
 /// The observers of a joiner.
@@ -280,20 +294,20 @@ fn read_observers(alloc: Global, bytes: &[u8]) -> Result<RingObservers, WireFaul
 
 /// An identifier and a joiner's observers.
 #[tactic(auto, unfolding(crate::specs::Reading::id_at))]
-fn read_safe(alloc: Global, bytes: &[u8]) -> Result<Answer, WireFault>
+fn read_safe(alloc: Global, bytes: &[u8]) -> Result<Reply, WireFault>
     ensures value { Gives answer_of result (all_of (made safe_from (both id_at observers_at)) bytes.now) }
-    ensures can { IfOk result CanAnswer }
+    ensures can { IfOk result NamesObservers }
 {
     let (front, rest) = read_front(bytes, ID_BYTES)?;
     let observers = read_observers(alloc, rest)?;
-    Ok(Answer::Safe(id_in(front), observers))
+    Ok(Reply::Safe(id_in(front), observers))
 }
 
 /// What a host answers.
 #[tactic(auto, unfolding(crate::specs::Reading::answer_at))]
-pub(crate) fn read_answer(alloc: Global, bytes: &[u8]) -> Result<Answer, WireFault>
+pub(crate) fn read_answer(alloc: Global, bytes: &[u8]) -> Result<Reply, WireFault>
     ensures value { Gives answer_of result (all_of answer_at bytes.now) }
-    ensures can { IfOk result CanAnswer }
+    ensures can { IfOk result NamesObservers }
 {
     let (code, rest) = read_byte(bytes)?;
     if code == 1 {
@@ -301,9 +315,9 @@ pub(crate) fn read_answer(alloc: Global, bytes: &[u8]) -> Result<Answer, WireFau
     }
     ended(rest)?;
     match code {
-        2 => Ok(Answer::EndpointInUse),
-        3 => Ok(Answer::ConfigurationChanged),
-        4 => Ok(Answer::TooManyJoiners),
+        2 => Ok(Reply::EndpointInUse),
+        3 => Ok(Reply::ConfigurationChanged),
+        4 => Ok(Reply::TooManyJoiners),
         _ => Err(WireFault::BadBody),
     }
 }

@@ -6,12 +6,13 @@ ghost use Rattle.rapid_model.specs.Message.{item_of};
 ghost use Rattle.rapid_model.specs.Frame.{IsItem, IsAnswer, IsBody, IsMessage, IsReport, IsBatch};
 ghost use Rattle.rapid_alerts.specs.Alerts.{alert_of};
 ghost use Rattle.rapid_paxos.specs.Reported.{last_of};
-ghost use Rattle.rapid_node.specs.Bodies.{CanAnswer, CanSay, answer_of, body_of};
+ghost use Rattle.rapid_join.specs.Answers.{NamesObservers, answer_of};
+ghost use Rattle.rapid_member.specs.Bodies.{CanSay, body_of};
 
 use rapid_alerts::Alert;
 use rapid_config::Cut;
 use rapid_endpoint::Process;
-use rapid_node::{Answer, Batch, Body, Message};
+use rapid_node::{Batch, Body, Message, Reply};
 use rapid_paxos::Ballot;
 
 /// Each value is a process.
@@ -63,16 +64,16 @@ fn tell_report(vote: &Option<(Ballot, Cut)>)
 
 /// An answer can be spelt.
 #[inline(always)]
-fn tell_answer(answer: &Answer)
-    requires { CanAnswer answer.now }
+fn tell_answer(answer: &Reply)
+    requires { NamesObservers answer.now }
     ensures { IsAnswer (answer_of answer.now) }
 {
     match answer {
-        Answer::Safe(id, observers) => {
+        Reply::Safe(id, observers) => {
             id.tell();
             tell_processes(observers.as_slice());
         }
-        Answer::EndpointInUse | Answer::ConfigurationChanged | Answer::TooManyJoiners => {}
+        Reply::EndpointInUse | Reply::ConfigurationChanged | Reply::TooManyJoiners => {}
     }
 }
 

@@ -8,13 +8,14 @@ ghost use Rattle.rapid_model.specs.Frame.{kind_byte, item_bytes, ballot_bytes, r
 ghost use Rattle.std.specs.Int.{w16, to_be_bytes};
 ghost use Rattle.rapid_alerts.specs.Alerts.{alert_of, kind_of};
 ghost use Rattle.rapid_paxos.specs.Reported.{last_of};
-ghost use Rattle.rapid_node.specs.Bodies.{answer_of, body_of};
+ghost use Rattle.rapid_join.specs.Answers.{answer_of};
+ghost use Rattle.rapid_member.specs.Bodies.{body_of};
 
 use crate::numbers::two_bytes;
 use rapid_alerts::{Alert, Kind};
 use rapid_config::{ConfigId, Cut};
 use rapid_endpoint::Process;
-use rapid_node::{Answer, Batch, Body};
+use rapid_node::{Batch, Body, Reply};
 use rapid_paxos::Ballot;
 use std::alloc::{AllocError, Global};
 
@@ -109,11 +110,11 @@ fn put_report(out: &mut Vec<u8>, vote: &Option<(Ballot, Cut)>) -> Result<(), All
 }
 
 /// An answer to a joiner.
-fn put_answer(out: &mut Vec<u8>, answer: &Answer) -> Result<(), AllocError>
+fn put_answer(out: &mut Vec<u8>, answer: &Reply) -> Result<(), AllocError>
     ensures { OnOk result (out.new.items ≡ out.old.items ++ answer_bytes (answer_of answer.now)) }
 {
     match answer {
-        Answer::Safe(id, observers) => {
+        Reply::Safe(id, observers) => {
             let processes = observers.as_slice();
             let count = processes.len() as u8;
             out.push(1)?;
@@ -121,9 +122,9 @@ fn put_answer(out: &mut Vec<u8>, answer: &Answer) -> Result<(), AllocError>
             out.push(count)?;
             put_processes(out, processes)
         }
-        Answer::EndpointInUse => Ok(out.push(2)?),
-        Answer::ConfigurationChanged => Ok(out.push(3)?),
-        Answer::TooManyJoiners => Ok(out.push(4)?),
+        Reply::EndpointInUse => Ok(out.push(2)?),
+        Reply::ConfigurationChanged => Ok(out.push(3)?),
+        Reply::TooManyJoiners => Ok(out.push(4)?),
     }
 }
 

@@ -5,7 +5,7 @@ use Rattle.rapid_model.specs.Message as message
 use Rattle.rapid_model.specs.Node.{Node, Decisions, outputs}
 use Rattle.rapid_model.specs.Member.{Work}
 use Rattle.rapid_model.specs.Receive.{receive_as_member}
-use Rattle.rapid_node.specs.Bodies.{body_of}
+use Rattle.rapid_member.specs.Bodies.{body_of}
 use Rattle.rapid_node.proofs.Settling.{settles, stops_more}
 use Rattle.rapid_node.proofs.node.Node.member_receive.Goals as goal
 

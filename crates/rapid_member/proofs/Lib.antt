@@ -1,0 +1,6 @@
+pub mod Ballots
+pub mod Batches
+pub mod Echoing
+pub mod Flushing
+pub mod Hosts
+pub mod Places

@@ -1,0 +1,47 @@
+-- Messages as the definitions see them.
+use Rattle.std.specs.Prelude.{◌≡◌, ℕ, List, map, All}
+use Rattle.rapid_model.specs.Process.{Process}
+use Rattle.rapid_model.specs.Alert.{Alert}
+use Rattle.rapid_model.specs.Ballot.{IsClassicBallot}
+use Rattle.rapid_model.specs.Message as model
+use Rattle.rapid_paxos.specs.Reported.{last_of}
+use Rattle.rapid_join.specs.Answers.{NamesObservers, answer_of}
+use Rattle.rapid_member.specs.declared.message.Body.{Body}
+use Rattle.rapid_member.specs.declared.message.Body.TheVariants.{Batch, FastVote, Prepare, Promise, Accept, Accepted, Decision, PreJoin, Reply, JoinRequest, Confirm, Probe, ProbeAck}
+
+-- What a message says.
+abbrev pub body_of : Body → model.Body
+body_of (Batch id xs) = model.Batch id (map model.item_of xs)
+body_of (FastVote id v) = model.FastVote id v
+body_of (Prepare id b) = model.Prepare id b
+body_of (Promise id b vote) = model.Promise id b (last_of vote)
+body_of (Accept id b v) = model.Accept id b v
+body_of (Accepted id b v) = model.Accepted id b v
+body_of (Decision id v) = model.Decision id v
+body_of PreJoin = model.PreJoin
+body_of (Reply j a) = model.Reply j (answer_of a)
+body_of (JoinRequest id k) = model.JoinRequest id k
+body_of (Confirm c) = model.Confirm c
+body_of (Probe id) = model.Probe id
+body_of (ProbeAck id) = model.ProbeAck id
+
+-- The alert is of this observer and for this configuration.
+abbrev pub IsFrom : Process → List ℕ → Alert → Type 0
+IsFrom observer id a = (a.observer ≡ observer) × (a.config ≡ id)
+
+-- The process can say this: a batch has its own alerts for the configuration that it names, and what is asked, promised
+-- or accepted after a Prepare is at a classic ballot.
+abbrev pub CanSay : Process → Body → Type 0
+CanSay sender (Batch id xs) = All (IsFrom sender id) xs
+CanSay sender (FastVote id v) = Unit {0}
+CanSay sender (Prepare id b) = IsClassicBallot b
+CanSay sender (Promise id b vote) = IsClassicBallot b
+CanSay sender (Accept id b v) = IsClassicBallot b
+CanSay sender (Accepted id b v) = IsClassicBallot b
+CanSay sender (Decision id v) = Unit {0}
+CanSay sender PreJoin = Unit {0}
+CanSay sender (Reply j a) = NamesObservers a
+CanSay sender (JoinRequest id k) = Unit {0}
+CanSay sender (Confirm c) = Unit {0}
+CanSay sender (Probe id) = Unit {0}
+CanSay sender (ProbeAck id) = Unit {0}

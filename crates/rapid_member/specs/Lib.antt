@@ -1,0 +1,5 @@
+pub mod Bodies
+pub mod Codes
+pub mod Members
+pub mod Outputs
+pub mod Saying

@@ -1,0 +1,109 @@
+// The decisions of configurations that were left.
+
+ghost use Rattle.std.specs.Prelude.{◌≡◌, ◌++◌, ◌∷◌, [], Some, IfOk, OnOk};
+ghost use Rattle.std.specs.Option.{option_copied};
+ghost use Rattle.rapid_model.specs.NodeStep.{last_64};
+ghost use Rattle.rapid_model.specs.Node.{outputs};
+ghost use Rattle.rapid_model.specs.Receive as receive;
+
+use crate::Body;
+use crate::output::{Output, answer};
+use rapid_config::{ConfigId, Cut};
+use rapid_endpoint::Process;
+use std::alloc::{AllocError, Global};
+use std::marker::Model;
+use std::sync::ArcSlice;
+
+/// How many decisions are kept.
+const KEPT: usize = 64;
+
+/// The last 64 configurations that were left, each with the cut decided there. Copies share one list.
+#[derive(Debug, Drop)]
+pub struct Decisions {
+    decided: ArcSlice<(ConfigId, Cut)>,
+}
+
+impl Model for Decisions {
+    ghost use Rattle.std.specs.Prelude.{◌≤◌, length};
+    ghost use Rattle.std.specs.Arc.{arc_slice_items};
+    ghost use Rattle.rapid_model.specs.Node.{Decisions as ModelDecisions};
+
+    ghost Value = { ModelDecisions };
+
+    ghost view = { λ d. arc_slice_items d.decided };
+
+    ghost invariant = { λ d. length (arc_slice_items d.decided) ≤ 64 };
+}
+
+/// Equal decisions, with room for one more.
+fn copy_all(
+    alloc: Global,
+    decisions: &[(ConfigId, Cut)],
+) -> Result<Vec<(ConfigId, Cut)>, AllocError>
+    ensures { IfOk result (λ copy. copy.items ≡ decisions.now) }
+{
+    let mut copy = Vec::new(alloc);
+    for (id, cut) in decisions {
+        copy.push((*id, cut.try_copy(alloc)?))?;
+    }
+    Ok(copy)
+}
+
+impl Decisions {
+    /// No decision.
+    pub fn new(alloc: Global) -> Result<Decisions, AllocError>
+        ensures { IfOk result (λ d. d ≡ []) }
+    {
+        let decided = ArcSlice::from_vec(Vec::new(alloc))?;
+        Ok(Decisions { decided })
+    }
+
+    /// The decisions with one more, of which the last 64 are kept.
+    pub fn with(&self, alloc: Global, id: ConfigId, cut: Cut) -> Result<Decisions, AllocError>
+        ensures { IfOk result (λ d. d ≡ last_64 (self.now ++ (id, cut) ∷ [])) }
+    {
+        let decided = self.decided.as_slice();
+        let first = if decided.len() == KEPT { 1 } else { 0 };
+        let mut kept = copy_all(alloc, &decided[first..])?;
+        kept.push((id, cut))?;
+        let decided = ArcSlice::from_vec(kept)?;
+        Ok(Decisions { decided })
+    }
+
+    /// The cut decided in a configuration that was left, as far as it is kept.
+    fn decided_in(&self, id: ConfigId) -> Option<&Cut>
+        ensures { option_copied result ≡ receive.decided_in self.now id }
+    {
+        let found = self
+            .decided
+            .as_slice()
+            .iter()
+            .find(|decision| id == decision.0)?;
+        Some(&found.1)
+    }
+
+    /// Answers a message about a configuration that was left.
+    pub fn catch_up(
+        &self,
+        alloc: Global,
+        out: &mut Vec<Output>,
+        me: Process,
+        from: &Process,
+        id: ConfigId,
+    ) -> Result<(), AllocError>
+        ensures { OnOk result (out.new.items ≡ out.old.items ++ outputs me (receive.catch_up self.now from.now (Some id))) }
+    {
+        match self.decided_in(id) {
+            Some(cut) => answer(out, me, from, Body::Decision(id, cut.try_copy(alloc)?)),
+            None => Ok(()),
+        }
+    }
+
+    /// Equal decisions, which share the list.
+    pub fn try_copy(&self) -> Result<Decisions, AllocError>
+        ensures { IfOk result (λ d. d ≡ self.now) }
+    {
+        let decided = self.decided.clone()?;
+        Ok(Decisions { decided })
+    }
+}

@@ -1,0 +1,110 @@
+// What goes out in a join.
+
+ghost use Rattle.std.specs.Prelude.{◌≡◌, ◌++◌, All, map, flat_map, OnOk};
+ghost use Rattle.std.specs.FinSet as set;
+ghost use Rattle.rapid_model.specs.Host.{confirms};
+ghost use Rattle.rapid_model.specs.Node.{To, Says, outputs};
+ghost use Rattle.rapid_model.specs.Receive.{answer_to};
+ghost use Rattle.rapid_join.specs.Answers.{AnswersObservers, answered_of, host_answer_of, request_of, sent_by};
+
+use crate::output::{Output, answer, say_to};
+use crate::{Body, MemberState};
+use rapid_config::Configuration;
+use rapid_endpoint::Process;
+use rapid_join::{HostAnswer, JoinRequest, JoinerAnswer};
+use std::alloc::{AllocError, Global};
+
+/// Says what a host answers to a joiner. What is long is shared.
+pub(crate) fn say_answer(
+    alloc: Global,
+    out: &mut Vec<Output>,
+    me: Process,
+    joiner: &Process,
+    answered: &HostAnswer,
+) -> Result<(), AllocError>
+    requires { AnswersObservers answered.now }
+    ensures { OnOk result (out.new.items ≡ out.old.items ++ outputs me (answer_to joiner.now (host_answer_of answered.now))) }
+{
+    match answered {
+        HostAnswer::Nothing => Ok(()),
+        HostAnswer::Reply(reply) => {
+            answer(
+                out,
+                me,
+                joiner,
+                Body::Reply(*joiner, reply.try_copy(alloc)?),
+            )
+        }
+        HostAnswer::Confirm(configuration) => {
+            answer(
+                out,
+                me,
+                joiner,
+                Body::Confirm(configuration.try_copy(alloc)?),
+            )
+        }
+        HostAnswer::Raise => Ok(()),
+    }
+}
+
+/// Says what a host answers to the joiners that waited.
+fn say_all(
+    alloc: Global,
+    out: &mut Vec<Output>,
+    me: Process,
+    answers: &[(Process, HostAnswer)],
+) -> Result<(), AllocError>
+    requires { All (λ x. AnswersObservers x.1) answers.now }
+    ensures { OnOk result (out.new.items ≡ out.old.items ++ outputs me (flat_map (λ x. answer_to x.0 x.1) (map answered_of answers.now))) }
+{
+    for (joiner, answered) in answers {
+        say_answer(alloc, out, me, joiner, answered)?;
+    }
+    Ok(())
+}
+
+/// Sends a joiner's requests.
+fn send_requests(
+    out: &mut Vec<Output>,
+    me: Process,
+    requests: &[JoinRequest],
+) -> Result<(), AllocError>
+    ensures { OnOk result (out.new.items ≡ out.old.items ++ outputs me (map (λ x. Says (To x.0) x.1) (map request_of requests.now))) }
+{
+    for request in requests {
+        let body = Body::JoinRequest(request.id, request.ring);
+        say_to(out, me, request.to, body)?;
+    }
+    Ok(())
+}
+
+/// Sends, in the name of this process, what a joiner answers.
+pub fn send_joining(
+    out: &mut Vec<Output>,
+    me: Process,
+    answered: &JoinerAnswer,
+) -> Result<(), AllocError>
+    ensures { OnOk result (out.new.items ≡ out.old.items ++ outputs me (map (λ x. Says (To x.0) x.1) (sent_by answered.now))) }
+{
+    match answered {
+        JoinerAnswer::Nothing => Ok(()),
+        JoinerAnswer::PreJoin(seed) => say_to(out, me, *seed, Body::PreJoin),
+        JoinerAnswer::Requests(requests) => send_requests(out, me, requests.as_slice()),
+    }
+}
+
+/// Says, in the name of this process, to the joiners that wait at a member what they get after a change to the next
+/// configuration. None waits afterwards.
+pub fn confirm_pending(
+    alloc: Global,
+    out: &mut Vec<Output>,
+    me: Process,
+    member: &mut MemberState,
+    next: &Configuration,
+) -> Result<(), AllocError>
+    ensures out { OnOk result (out.new.items ≡ out.old.items ++ outputs me (flat_map (λ x. answer_to x.0 x.1) (confirms next.now member.old.pending))) }
+    ensures state { OnOk result (member.new ≡ record member.old { pending = set.empty }) }
+{
+    let answers = member.confirms(next)?;
+    say_all(alloc, out, me, answers.as_slice())
+}

@@ -1,0 +1,159 @@
+// Messages between nodes.
+
+ghost use Rattle.std.specs.Prelude.{◌≡◌, IfOk};
+ghost use Rattle.rapid_member.specs.Bodies.{CanSay, body_of};
+ghost use Rattle.rapid_model.specs.Message.{caught_up_by};
+
+use rapid_alerts::Batch;
+use rapid_config::{ConfigId, Configuration, Cut};
+use rapid_endpoint::Process;
+use rapid_join::Reply;
+use rapid_paxos::Ballot;
+use std::alloc::{AllocError, Global};
+use std::marker::Model;
+
+/// What a message says. Where it begins with an identifier, that is of the configuration that it is about.
+#[derive(Debug, Drop)]
+pub enum Body {
+    /// Alerts of the sender.
+    Batch(ConfigId, Batch),
+    /// The sender's fast vote.
+    FastVote(ConfigId, Cut),
+    /// A coordinator asks for promises at its ballot.
+    Prepare(ConfigId, Ballot),
+    /// A promise to vote at no lower ballot, with the last vote.
+    Promise(ConfigId, Ballot, Option<(Ballot, Cut)>),
+    /// A coordinator asks for votes.
+    Accept(ConfigId, Ballot, Cut),
+    /// The sender has voted.
+    Accepted(ConfigId, Ballot, Cut),
+    /// The cut that was decided.
+    Decision(ConfigId, Cut),
+    /// The sender wants to join.
+    PreJoin,
+    /// What a host answers to this joiner.
+    Reply(Process, Reply),
+    /// The sender asks its observer on this ring to let it in.
+    JoinRequest(ConfigId, u8),
+    /// The configuration that the joiner is in.
+    Confirm(Configuration),
+    /// An observer asks whether the receiver is there.
+    Probe(ConfigId),
+    /// The receiver of a probe is there.
+    ProbeAck(ConfigId),
+}
+
+/// An equal vote, which shares its cut, if there is one.
+pub(crate) fn copy_vote(
+    alloc: Global,
+    vote: &Option<(Ballot, Cut)>,
+) -> Result<Option<(Ballot, Cut)>, AllocError>
+    ensures { IfOk result (λ v. v ≡ vote.now) }
+{
+    match vote {
+        Some((ballot, cut)) => Ok(Some((*ballot, cut.try_copy(alloc)?))),
+        None => Ok(None),
+    }
+}
+
+impl Body {
+    /// An equal body. What is long is shared.
+    pub fn try_copy(&self, alloc: Global) -> Result<Body, AllocError>
+        ensures { IfOk result (λ b. b ≡ self.now) }
+    {
+        Ok(match self {
+            Body::Batch(id, batch) => Body::Batch(*id, batch.try_copy(alloc)?),
+            Body::FastVote(id, cut) => Body::FastVote(*id, cut.try_copy(alloc)?),
+            Body::Prepare(id, ballot) => Body::Prepare(*id, *ballot),
+            Body::Promise(id, ballot, vote) => {
+                Body::Promise(*id, *ballot, copy_vote(alloc, vote)?)
+            }
+            Body::Accept(id, ballot, cut) => Body::Accept(*id, *ballot, cut.try_copy(alloc)?),
+            Body::Accepted(id, ballot, cut) => Body::Accepted(*id, *ballot, cut.try_copy(alloc)?),
+            Body::Decision(id, cut) => Body::Decision(*id, cut.try_copy(alloc)?),
+            Body::PreJoin => Body::PreJoin,
+            Body::Reply(joiner, reply) => Body::Reply(*joiner, reply.try_copy(alloc)?),
+            Body::JoinRequest(id, ring) => Body::JoinRequest(*id, *ring),
+            Body::Confirm(configuration) => Body::Confirm(configuration.try_copy(alloc)?),
+            Body::Probe(id) => Body::Probe(*id),
+            Body::ProbeAck(id) => Body::ProbeAck(*id),
+        })
+    }
+
+    /// The identifier of the configuration for which the message is answered with a decision, once the
+    /// receiver has left it.
+    pub fn caught_up_by(&self) -> Option<ConfigId>
+        ensures { result ≡ caught_up_by (body_of self.now) }
+    {
+        match self {
+            Body::Batch(id, _)
+            | Body::FastVote(id, _)
+            | Body::Prepare(id, _)
+            | Body::Promise(id, _, _)
+            | Body::Accept(id, _, _)
+            | Body::Accepted(id, _, _)
+            | Body::Probe(id)
+            | Body::ProbeAck(id) => Some(*id),
+            Body::Decision(..)
+            | Body::PreJoin
+            | Body::Reply(..)
+            | Body::JoinRequest(..)
+            | Body::Confirm(_) => None,
+        }
+    }
+}
+
+/// A message: who sends it, and what it says. A sender's batch has its own alerts, and only a fast vote
+/// and the vote that a promise reports can be at the fast ballot.
+#[derive(Debug, Drop)]
+pub struct Message {
+    sender: Process,
+    body: Body,
+}
+
+impl Model for Message {
+    ghost use Rattle.rapid_model.specs.Message.{Message as ModelMessage};
+    ghost use Rattle.rapid_member.specs.Bodies.{CanSay, body_of};
+
+    ghost Value = { ModelMessage };
+
+    ghost view = { λ m. record { sender = m.sender; body = body_of m.body } };
+
+    ghost invariant = { λ m. CanSay m.sender m.body };
+}
+
+impl Message {
+    /// The message of this sender that says this.
+    pub fn new(sender: Process, body: Body) -> Message
+        requires { CanSay sender body }
+        ensures { result ≡ record { sender = sender; body = body_of body } }
+    {
+        Message { sender, body }
+    }
+
+    /// Who sends it.
+    pub fn sender(&self) -> Process
+        ensures { result ≡ self.now.sender }
+    {
+        self.sender
+    }
+
+    /// What it says.
+    pub fn body(&self) -> &Body
+        ensures value { body_of result.now ≡ self.now.body }
+        ensures said { CanSay self.now.sender result.now }
+    {
+        &self.body
+    }
+
+    /// An equal message. What is long is shared.
+    pub fn try_copy(&self, alloc: Global) -> Result<Message, AllocError>
+        ensures { IfOk result (λ m. m ≡ self.now) }
+    {
+        let body = self.body.try_copy(alloc)?;
+        Ok(Message {
+            sender: self.sender,
+            body,
+        })
+    }
+}

@@ -1,6 +1,0 @@
-use Rattle.std.proofs.lemmas.Result.{IfOk-weaker}
-use Rattle.rapid_node.proofs.Hosts.{confirms_give}
-use Rattle.rapid_node.proofs.member.MemberState.confirms.Goals as goal
-
-pub returns-clause-given : goal.returns-clause-given
-returns-clause-given c = IfOk-weaker c.confirms.result _ _ (λ answers e. confirms_give c.args.next.now _ _ e) c.confirms.ensures.answers

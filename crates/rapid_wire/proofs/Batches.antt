@@ -1,0 +1,37 @@
+-- The alerts that are read as a batch are one.
+use Rattle.std.proofs.Common.{◌≡◌, ℕ, suc, ◌≤◌, ◌&&◌, Bool, true, false, List, [], ◌∷◌, All, length, map, arith, refl, sym, ◌∙◌, nat_lt, None}
+use Rattle.std.specs.List.{list_all}
+use Rattle.std.proofs.lemmas.List.{length-map}
+use Rattle.rapid_model.specs.Process.{Process, same_bytes}
+use Rattle.rapid_model.specs.Alert.{Alert}
+use Rattle.rapid_model.specs.Batch.{batch_fault, is_alike}
+use Rattle.rapid_model.proofs.Orders.{same_bytes_decides}
+use Rattle.rapid_alerts.specs.declared.alert.Alert as code
+use Rattle.rapid_alerts.specs.Alerts.{alert_of}
+use Rattle.rapid_member.specs.Bodies.{IsFrom}
+
+both : (a b : Bool) → a ≡ true → b ≡ true → (a && b) ≡ true
+both true b h k = k
+both false b h k = cc
+
+alike : (from : Process) (id : List ℕ) (a x : Alert) → IsFrom from id a → IsFrom from id x → is_alike a x ≡ true
+alike from id a x first other =
+    both (same_bytes x.observer a.observer) (same_bytes x.config a.config) ((same_bytes_decides x.observer a.observer).1 (other.0 ∙ sym first.0)) ((same_bytes_decides x.config a.config).1 (other.1 ∙ sym first.1))
+
+all_alike : (from : Process) (id : List ℕ) (a : Alert) (xs : List Alert) → IsFrom from id a → All (IsFrom from id) xs → list_all (is_alike a) xs ≡ true
+all_alike from id a [] first h = refl
+all_alike from id a (x ∷ xs) first h =
+    both (is_alike a x) (list_all (is_alike a) xs) (alike from id a x first (h 0 x (omega arith))) (all_alike from id a xs first (λ i d l. h (suc i) d (omega (arith, l))))
+
+alerts_are : (from : Process) (id : List ℕ) (xs : List Alert) → All (IsFrom from id) xs → 1 ≤ length xs → length xs ≤ 2048 → batch_fault xs ≡ None
+alerts_are from id [] h some few = absurd (omega (arith, some))
+alerts_are from id (a ∷ xs) h some few =
+    let enough : nat_lt 2048 (length (a ∷ xs)) ≡ false = grind (arith, few) in
+    let same = all_alike from id a xs (h 0 a (omega arith)) (λ i d l. h (suc i) d (omega (arith, l))) in
+    rw (enough, same) refl
+
+-- 1 to 2,048 alerts of one observer for one configuration are a batch
+pub are_a_batch : (from : Process) (id : List ℕ) (xs : List code.Alert) → All (IsFrom from id) (map alert_of xs) → 1 ≤ length xs → length xs ≤ 2048 → batch_fault (map alert_of xs) ≡ None
+are_a_batch from id xs h some few =
+    let same : length (map alert_of xs) ≡ length xs = length-map xs alert_of in
+    alerts_are from id (map alert_of xs) h (omega (arith, same, some)) (omega (arith, same, few))
