@@ -1,9 +1,9 @@
 -- What a node shows.
-use Rattle.std.proofs.Common.{◌≡◌, sym, refl, Option}
+use Rattle.std.proofs.Common.{◌≡◌, sym, refl, ap, Option, Some}
 use Rattle.rapid_model.specs.Process.{Process}
 use Rattle.rapid_model.specs.Configuration.{Configuration}
 use Rattle.rapid_model.specs.Node as model
-use Rattle.rapid_model.specs.Node.{shown_in}
+use Rattle.rapid_model.specs.Node.{MemberState, fresh_member, shown_in}
 use Rattle.rapid_node.specs.declared.phase.State.{State}
 use Rattle.rapid_node.specs.declared.phase.State.TheVariants.{Joining, Member, Removed, Halted}
 use Rattle.rapid_node.specs.Phases.{phase_of, IsState}
@@ -21,3 +21,8 @@ halted_shows shown c (Joining j) e = cc
 halted_shows shown c (Member s) e = cc
 halted_shows shown c (Removed d) e = cc
 halted_shows shown c Halted e = cc
+
+-- a member as it enters a configuration is a state in which the node shows that configuration
+pub enters : (c : Configuration) (me : Process) (s : MemberState) → s ≡ fresh_member c me → IsState me (Some c) (Member s)
+unfolding fresh_member
+enters c me s e = (ap (λ (m : MemberState). Some m.config) (sym e), ap (λ (m : MemberState). m.me) e)

@@ -42,7 +42,6 @@ pub(crate) enum State {
 
 impl State {
     /// The state of a founder, a member of this configuration.
-    #[tactic(auto, unfolding(rapid_model::specs::Node::fresh_member))]
     pub(crate) fn found(
         alloc: Global,
         configuration: &Configuration,
@@ -58,7 +57,6 @@ impl State {
     }
 
     /// The state of a process in a configuration that comes after that of these rings.
-    #[tactic(auto, unfolding(rapid_model::specs::Node::fresh_member))]
     pub(crate) fn enter(
         alloc: Global,
         before: &Rings,
