@@ -1,7 +1,7 @@
 // Worked frames, and what is refused.
 use crate::{Feed, WireFault, encode};
 use rapid_endpoint::{Endpoint, Process, ProcessId};
-use rapid_node::{Body, Message};
+use rapid_node::{Body, Message, Reply};
 use std::alloc::Global;
 use std::process::Abort;
 use std::test::Fail;
@@ -22,6 +22,13 @@ const TWO: [u8; 22] = [
 
 const THREE: [u8; 22] = [
     0, 0, 0, 0, 0, 0, 0, 0, 0, 0, 0, 0, 0, 0, 0, 3, 0x7f, 0, 0, 1, 0, 3,
+];
+
+/// The frame in which the process with the number 1 tells the process with the number 2 that its endpoint
+/// is in use.
+const IN_USE: [u8; 51] = [
+    0, 0, 0, 0x2f, 1, 9, 0, 0, 0, 0, 0, 0, 0, 0, 0, 0, 0, 0, 0, 0, 0, 1, 0x7f, 0, 0, 1, 0, 1, 0, 0,
+    0, 0, 0, 0, 0, 0, 0, 0, 0, 0, 0, 0, 0, 2, 0x7f, 0, 0, 1, 0, 2, 2,
 ];
 
 /// The identifier of a configuration.
@@ -47,6 +54,40 @@ fn frame(alloc: Global, kind: u8, parts: &[&[u8]]) -> Result<Vec<u8>, Fail> {
     Ok(frame)
 }
 
+/// The process with a number.
+fn process(number: u8) -> Process {
+    let id = ProcessId::new([0, 0, 0, 0, 0, 0, 0, 0, 0, 0, 0, 0, 0, 0, 0, number]);
+    Process::new(id, Endpoint::new([127, 0, 0, 1], u16::from(number)))
+}
+
+/// Whether the process with the number 2 asks to join.
+fn asks_to_join(message: &Message) -> bool {
+    message.sender() == process(2) && matches!(message.body(), Body::PreJoin)
+}
+
+/// Whether the process with the number 1 tells the process with the number 2 that its endpoint is in use.
+fn tells_in_use(message: &Message) -> bool {
+    match message.body() {
+        Body::Reply(joiner, Reply::EndpointInUse) => {
+            message.sender() == process(1) && *joiner == process(2)
+        }
+        _ => false,
+    }
+}
+
+/// The first message of a stream.
+fn first(alloc: Global, bytes: &[u8]) -> Result<Option<Message>, Fail> {
+    let mut feed = Feed::new(alloc);
+    feed.feed(bytes)?;
+    Ok(feed.next()?)
+}
+
+/// Whether a message is written as this frame.
+fn writes(alloc: Global, message: &Message, frame: &[u8]) -> Result<bool, Fail> {
+    let written = encode(alloc, message)?;
+    Ok(written.as_slice() == frame)
+}
+
 /// Whether the bytes are one frame that is read, and written again as it was.
 fn returns(alloc: Global, bytes: &[u8]) -> Result<bool, Fail> {
     let mut feed = Feed::new(alloc);
@@ -56,6 +97,42 @@ fn returns(alloc: Global, bytes: &[u8]) -> Result<bool, Fail> {
     };
     let written = encode(alloc, &message)?;
     Ok(written.as_slice() == bytes && feed.next()?.is_none())
+}
+
+/// Whether a message comes of two pieces, but not of the first alone.
+fn comes_of_two(alloc: Global, start: &[u8], end: &[u8]) -> Result<bool, Fail> {
+    let mut feed = Feed::new(alloc);
+    feed.feed(start)?;
+    if feed.next()?.is_some() {
+        return Ok(false);
+    }
+    feed.feed(end)?;
+    Ok(feed.next()?.is_some())
+}
+
+/// Whether a frame that is cut after any of its bytes is no message until its end comes.
+fn comes_whole(alloc: Global, bytes: &[u8]) -> Result<bool, Fail> {
+    for length in 0..bytes.len() {
+        let (start, end) = bytes.split_at(length);
+        if !comes_of_two(alloc, start, end)? {
+            return Ok(false);
+        }
+    }
+    Ok(true)
+}
+
+/// After how many bytes, of which each is a piece, a fault is answered, and which.
+fn fault_after(alloc: Global, bytes: &[u8]) -> Result<Option<(usize, WireFault)>, Fail> {
+    let mut feed = Feed::new(alloc);
+    let mut fed = 0usize;
+    for byte in bytes {
+        feed.feed(&[*byte])?;
+        fed = fed.wrapping_add(1);
+        if let Err(fault) = feed.next() {
+            return Ok(Some((fed, fault)));
+        }
+    }
+    Ok(None)
 }
 
 /// The fault of the bytes, if it is answered again after a good frame came.
@@ -72,12 +149,12 @@ fn fault(alloc: Global, bytes: &[u8]) -> Result<Option<WireFault>, Fail> {
 }
 
 #[test]
-fn every_kind_goes_out_and_back(rt: HostRuntime) -> Result<(), Fail> {
+fn every_kind_goes_out_and_back_however_it_is_cut(rt: HostRuntime) -> Result<(), Fail> {
     let alloc = rt.alloc();
     let one: &[u8] = &[0, 1];
     let two: &[u8] = &[0, 2];
     let ballot: &[u8] = &[2, 0, 5];
-    let cases: [(u8, &[&[u8]]); 19] = [
+    let cases: [(u8, &[&[u8]]); 20] = [
         (1, &[&ID, one, &[3, 1], &TWO]),
         (1, &[&ID, two, &[255, 2], &TWO, &[0, 1], &TWO]),
         (2, &[&ID, two, &TWO, &THREE]),
@@ -89,6 +166,7 @@ fn every_kind_goes_out_and_back(rt: HostRuntime) -> Result<(), Fail> {
         (5, &[&ID, ballot, one, &TWO]),
         (6, &[&ID, ballot, one, &TWO]),
         (7, &[&ID, one, &TWO]),
+        (8, &[]),
         (9, &[&TWO, &[1], &ID, &[2], &ONE, &ONE]),
         (9, &[&TWO, &[2]]),
         (9, &[&TWO, &[3]]),
@@ -99,7 +177,9 @@ fn every_kind_goes_out_and_back(rt: HostRuntime) -> Result<(), Fail> {
         (13, &[&ID]),
     ];
     for (kind, parts) in cases {
-        assert!(rt; returns(alloc, &frame(alloc, kind, parts)?)?, "kind {kind}");
+        let bytes = frame(alloc, kind, parts)?;
+        assert!(rt; returns(alloc, &bytes)?, "kind {kind}");
+        assert!(rt; comes_whole(alloc, &bytes)?, "kind {kind}");
     }
     Ok(())
 }
@@ -157,29 +237,77 @@ fn faults_come_in_their_order(rt: HostRuntime) -> Result<(), Fail> {
     ];
     for (bytes, expected) in cases {
         assert_eq!(rt; fault(alloc, bytes)?, Some(expected));
+        assert_eq!(rt; fault_after(alloc, bytes)?, Some((bytes.len(), expected)));
     }
-    assert_eq!(rt; WireFault::TooLong.code(), 1);
-    assert_eq!(rt; WireFault::OutOfMemory.code(), 99);
     Ok(())
+}
+
+#[test]
+fn faults_have_their_numbers(rt: HostRuntime) {
+    let cases = [
+        (WireFault::TooLong, 1),
+        (WireFault::BadVersion, 2),
+        (WireFault::BadKind, 3),
+        (WireFault::BadBody, 4),
+        (WireFault::OutOfMemory, 99),
+    ];
+    for (fault, code) in cases {
+        assert_eq!(rt; fault.code(), code);
+    }
 }
 
 #[test]
 fn a_question_to_join_comes_byte_by_byte(rt: HostRuntime) -> Result<(), Fail> {
     let alloc = rt.alloc();
-    let id = ProcessId::new([0, 0, 0, 0, 0, 0, 0, 0, 0, 0, 0, 0, 0, 0, 0, 2]);
-    let sender = Process::new(id, Endpoint::new([127, 0, 0, 1], 2));
-    let written = encode(alloc, &Message::new(sender, Body::PreJoin))?;
-    assert!(rt; written.as_slice() == &PRE_JOIN[..]);
     let mut feed = Feed::new(alloc);
     let mut waits = 0usize;
+    let mut came = None;
     for byte in PRE_JOIN {
         feed.feed(&[byte])?;
-        if let Some(message) = feed.next()? {
-            assert!(rt; message.sender() == sender);
-            assert_eq!(rt; waits, 27);
+        match feed.next()? {
+            Some(message) => {
+                assert!(rt; asks_to_join(&message));
+                came = Some(waits);
+            }
+            None => waits = waits.wrapping_add(1),
         }
-        waits = waits.wrapping_add(1);
     }
-    assert_eq!(rt; waits, 28);
+    assert_eq!(rt; came, Some(27));
+    Ok(())
+}
+
+#[test]
+fn worked_messages_are_written(rt: HostRuntime) -> Result<(), Fail> {
+    let alloc = rt.alloc();
+    let question = Message::new(process(2), Body::PreJoin);
+    assert!(rt; writes(alloc, &question, &PRE_JOIN)?);
+    let answer = Message::new(process(1), Body::Reply(process(2), Reply::EndpointInUse));
+    assert!(rt; writes(alloc, &answer, &IN_USE)?);
+    Ok(())
+}
+
+#[test]
+fn worked_frames_are_read(rt: HostRuntime) -> Result<(), Fail> {
+    let alloc = rt.alloc();
+    let question = first(alloc, &PRE_JOIN)?;
+    assert!(rt; question.as_ref().is_some_and(asks_to_join));
+    let answer = first(alloc, &IN_USE)?;
+    assert!(rt; answer.as_ref().is_some_and(tells_in_use));
+    Ok(())
+}
+
+#[test]
+fn messages_come_in_the_order_of_their_bytes(rt: HostRuntime) -> Result<(), Fail> {
+    let alloc = rt.alloc();
+    let mut stream = Vec::new(alloc);
+    stream.extend_from_slice(&PRE_JOIN)?;
+    stream.extend_from_slice(&IN_USE)?;
+    let mut feed = Feed::new(alloc);
+    feed.feed(&stream)?;
+    let first = feed.next()?;
+    let second = feed.next()?;
+    assert!(rt; first.as_ref().is_some_and(asks_to_join));
+    assert!(rt; second.as_ref().is_some_and(tells_in_use));
+    assert!(rt; feed.next()?.is_none());
     Ok(())
 }
