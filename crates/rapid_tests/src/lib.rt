@@ -1,0 +1,24 @@
+//! Tests of whole nodes, which hand their messages on to each other. The crate has nothing else, so that a node is not proved a
+//! second time for its tests.
+#![tactic(auto)]
+
+#[cfg(test)]
+mod assertions;
+#[cfg(test)]
+mod conflict;
+#[cfg(test)]
+mod copies;
+#[cfg(test)]
+mod crash;
+#[cfg(test)]
+mod echo;
+#[cfg(test)]
+mod founding;
+#[cfg(test)]
+mod join;
+#[cfg(test)]
+mod network;
+#[cfg(test)]
+mod recovery;
+#[cfg(test)]
+mod said;
