@@ -4,6 +4,9 @@ use std::collections::BTreeMap;
 use std::hint::black_box;
 use std::time::Instant;
 
+#[path = "plain/frames.rs"]
+mod frames;
+
 const ROUND_CONSTANTS: [u32; 64] = [
     0x428a2f98, 0x71374491, 0xb5c0fbcf, 0xe9b5dba5, 0x3956c25b, 0x59f111f1, 0x923f82a4, 0xab1c5ed5, 0xd807aa98, 0x12835b01, 0x243185be, 0x550c7dc3,
     0x72be5d74, 0x80deb1fe, 0x9bdc06a7, 0xc19bf174, 0xe49b69c1, 0xefbe4786, 0x0fc19dc6, 0x240ca1cc, 0x2de92c6f, 0x4a7484aa, 0x5cb0a9dc, 0x76f988da,
@@ -177,8 +180,9 @@ fn measure(name: &str, units: u128, runs: u32, mut work: impl FnMut()) {
 
 /// How many bytes of memory the process holds.
 fn held() -> u64 {
-    let statm = std::fs::read_to_string("/proc/self/statm").unwrap();
-    statm.split_whitespace().nth(1).unwrap().parse::<u64>().unwrap() * 4096
+    let rollup = std::fs::read_to_string("/proc/self/smaps_rollup").unwrap();
+    let kibibytes = rollup.split_whitespace().skip_while(|word| *word != "Rss:").nth(1).unwrap();
+    kibibytes.parse::<u64>().unwrap() * 1024
 }
 
 /// Prints how many bytes a fast round of 1,024 members holds after the vote of each, for these cuts in turn.
@@ -221,4 +225,5 @@ fn main() {
     let cuts: Vec<Vec<Process>> = (1..=1024).map(|first| (first..first + 10).map(process).collect()).collect();
     measure_bytes("round_bytes_one_cut", &cuts[..1]);
     measure_bytes("round_bytes_own_cuts", &cuts);
+    frames::measure_all();
 }

@@ -11,7 +11,7 @@ fi
 room=$(mktemp -d)
 trap 'rm -r "$room"' EXIT
 rustc -O --edition 2021 -o "$room/plain" bench/plain.rs
-[ $# -gt 0 ] || set -- votes memory rings_new rings_next from_bytes
+[ $# -gt 0 ] || set -- votes memory rings_new rings_next from_bytes frames
 "$program" "$@" >"$room/proved.txt"
 "$room/plain" >"$room/plain.txt"
 awk 'BEGIN { printf "%-22s %12s %12s %8s\n", "figure", "proved", "plain", "ratio" }

@@ -23,9 +23,13 @@ pub fn measure<R: Print + Clock, W: Work>(
     for _ in 0..runs {
         let start = Instant::now(rt)?;
         let _ = black_box(work.once(alloc)?);
-        let nanoseconds = u64::try_from(start.elapsed(rt)?.as_nanos()).unwrap_or(u64::MAX);
-        least = least.min(nanoseconds);
+        least = least.min(nanoseconds_since(rt, start)?);
     }
     println!(rt; "{name} {}", least / units.max(1))?;
     Ok(())
+}
+
+/// How many nanoseconds have gone since then.
+pub fn nanoseconds_since<R: Clock>(rt: &R, start: Instant) -> Result<u64> {
+    Ok(u64::try_from(start.elapsed(rt)?.as_nanos()).unwrap_or(u64::MAX))
 }

@@ -1,6 +1,6 @@
 // A configuration, read from its bytes.
 use crate::figure::{Work, measure};
-use crate::members::configuration;
+use crate::members::{MEMBERS, configuration};
 use anyhow::Result;
 use rapid_config::Configuration;
 use std::alloc::Global;
@@ -24,7 +24,7 @@ impl Work for FromBytes {
 /// Prints the figure `from_bytes`: a configuration of 1,024 members, read and checked, with its identifier.
 pub fn print<R: Print + Clock>(rt: &R, alloc: Global) -> Result<()> {
     let work = FromBytes {
-        bytes: configuration(alloc)?.to_bytes(alloc)?,
+        bytes: configuration(alloc, MEMBERS)?.to_bytes(alloc)?,
     };
     measure(rt, alloc, "from_bytes", 500, &work)
 }

@@ -3,22 +3,52 @@
 #![tactic(auto)]
 
 mod figure;
+mod frames;
 mod from_bytes;
 mod members;
 mod memory;
+mod messages;
 mod rings_new;
 mod rings_next;
 mod votes;
 
 use anyhow::{Result, bail};
+use std::alloc::Global;
 use std::env;
+use std::fs::Files;
+use std::time::Clock;
 
 /// What is printed where no word names a figure.
 const USAGE: &str = "rapid_bench WORD.. prints figures, a line each: NAME, a space, a number.
   votes     nanoseconds of a vote among 1,024 members, for cuts of 1, 10 and 100 processes
   memory    bytes of a fast round after 1,024 votes, for one cut and for a cut each
   rings_new, rings_next    nanoseconds of the sixteen rings of 1,024 members, from nothing and after one left and one joined
-  from_bytes    nanoseconds of a configuration of 1,024 members, read from its bytes";
+  from_bytes    nanoseconds of a configuration of 1,024 members, read from its bytes
+  frames    nanoseconds of a thousand bytes of frames, written, and read in pieces";
+
+/// Prints the figures of a word.
+fn print_figures<R: Print + Clock + Files + Alloc>(
+    rt: &R,
+    alloc: Global,
+    word: &str,
+) -> Result<()> {
+    match word {
+        "votes" => votes::print(rt, alloc),
+        "memory" => memory::print(rt, alloc),
+        "rings_new" => rings_new::print(rt, alloc),
+        "rings_next" => rings_next::print(rt, alloc),
+        other => print_more(rt, alloc, other),
+    }
+}
+
+/// Prints the figures of a word, one of bytes or of nodes.
+fn print_more<R: Print + Clock + Files + Alloc>(rt: &R, alloc: Global, word: &str) -> Result<()> {
+    match word {
+        "from_bytes" => from_bytes::print(rt, alloc),
+        "frames" => frames::print(rt, alloc),
+        other => bail!("no figure is called {other}"),
+    }
+}
 
 fn main(rt: HostRuntime) -> Result<()> {
     let alloc = rt.alloc();
@@ -27,14 +57,7 @@ fn main(rt: HostRuntime) -> Result<()> {
         println!(rt; "{USAGE}")?;
     }
     for word in words.iter().skip(1) {
-        match word.as_str() {
-            "votes" => votes::print(&rt, alloc)?,
-            "memory" => memory::print(&rt, alloc)?,
-            "rings_new" => rings_new::print(&rt, alloc)?,
-            "rings_next" => rings_next::print(&rt, alloc)?,
-            "from_bytes" => from_bytes::print(&rt, alloc)?,
-            other => bail!("no figure is called {other}"),
-        }
+        print_figures(&rt, alloc, word.as_str())?;
     }
     Ok(())
 }

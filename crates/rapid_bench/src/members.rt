@@ -25,10 +25,10 @@ pub fn cut(alloc: Global, first: u16, last: u16) -> Result<Cut> {
     Ok(Cut::new(processes)?)
 }
 
-/// The founding configuration of the members, with sixteen rings.
-pub fn configuration(alloc: Global) -> Result<Configuration> {
+/// The founding configuration of so many members, with sixteen rings.
+pub fn configuration(alloc: Global, count: u16) -> Result<Configuration> {
     let mut members = Vec::new(alloc);
-    for n in 1..=MEMBERS {
+    for n in 1..=count {
         members.push(process(n))?;
     }
     if members.is_empty() {

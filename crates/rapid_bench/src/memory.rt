@@ -10,17 +10,15 @@ use std::fs::Files;
 /// How many rounds are held at a time.
 const ROUNDS: usize = 1000;
 
-/// The bytes of a page.
-const PAGE: u64 = 4096;
-
 /// How many bytes of memory the process holds.
-fn held<R: Files + Alloc>(rt: &R) -> Result<u64> {
-    let statm = fs::read_to_string(rt, "/proc/self/statm")?;
-    let pages = statm
+pub fn held<R: Files + Alloc>(rt: &R) -> Result<u64> {
+    let rollup = fs::read_to_string(rt, "/proc/self/smaps_rollup")?;
+    let kibibytes = rollup
         .split_whitespace()
+        .skip_while(|word| *word != "Rss:")
         .nth(1)
-        .context("/proc/self/statm has no second number")?;
-    Ok(pages.parse::<u64>()?.saturating_mul(PAGE))
+        .context("/proc/self/smaps_rollup does not say what is held")?;
+    Ok(kibibytes.parse::<u64>()?.saturating_mul(1024))
 }
 
 /// A round after the vote of each member, the first of them for the first cut and so on, in turn.

@@ -1,6 +1,6 @@
 // The rings of a configuration, from nothing.
 use crate::figure::{Work, measure};
-use crate::members::configuration;
+use crate::members::{MEMBERS, configuration};
 use anyhow::Result;
 use rapid_config::Configuration;
 use rapid_rings::Rings;
@@ -24,7 +24,7 @@ impl Work for RingsNew {
 /// Prints the figure `rings_new`: the sixteen rings of 1,024 members.
 pub fn print<R: Print + Clock>(rt: &R, alloc: Global) -> Result<()> {
     let work = RingsNew {
-        configuration: configuration(alloc)?,
+        configuration: configuration(alloc, MEMBERS)?,
     };
     measure(rt, alloc, "rings_new", 20, &work)
 }

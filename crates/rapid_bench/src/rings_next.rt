@@ -1,6 +1,6 @@
 // The rings of the next configuration, from those before.
 use crate::figure::{Work, measure};
-use crate::members::{configuration, process};
+use crate::members::{MEMBERS, configuration, process};
 use anyhow::Result;
 use rapid_config::{Configuration, Cut};
 use rapid_rings::Rings;
@@ -25,7 +25,7 @@ impl Work for RingsNext {
 
 /// Prints the figure `rings_next`: the sixteen rings of 1,024 members after one left and one joined.
 pub fn print<R: Print + Clock>(rt: &R, alloc: Global) -> Result<()> {
-    let founding = configuration(alloc)?;
+    let founding = configuration(alloc, MEMBERS)?;
     let mut change = Vec::new(alloc);
     change.push(process(501))?;
     change.push(process(2000))?;
