@@ -49,6 +49,19 @@ pub fn founder(
     Ok(Node::seed(alloc, configuration, me)?)
 }
 
+/// The node with this number of those founders.
+pub fn member(
+    rt: &impl Abort,
+    alloc: Global,
+    params: (u8, u8, u8),
+    founders: &[u16],
+    number: u16,
+) -> Result<Box<Node>, Fail> {
+    let configuration = founding(rt, alloc, params, founders)?;
+    let node = founder(rt, alloc, &configuration, number)?;
+    Ok(Box::new(alloc, node)?)
+}
+
 /// The node of the process with this number, which joins by another.
 pub fn joiner(alloc: Global, number: u16, seed: u16) -> Result<Node, Fail> {
     Ok(Node::joiner(alloc, process(number), process(seed).endpoint())?)

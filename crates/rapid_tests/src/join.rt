@@ -1,8 +1,16 @@
 // A process joins, in two phases.
 
-use crate::assertions::{assert_installs, assert_sent, assert_sent_after, assert_views};
+use crate::assertions::{
+    assert_answers, assert_installs, assert_phase, assert_sent, assert_sent_after, assert_shows,
+    assert_views, told,
+};
+use crate::founding::{founding, joiner, member, process};
 use crate::network::{Action, Network};
 use crate::said::{Said, To};
+use rapid_endpoint::Process;
+use rapid_node::{Body, Destination, Event, Message, Node, Outputs, Phase, Reply};
+use std::alloc::Global;
+use std::process::Abort;
 use std::test::Fail;
 
 /// The second process joins by the first. Its requests come twice.
@@ -68,6 +76,34 @@ fn a_member_that_asks_again_is_confirmed(rt: HostRuntime) -> Result<(), Fail> {
     Ok(())
 }
 
+/// Whether this is just an answer to a joiner, at its endpoint, that its identifier or its endpoint is held.
+fn is_in_use(outputs: &Outputs, joiner: &Process) -> bool {
+    match outputs.as_slice() {
+        [output] => match output.message().body() {
+            Body::Reply(named, Reply::EndpointInUse) => {
+                named == joiner && output.to() == Destination::To(joiner.endpoint())
+            }
+            _ => false,
+        },
+        _ => false,
+    }
+}
+
+/// Asks a node to let a process in.
+fn asked(node: &mut Node, joiner: Process) -> Result<Outputs, Fail> {
+    let question = Event::Receive(Message::new(joiner, Body::PreJoin));
+    Ok(told(node, &question)?)
+}
+
+#[test]
+fn an_endpoint_in_use_is_refused(rt: HostRuntime) -> Result<(), Fail> {
+    let mut node = member(&rt, rt.alloc(), (3, 3, 1), &[1], 1)?;
+    let joiner = Process::new(process(9).id(), process(1).endpoint());
+    let outputs = asked(&mut *node, joiner)?;
+    assert!(rt; is_in_use(&outputs, &joiner));
+    Ok(())
+}
+
 /// A joiner is answered in one configuration and asks its observers in the next: it is told, and begins anew at once.
 #[test]
 fn a_joiner_that_is_late_begins_anew(rt: HostRuntime) -> Result<(), Fail> {
@@ -100,5 +136,32 @@ fn a_joiner_that_is_late_begins_anew(rt: HostRuntime) -> Result<(), Fail> {
             (3, To::Node(1), Said::PreJoin),
         ],
     );
+    Ok(())
+}
+
+/// The second process joins by the first, and is told of the configuration of these founders.
+fn confirmed(rt: &impl Abort, alloc: Global, founders: &[u16]) -> Result<Box<Node>, Fail> {
+    let configuration = founding(rt, alloc, (3, 3, 1), founders)?;
+    let mut node = Box::new(alloc, joiner(alloc, 2, 1)?)?;
+    let confirmation = Event::Receive(Message::new(process(1), Body::Confirm(configuration)));
+    assert_answers(rt, &mut *node, &confirmation, &[])?;
+    Ok(node)
+}
+
+/// A configuration without the joiner makes it no member.
+#[test]
+fn a_confirmation_of_others_does_nothing(rt: HostRuntime) -> Result<(), Fail> {
+    let node = confirmed(&rt, rt.alloc(), &[1])?;
+    assert_phase(&rt, &*node, Phase::Joining);
+    assert!(rt; node.installed().is_empty() && node.configuration().is_none());
+    Ok(())
+}
+
+/// A configuration with the joiner makes it a member.
+#[test]
+fn a_confirmation_makes_a_member(rt: HostRuntime) -> Result<(), Fail> {
+    let node = confirmed(&rt, rt.alloc(), &[1, 2])?;
+    assert_phase(&rt, &*node, Phase::Member);
+    assert_shows(&rt, &*node, 0, &[1, 2]);
     Ok(())
 }

@@ -13,11 +13,19 @@ mod crash;
 #[cfg(test)]
 mod echo;
 #[cfg(test)]
+mod edges;
+#[cfg(test)]
 mod founding;
+#[cfg(test)]
+mod history;
 #[cfg(test)]
 mod join;
 #[cfg(test)]
+mod memory;
+#[cfg(test)]
 mod network;
+#[cfg(test)]
+mod probes;
 #[cfg(test)]
 mod recovery;
 #[cfg(test)]
