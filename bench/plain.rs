@@ -6,6 +6,8 @@ use std::time::Instant;
 
 #[path = "plain/frames.rs"]
 mod frames;
+#[path = "plain/node.rs"]
+mod node;
 
 const ROUND_CONSTANTS: [u32; 64] = [
     0x428a2f98, 0x71374491, 0xb5c0fbcf, 0xe9b5dba5, 0x3956c25b, 0x59f111f1, 0x923f82a4, 0xab1c5ed5, 0xd807aa98, 0x12835b01, 0x243185be, 0x550c7dc3,
@@ -140,6 +142,7 @@ fn from_bytes(bytes: &[u8]) -> Option<(Vec<Process>, [u8; 32])> {
 }
 
 /// The fast round of n members: a bit for each position heard and a counter for each value.
+#[derive(Clone)]
 struct FastRound {
     size: usize,
     heard: [u64; 16],
@@ -201,6 +204,9 @@ fn measure_bytes(name: &str, cuts: &[Vec<Process>]) {
 }
 
 fn main() {
+    if std::env::args().nth(1).as_deref() == Some("step_bytes") {
+        return node::measure_bytes();
+    }
     let members: Vec<Process> = (1..=1024).map(process).collect();
     measure("rings_new", 1, 20, || {
         black_box(rings(black_box(&members), 16));
@@ -226,4 +232,5 @@ fn main() {
     measure_bytes("round_bytes_one_cut", &cuts[..1]);
     measure_bytes("round_bytes_own_cuts", &cuts);
     frames::measure_all();
+    node::measure_all();
 }

@@ -11,9 +11,18 @@ fi
 room=$(mktemp -d)
 trap 'rm -r "$room"' EXIT
 rustc -O --edition 2021 -o "$room/plain" bench/plain.rs
-[ $# -gt 0 ] || set -- votes memory rings_new rings_next from_bytes frames
-"$program" "$@" >"$room/proved.txt"
+rustc -O --edition 2021 --crate-type cdylib -C panic=abort -o "$room/allocated.so" bench/plain/allocated.rs
+[ $# -gt 0 ] || set -- votes memory rings_new rings_next from_bytes frames steps step_bytes
 "$room/plain" >"$room/plain.txt"
-awk 'BEGIN { printf "%-22s %12s %12s %8s\n", "figure", "proved", "plain", "ratio" }
+LD_PRELOAD="$room/allocated.so" "$room/plain" step_bytes >>"$room/plain.txt"
+for word in "$@"; do
+    case $word in
+        step_bytes) LD_PRELOAD="$room/allocated.so" "$program" "$word" ;;
+        *) "$program" "$word" ;;
+    esac
+done >"$room/proved.txt"
+awk 'BEGIN { printf "%-24s %12s %12s %8s\n", "figure", "proved", "plain", "ratio" }
     NR == FNR { plain[$1] = $2; next }
-    { printf "%-22s %12d %12d %8.2f\n", $1, $2, plain[$1], $2 / plain[$1] }' "$room/plain.txt" "$room/proved.txt"
+    !($1 in plain) { printf "%-24s %12d\n", $1, $2; next }
+    plain[$1] == 0 { printf "%-24s %12d %12d\n", $1, $2, 0; next }
+    { printf "%-24s %12d %12d %8.2f\n", $1, $2, plain[$1], $2 / plain[$1] }' "$room/plain.txt" "$room/proved.txt"

@@ -2,42 +2,40 @@
 use crate::{configuration_bytes, from_bytes, measure, process, Process};
 use std::hint::black_box;
 
-type ConfigId = [u8; 32];
+pub type ConfigId = [u8; 32];
 
 /// From 1 to 1,536 processes, strictly ascending.
-type Cut = Vec<Process>;
+pub type Cut = Vec<Process>;
 
 #[derive(Clone, Copy, PartialEq, Eq)]
-enum Kind {
+pub enum Kind {
     Remove = 1,
     Join = 2,
 }
 
-// whoever takes an alert asks for all of it
-#[allow(dead_code)]
 #[derive(Clone, Copy)]
-struct Alert {
-    observer: Process,
-    subject: Process,
-    ring: u8,
-    kind: Kind,
-    config: ConfigId,
+pub struct Alert {
+    pub observer: Process,
+    pub subject: Process,
+    pub ring: u8,
+    pub kind: Kind,
+    pub config: ConfigId,
 }
 
 #[derive(Clone, Copy)]
-struct Ballot {
-    round: u8,
-    position: u16,
+pub struct Ballot {
+    pub round: u8,
+    pub position: u16,
 }
 
-enum Answer {
+pub enum Answer {
     Safe(ConfigId, Vec<Process>),
     EndpointInUse,
     ConfigurationChanged,
     TooManyJoiners,
 }
 
-enum Body {
+pub enum Body {
     Batch(ConfigId, Vec<Alert>),
     FastVote(ConfigId, Cut),
     Prepare(ConfigId, Ballot),
@@ -53,9 +51,9 @@ enum Body {
     ProbeAck(ConfigId),
 }
 
-struct Message {
-    sender: Process,
-    body: Body,
+pub struct Message {
+    pub sender: Process,
+    pub body: Body,
 }
 
 fn put_cut(out: &mut Vec<u8>, cut: &[Process]) {
@@ -114,7 +112,7 @@ fn kind_of(body: &Body) -> u8 {
 }
 
 /// The frame of a message.
-fn encode(message: &Message) -> Vec<u8> {
+pub fn encode(message: &Message) -> Vec<u8> {
     let mut out = vec![0; 4];
     out.extend_from_slice(&[1, kind_of(&message.body)]);
     out.extend_from_slice(&message.sender);
@@ -267,7 +265,7 @@ impl Reader<'_> {
 }
 
 #[derive(Clone, Copy, Debug, PartialEq, Eq)]
-enum Fault {
+pub enum Fault {
     TooLong,
     BadVersion,
     BadKind,
@@ -295,7 +293,7 @@ fn decode(frame: &[u8]) -> Result<Message, Fault> {
 
 /// The messages of a stream of bytes that comes in pieces.
 #[derive(Default)]
-struct Feed {
+pub struct Feed {
     held: Vec<u8>,
     // how many bytes of those in front were answered
     answered: usize,
@@ -303,7 +301,7 @@ struct Feed {
 }
 
 impl Feed {
-    fn feed(&mut self, piece: &[u8]) {
+    pub fn feed(&mut self, piece: &[u8]) {
         if self.fault.is_some() {
             return;
         }
@@ -314,7 +312,7 @@ impl Feed {
         self.held.extend_from_slice(piece);
     }
 
-    fn next(&mut self) -> Result<Option<Message>, Fault> {
+    pub fn next(&mut self) -> Result<Option<Message>, Fault> {
         if let Some(fault) = self.fault {
             return Err(fault);
         }
@@ -374,18 +372,18 @@ fn measure_feeding(name: &str, frame: &[u8], piece: usize) {
 }
 
 /// The first 128 members on each of sixteen rings.
-fn every_ring() -> Vec<(u8, Process)> {
+pub fn every_ring() -> Vec<(u8, Process)> {
     (1..=128).flat_map(|n| (0..16).map(move |ring| (ring, process(n)))).collect()
 }
 
 /// The batch of an observer that is to remove these members, each on its ring.
-fn batch(observer: Process, config: ConfigId, subjects: &[(u8, Process)]) -> Message {
+pub fn batch(observer: Process, config: ConfigId, subjects: &[(u8, Process)]) -> Message {
     let alert = |&(ring, subject): &(u8, Process)| Alert { observer, subject, ring, kind: Kind::Remove, config };
     Message { sender: observer, body: Body::Batch(config, subjects.iter().map(alert).collect()) }
 }
 
 /// The fast vote of a member for the cut of the processes up to a number.
-fn vote(sender: Process, config: ConfigId, last: u16) -> Message {
+pub fn vote(sender: Process, config: ConfigId, last: u16) -> Message {
     Message { sender, body: Body::FastVote(config, (1..=last).map(process).collect()) }
 }
 

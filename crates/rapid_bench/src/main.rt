@@ -2,6 +2,7 @@
 //! has the figures of both.
 #![tactic(auto)]
 
+mod cluster;
 mod figure;
 mod frames;
 mod from_bytes;
@@ -10,6 +11,7 @@ mod memory;
 mod messages;
 mod rings_new;
 mod rings_next;
+mod steps;
 mod votes;
 
 use anyhow::{Result, bail};
@@ -24,7 +26,9 @@ const USAGE: &str = "rapid_bench WORD.. prints figures, a line each: NAME, a spa
   memory    bytes of a fast round after 1,024 votes, for one cut and for a cut each
   rings_new, rings_next    nanoseconds of the sixteen rings of 1,024 members, from nothing and after one left and one joined
   from_bytes    nanoseconds of a configuration of 1,024 members, read from its bytes
-  frames    nanoseconds of a thousand bytes of frames, written, and read in pieces";
+  frames    nanoseconds of a thousand bytes of frames, written, and read in pieces
+  steps     nanoseconds of a step of a node and of a copy of one, at 5, 100 and 1,024 members
+  step_bytes    bytes that are held after a step or a copy and were not before";
 
 /// Prints the figures of a word.
 fn print_figures<R: Print + Clock + Files + Alloc>(
@@ -46,6 +50,8 @@ fn print_more<R: Print + Clock + Files + Alloc>(rt: &R, alloc: Global, word: &st
     match word {
         "from_bytes" => from_bytes::print(rt, alloc),
         "frames" => frames::print(rt, alloc),
+        "steps" => steps::print(rt, alloc),
+        "step_bytes" => steps::print_bytes(rt, alloc),
         other => bail!("no figure is called {other}"),
     }
 }
