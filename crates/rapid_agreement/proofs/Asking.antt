@@ -376,7 +376,7 @@ module _ {X : Type 0} (members : List X) (place : X → ℕ) (places : map place
 
 -- ---- the promise that completes the quorum
 
-completes : (c : Coordinator) (p : ℕ) (b : Ballot) (vote : Option (Vote Cut)) (own : Option Cut) (v : Cut) → accept_cut c p b vote own ≡ Some v →
+pub completes : (c : Coordinator) (p : ℕ) (b : Ballot) (vote : Option (Vote Cut)) (own : Option Cut) (v : Cut) → accept_cut c p b vote own ≡ Some v →
     (counts_promise c p b ≡ true) × (set.len c.heard + 1 ≡ classic_size c.size) × (value_of (after_report c p b vote) own ≡ Some v)
 unfolding accept_cut
 completes c p b vote own v e = by (completes_promises c p b) refl e

@@ -193,16 +193,16 @@ tops_report c p (Some w) ys h = tops_by c p w ys c.top refl h
 
 -- ---- which promises count
 
-ignored : (c : Coordinator) (p : ℕ) (b : Ballot) (vote : Option (Vote Cut)) → counts_promise c p b ≡ false → after_report c p b vote ≡ c
+pub ignored : (c : Coordinator) (p : ℕ) (b : Ballot) (vote : Option (Vote Cut)) → counts_promise c p b ≡ false → after_report c p b vote ≡ c
 unfolding after_report
 ignored c p b vote h = rw h refl
 
-taken : (c : Coordinator) (p : ℕ) (b : Ballot) (vote : Option (Vote Cut)) → counts_promise c p b ≡ true → after_report c p b vote ≡ with_report (record c { heard = set.insert c.heard p }) vote
+pub taken : (c : Coordinator) (p : ℕ) (b : Ballot) (vote : Option (Vote Cut)) → counts_promise c p b ≡ true → after_report c p b vote ≡ with_report (record c { heard = set.insert c.heard p }) vote
 unfolding after_report
 taken c p b vote h = rw h refl
 
 -- what a report leaves alone
-size_kept : (c : Coordinator) (vote : Option (Vote Cut)) → ((with_report c vote).size ≡ c.size) × ((with_report c vote).position ≡ c.position) × ((with_report c vote).ballot ≡ c.ballot) × ((with_report c vote).heard ≡ c.heard)
+pub size_kept : (c : Coordinator) (vote : Option (Vote Cut)) → ((with_report c vote).size ≡ c.size) × ((with_report c vote).position ≡ c.position) × ((with_report c vote).ballot ≡ c.ballot) × ((with_report c vote).heard ≡ c.heard)
 size_kept c None = (refl, refl, refl, refl)
 size_kept c (Some w) = by (is_ballot c.top w.ballot) (is_above c.top w.ballot)
   where

@@ -1,6 +1,7 @@
 -- Batches: the alerts that go out together.
 use Rattle.std.specs.Prelude.{◌&&◌, Bool, not, List, [], ◌∷◌, length, nat_lt, if◌then◌else◌, Option, Some, None}
 use Rattle.std.specs.List.{list_all}
+use Rattle.rapid_model.specs.Limits.{most_alerts}
 use Rattle.rapid_model.specs.Process.{same_bytes}
 use Rattle.rapid_model.specs.Alert.{Alert}
 
@@ -22,7 +23,7 @@ is_alike a b = same_bytes b.observer a.observer && same_bytes b.config a.config
 abbrev pub batch_fault : List Alert → Option BatchFault
 batch_fault [] = Some EmptyBatch
 batch_fault (a ∷ xs) =
-    if nat_lt 2048 (length (a ∷ xs)) then Some TooManyAlerts
+    if nat_lt most_alerts (length (a ∷ xs)) then Some TooManyAlerts
     else if not (list_all (is_alike a) xs) then Some MixedAlerts
     else None
 

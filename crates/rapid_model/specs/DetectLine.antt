@@ -1,6 +1,7 @@
 -- The commands of `detect`, and the lines that spell them.
 use Rattle.std.specs.Prelude.{ℕ, List, [], ◌∷◌, bytes_eq, codes, if◌then◌else◌, Option, Some, None}
 use Rattle.std.specs.Option.{option_and_then, option_map}
+use Rattle.rapid_model.specs.Bytes.{Word}
 use Rattle.rapid_model.specs.Process.{Process, same_bytes}
 use Rattle.rapid_model.specs.Configuration.{Params}
 use Rattle.rapid_model.specs.Alert.{Kind, Remove, Join}
@@ -27,7 +28,7 @@ marks (Some k) (Some h) (Some l) = Some (record { k = k; h = h; l = l })
 marks _ _ _ = None
 
 -- K, H and L, each from 0 to 255.
-abbrev pub marks_in : List (List ℕ) → Option Params
+abbrev pub marks_in : List Word → Option Params
 marks_in (k ∷ h ∷ l ∷ []) = marks (number_up_to 255 k) (number_up_to 255 h) (number_up_to 255 l)
 marks_in _ = None
 
@@ -37,12 +38,12 @@ place (Some k) (Some o) (Some s) = Some (record { ring = k; observer = o; subjec
 place _ _ _ = None
 
 -- A ring from 0 to 255, an observer and a subject.
-abbrev pub place_in : List (List ℕ) → Option Place
+abbrev pub place_in : List Word → Option Place
 place_in (k ∷ o ∷ s ∷ []) = place (number_up_to 255 k) (named o) (named s)
 place_in _ = None
 
 -- One process.
-abbrev pub process_in : List (List ℕ) → Option Process
+abbrev pub process_in : List Word → Option Process
 process_in (p ∷ []) = named p
 process_in _ = None
 
@@ -51,12 +52,12 @@ abbrev pub edge_at : Place → Option DetectLine
 edge_at x = if same_bytes x.observer x.subject then None else Some (Edge x)
 
 -- A batch has no words but its name.
-abbrev pub batch_in : List (List ℕ) → Option DetectLine
+abbrev pub batch_in : List Word → Option DetectLine
 batch_in [] = Some Batch
 batch_in _ = None
 
 -- The command of a name and its words, if there is one.
-abbrev pub command_named : List ℕ → List (List ℕ) → Option DetectLine
+abbrev pub command_named : Word → List Word → Option DetectLine
 command_named name ws =
     if bytes_eq name (codes "watermarks") then option_map Watermarks (marks_in ws)
     else if bytes_eq name (codes "joiner") then option_map Joiner (process_in ws)

@@ -1,6 +1,8 @@
 -- What `detect` prints: the state of a run, which lines are refused, and the output of an input.
 use Rattle.std.specs.Prelude.{ℕ, ◌+◌, Bool, true, false, not, ◌==◌, List, [], ◌∷◌, ◌++◌, length, flat_map, codes, decimal, nat_lt, if◌then◌else◌, Option, Some, None, is_some}
 use Rattle.std.specs.Option.{option_map}
+use Rattle.rapid_model.specs.Limits.{most_joiners}
+use Rattle.rapid_model.specs.Bytes.{Line, Word, Text}
 use Rattle.rapid_model.specs.Cut.{Cut}
 use Rattle.rapid_model.specs.Configuration.{Params}
 use Rattle.rapid_model.specs.Reading.{are_params}
@@ -52,13 +54,13 @@ asked_command None = Unknown
 asked_command (Some c) = Command c
 
 -- What the words of a line ask for.
-abbrev pub asked_words : Option (List (List ℕ)) → Asked
+abbrev pub asked_words : Option (List Word) → Asked
 asked_words None = Unknown
 asked_words (Some []) = Nothing
 asked_words (Some (name ∷ ws)) = asked_command (command_named name ws)
 
 -- What a line asks for.
-unfoldable pub asked : List ℕ → Asked
+unfoldable pub asked : Line → Asked
 asked line = asked_words (line_words line)
 
 -- ---- refusals
@@ -77,7 +79,7 @@ early_refusal _ = Some NoWatermarks
 -- Why a command is refused once `watermarks` was taken: the first that holds.
 abbrev pub later_refusal : Detection → DetectLine → Option DetectRefusal
 later_refusal d (Watermarks params) = Some BadLine
-later_refusal d (Joiner p) = if d.is_reporting then Some TooLate else if nat_lt d.joiner_lines 512 then None else Some TooMany
+later_refusal d (Joiner p) = if d.is_reporting then Some TooLate else if nat_lt d.joiner_lines most_joiners then None else Some TooMany
 later_refusal d (Edge x) =
     if d.is_reporting then Some TooLate
     else if not (nat_lt d.edge_lines 16384) then Some TooMany
@@ -140,7 +142,7 @@ after s (Command c) = if is_some (refusal s c) then s else taking s c
 -- ---- the output
 
 -- The name of a refusal.
-abbrev pub refusal_name : DetectRefusal → List ℕ
+abbrev pub refusal_name : DetectRefusal → Text
 refusal_name BadLine = codes "BadLine"
 refusal_name NoWatermarks = codes "NoWatermarks"
 refusal_name BadParams = codes "BadParams"
@@ -150,43 +152,43 @@ refusal_name RingRange = codes "RingRange"
 refusal_name EdgeTwice = codes "EdgeTwice"
 
 -- The line that a refused line prints.
-abbrev pub refusal_line : DetectRefusal → List ℕ
+abbrev pub refusal_line : DetectRefusal → Text
 refusal_line r = codes "refused " ++ refusal_name r ++ line_feed ∷ []
 
 -- A cut, or that there is none.
-abbrev pub cut_text : Option Cut → List ℕ
+abbrev pub cut_text : Option Cut → Text
 cut_text None = codes "none"
 cut_text (Some v) = codes "cut" ++ flat_map (λ p. space ∷ decimal (number_of p)) v
 
 -- How many alerts were skipped, where some were.
-abbrev pub skipped_text : ℕ → List ℕ
+abbrev pub skipped_text : ℕ → Text
 skipped_text n = if n == 0 then [] else codes " skipped " ++ decimal n
 
 -- The line that a batch prints.
-abbrev pub batch_line : Detection → List ℕ
+abbrev pub batch_line : Detection → Text
 batch_line d = cut_text (batch_cut (observers_in d) d.detector d.alerts) ++ skipped_text (detector_after d).skipped ++ line_feed ∷ []
 
 -- What a command that is taken prints: only a batch prints a line.
-abbrev pub taken_text : Run → DetectLine → List ℕ
+abbrev pub taken_text : Run → DetectLine → Text
 taken_text (Some d) Batch = batch_line d
 taken_text _ _ = []
 
 -- What a command prints that is refused for this reason, or is taken.
-abbrev pub command_text : Run → DetectLine → Option DetectRefusal → List ℕ
+abbrev pub command_text : Run → DetectLine → Option DetectRefusal → Text
 command_text s c (Some r) = refusal_line r
 command_text s c None = taken_text s c
 
 -- What a line prints.
-unfoldable pub printed : Run → Asked → List ℕ
+unfoldable pub printed : Run → Asked → Text
 printed s Nothing = []
 printed s Unknown = refusal_line BadLine
 printed s (Command c) = command_text s c (refusal s c)
 
 -- What these lines print, from a state on.
-abbrev pub text_of_lines : Run → List (List ℕ) → List ℕ
+abbrev pub text_of_lines : Run → List Line → Text
 text_of_lines s [] = []
 text_of_lines s (line ∷ ls) = printed s (asked line) ++ text_of_lines (after s (asked line)) ls
 
 -- The output of an input.
-abbrev pub detect_text : List ℕ → List ℕ
+abbrev pub detect_text : Text → Text
 detect_text input = text_of_lines None (lines input)

@@ -1,6 +1,8 @@
 -- The lines of an input, and the words and numbers in a line.
 use Rattle.std.specs.Prelude.{ℕ, Bool, true, false, not, ◌&&◌, ◌==◌, List, [], ◌∷◌, filter, length, nat_le, if◌then◌else◌, Option, Some, None}
 use Rattle.std.specs.List.{list_all}
+use Rattle.rapid_model.specs.Limits.{longest_line}
+use Rattle.rapid_model.specs.Bytes.{Line, Word, Text}
 use Rattle.rapid_model.specs.EndpointText.{in_front, is_number, value_of}
 
 -- The byte that ends a line.
@@ -25,7 +27,7 @@ ends_here [] = false
 ends_here (x ∷ xs) = x == line_feed
 
 -- The lines of an input: a line feed ends a line, the last line may lack it, and one carriage return before it is dropped.
-abbrev pub lines : List ℕ → List (List ℕ)
+abbrev pub lines : Text → List Line
 lines [] = []
 lines (x ∷ xs) =
     if x == line_feed then [] ∷ lines xs
@@ -37,32 +39,32 @@ abbrev pub is_allowed : ℕ → Bool
 is_allowed b = nat_le space b && nat_le b 126
 
 -- A line has at most 256 bytes, all of them allowed.
-abbrev pub is_plain : List ℕ → Bool
-is_plain line = nat_le (length line) 256 && list_all is_allowed line
+abbrev pub is_plain : Line → Bool
+is_plain line = nat_le (length line) longest_line && list_all is_allowed line
 
 -- The pieces of a line between its spaces.
-abbrev pub pieces : List ℕ → List (List ℕ)
+abbrev pub pieces : Line → List Word
 pieces [] = [] ∷ []
 pieces (x ∷ xs) = if x == space then [] ∷ pieces xs else in_front x (pieces xs)
 
 -- A piece is a word where it has a byte.
-abbrev pub is_word : List ℕ → Bool
+abbrev pub is_word : Word → Bool
 is_word [] = false
 is_word (x ∷ xs) = true
 
 -- The words of a line are its pieces that are not empty.
-abbrev pub words : List ℕ → List (List ℕ)
+abbrev pub words : Line → List Word
 words line = filter is_word (pieces line)
 
 -- The first byte of the line is a hash.
-abbrev pub is_comment : List ℕ → Bool
+abbrev pub is_comment : Line → Bool
 is_comment [] = false
 is_comment (x ∷ xs) = x == hash
 
 -- The words that a line says: none where the line is bad, no words where it is passed over.
-abbrev pub line_words : List ℕ → Option (List (List ℕ))
+abbrev pub line_words : Line → Option (List Word)
 line_words line = if not (is_plain line) then None else if is_comment line then Some [] else Some (words line)
 
 -- The number that a word spells, without a needless zero in front, if it is one up to the limit.
-abbrev pub number_up_to : ℕ → List ℕ → Option ℕ
+abbrev pub number_up_to : ℕ → Word → Option ℕ
 number_up_to limit w = if is_number 20 limit w then Some (value_of w) else None

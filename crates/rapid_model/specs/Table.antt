@@ -3,6 +3,7 @@ use Rattle.std.specs.Prelude.{ℕ, ◌≤◌, Bool, not, ◌&&◌, map, replicat
 use Rattle.std.specs.FinSet as set
 use Rattle.std.specs.FinMap as finmap
 use Rattle.std.specs.Coded.{Coded, code_by, coded×, coded_ℕ}
+use Rattle.rapid_model.specs.Limits.{most_members}
 use Rattle.rapid_model.specs.Process.{Process, ProcessSet}
 use Rattle.rapid_model.specs.Configuration.{Params, AreParams}
 use Rattle.rapid_model.specs.Ring.{Observers}
@@ -40,7 +41,7 @@ observed_members t = set.difference (table_subjects t.edges) t.joiners
 -- One more subject would be the 1,025th that is no joiner.
 abbrev pub is_too_many : Table → Process → Bool
 is_too_many t subject =
-    not (set.contains t.joiners subject) && not (set.contains (observed_members t) subject) && not (nat_lt (set.len (observed_members t)) 1024)
+    not (set.contains t.joiners subject) && not (set.contains (observed_members t) subject) && not (nat_lt (set.len (observed_members t)) most_members)
 
 -- Why an edge is refused: the first that holds.
 unfoldable pub add_fault : Table → ℕ → Process → Option TableFault
@@ -61,7 +62,7 @@ after_joiner t joiner = record t { joiners = set.insert t.joiners joiner }
 -- Parameters are in order, and at most 1,024 members are observed.
 pub record IsTable (t : Table) : Type 0 where
   pub params : AreParams t.params
-  pub few : set.len (observed_members t) ≤ 1024
+  pub few : set.len (observed_members t) ≤ most_members
 
 -- The observers of a table are those of its edges, and its identifier is 32 zero bytes.
 unfoldable pub table_observers : Table → Observers

@@ -1,25 +1,15 @@
 -- Each configuration that was installed is made of the founding one by cuts, each of which ended the one before.
-use Rattle.std.proofs.Common.{◌≡◌, inl, inr, List, [], ◌∷◌, ◌++◌, map, refl, sym, ap, subst, ◌∙◌, Some, None}
-use Rattle.rapid_model.specs.Process.{Process}
-use Rattle.rapid_model.specs.Cut.{Cut}
-use Rattle.rapid_model.specs.Configuration.{Configuration, AreMembers}
-use Rattle.rapid_model.specs.Apply.{apply}
-use Rattle.rapid_model.specs.Message.{Message}
-use Rattle.rapid_model.specs.Node.{Member, MemberState, member_config}
-use Rattle.rapid_model.specs.World.{World, Installed, Entry, MarkedEvent}
-use Rattle.rapid_model.specs.Run.{run, founded}
-use Rattle.rapid_model.specs.Agreement.{EachChange}
-use Rattle.rapid_model.proofs.Lists.{In}
+use Rattle.std.proofs.Common.{◌≡◌, inl, inr, List, [], ◌∷◌, ◌++◌, refl, sym, ap, subst, ◌∙◌, Some}
+use Rattle.rapid_safety.proofs.Values.{Cut, Configuration, AreMembers, apply, Message}
+use Rattle.rapid_safety.proofs.Working.{Member, MemberState, member_config}
+use Rattle.rapid_safety.proofs.Worlds.{World, Installed, Entry, MarkedEvent, run, founded, EachChange}
+use Rattle.rapid_safety.proofs.Basics.{In}
 use Rattle.rapid_safety.proofs.Atoms.{Lives}
-use Rattle.rapid_safety.proofs.Polls.{Distinct}
-use Rattle.rapid_safety.proofs.Distinct.{distinct_apply}
-use Rattle.rapid_safety.proofs.Steps.{Steps}
-use Rattle.rapid_safety.proofs.StepLemmas.{run_keeps}
-use Rattle.rapid_safety.proofs.Present.{WasInstalled}
+use Rattle.rapid_safety.proofs.Steps.{Steps, run_keeps}
+use Rattle.rapid_safety.proofs.Nodes.{WasInstalled, acts_then, InstallKind, by_member, by_joiner, install_kind_of, move_present}
 use Rattle.rapid_safety.proofs.News.{Moves, InstalledNow, installed_new}
-use Rattle.rapid_safety.proofs.MoveKinds.{acts_then, InstallKind, by_member, by_joiner, install_kind_of}
-use Rattle.rapid_safety.proofs.Told.{Confirmed, move_present, Histories, histories_kept, histories_founded}
-use Rattle.rapid_safety.proofs.Founding.{founders_differ}
+use Rattle.rapid_safety.proofs.Told.{Confirmed, Histories, histories_kept, histories_founded}
+use Rattle.rapid_safety.proofs.Members.{of_map, Distinct, distinct_apply, founders_differ}
 
 -- the configuration that these cuts make of c
 abbrev pub reached : Configuration → List Cut → Configuration
@@ -75,20 +65,15 @@ module _ (P : World → Configuration → Cut → Type 0) (f : Configuration) wh
       kind m _ (by_member t heard u x at life) =
           let p = move_present w v m t.config k.present (ap member_config at) in
           descends_on v t.config x (descends_more w v g t.config (old p.0 t.config p.1 p.3)) (new m t heard u x at life)
-      kind m c (by_joiner from _ said) =
+      kind m c (by_joiner j from _ at said member) =
           let p = k.confirmed said.0 said.1 c said.2 said.4 in
           descends_more w v g c (old p.0 c p.1 p.3)
 
       by : InstalledNow w v e d → Descends v d
       by x = kind x.move d (install_kind_of w v x.move k.lived k.said d x.act)
 
-  opened : (ms : List Process) (e : Entry) (d : Configuration) → In (map (λ p. record { who = p; at = None; act = Installed f }) ms) e → e.act ≡ Installed d → f ≡ d
-  opened [] e d h is = absurd h
-  opened (m ∷ ms) e d (inl s) is = let z : Installed f ≡ Installed d = ap (λ (x : Entry). x.act) s ∙ is in cc
-  opened (m ∷ ms) e d (inr i) is = opened ms e d i is
-
   pub descent_founded : Descent (founded f)
-  descent_founded e d h is = ([], tt, opened f.members e d h is)
+  descent_founded e d h is = let r = of_map _ f.members e h in let z : Installed f ≡ Installed d = ap (λ (x : Entry). x.act) r.2 ∙ is in ([], tt, cc)
 
 -- ---- members that differ
 

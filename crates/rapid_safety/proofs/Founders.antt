@@ -1,11 +1,7 @@
 -- The two founders of the worked runs can found a configuration.
 use Rattle.std.proofs.Common.{◌≡◌, ◌<◌, ◌==◌, ℕ, Bool, true, ◌&&◌, length, refl, arith}
-use Rattle.std.specs.Prelude.{nat_lt}
-use Rattle.std.specs.List.{list_all}
-use Rattle.std.proofs.lemmas.Bool.{and_parts, eqb-true}
-use Rattle.std.proofs.lemmas.List.Sums.{AllPass-from_list_all}
-use Rattle.rapid_model.specs.Process.{Process, IsProcess}
-use Rattle.rapid_model.specs.Configuration.{AreParams, AreMembers}
+use Rattle.rapid_safety.proofs.Basics.{nat_lt, list_all, and_parts, eqb-true, AllPass-from_list_all}
+use Rattle.rapid_safety.proofs.Values.{Process, IsProcess, AreParams, AreMembers}
 use Rattle.rapid_safety.specs.Examples.{two}
 
 below : (m n : ℕ) → nat_lt m n ≡ true → m < n

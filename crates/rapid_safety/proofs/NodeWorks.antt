@@ -1,27 +1,12 @@
--- What a step makes of a member: it goes on in its configuration, or installs the next.
-use Rattle.std.proofs.Common.{◌≡◌, ◌+◌, ℕ, Bool, true, false, cond, List, [], ◌∷◌, ◌++◌, map, refl, sym, ap, subst, ◌∙◌, Option, Some, None, append_assoc, length, arith}
-use Rattle.std.specs.Prelude.{flat_map, nat_lt}
-use Rattle.rapid_model.specs.Process.{Process}
-use Rattle.rapid_model.specs.Cut.{Cut}
-use Rattle.rapid_model.specs.Configuration.{Configuration, configuration_id, stamp, is_member}
-use Rattle.rapid_model.specs.Apply.{apply}
-use Rattle.rapid_model.specs.Host.{HostAnswer, Nothing, Replies, Confirms, Raises, confirms}
-use Rattle.rapid_model.specs.Message.{Message}
-use Rattle.rapid_model.specs.Node.{Node, Member, Removed, MemberState, Effect, Outcome, shown_in, configuration_of, fresh_member}
-use Rattle.rapid_model.specs.Member.{Work}
-use Rattle.rapid_model.specs.Receive.{answer_to}
-use Rattle.rapid_model.specs.NodeStep.{last_64, phase_in, is_history_full, install, stays_member, put_before, settle_at, settle}
-use Rattle.rapid_model.specs.World.{Act, Did, Installed}
-use Rattle.rapid_model.specs.WorldStep.{install_acts, acts_of}
-use Rattle.rapid_model.specs.History.{taken_by}
-use Rattle.rapid_safety.proofs.Atoms.{taken_in, IsMark, Lives, leaves}
-use Rattle.rapid_safety.proofs.Kept.{lives_config}
-use Rattle.rapid_safety.proofs.Works.{own, LivesOn}
-use Rattle.rapid_safety.proofs.TickWorks.{map-append, filter_map-append}
-
-pub nil_end : {A : Type 0} (xs : List A) → xs ++ [] ≡ xs
-nil_end [] = refl
-nil_end (x ∷ xs) = ap (λ l. x ∷ l) (nil_end xs)
+-- What each event makes of a member.
+use Rattle.std.proofs.Common.{◌≡◌, ◌+◌, ℕ, Bool, true, false, cond, List, [], ◌∷◌, ◌++◌, map, refl, sym, ap, subst, ◌∙◌, Option, Some, None, append_assoc, length, arith, append-nil, inl}
+use Rattle.rapid_safety.proofs.Basics.{flat_map, nat_lt, filter_map, filter_map-append, map-append, cond_both, In, in_right, in_filter}
+use Rattle.rapid_safety.proofs.Values.{Process, Cut, Configuration, configuration_id, stamp, is_member, apply, Message, Alert, Remove}
+use Rattle.rapid_safety.proofs.Parts.{HostAnswer, Nothing, Replies, Confirms, Raises, confirms, HasDownStretch}
+use Rattle.rapid_safety.proofs.Working.{Node, Member, Removed, MemberState, Effect, Outcome, shown_in, configuration_of, fresh_member, Phase, EdgeDown, Tick, Receive, Work, still, raise_alert, answer_to, receive_as_member, last_64, phase_in, is_history_full, install, stays_member, put_before, settle_at, settle, node_step, step_tick, step_receive, step_edge_down, on_tick}
+use Rattle.rapid_safety.proofs.Worlds.{Act, Did, Installed, Took, Ticked, Probed, install_acts, acts_of, taken_by, result_on}
+use Rattle.rapid_safety.proofs.Atoms.{taken_in, IsMark, Lives, leaves, lives_config, went_down, marks, raises, does, lives_me}
+use Rattle.rapid_safety.proofs.Rows.{own, LivesOn, receive_works, tick_works, rests_still, as_me}
 
 -- the node in the next configuration
 abbrev pub next_node : Node → Configuration → Cut → Node
@@ -46,7 +31,7 @@ AllMarks (a ∷ xs) = IsMark a × AllMarks xs
 
 leaves_all : (c : Configuration) (me : Process) (acts : List Act) (heard : List Message) (s : MemberState) (v : Cut) (xs : List Act) → AllMarks xs → Lives c me acts heard s (Some v) → Lives c me (acts ++ xs) heard s (Some v)
 unfolding AllMarks
-leaves_all c me acts heard s v [] h l = subst (λ a. Lives c me a heard s (Some v)) (sym (nil_end acts)) l
+leaves_all c me acts heard s v [] h l = subst (λ a. Lives c me a heard s (Some v)) (sym (append-nil acts)) l
 leaves_all c me acts heard s v (a ∷ xs) h l =
     subst (λ a. Lives c me a heard s (Some v)) (append_assoc acts (a ∷ []) xs) (leaves_all c me (acts ++ a ∷ []) heard s v xs h.1 (leaves acts heard s v a l h.0))
 
@@ -97,11 +82,7 @@ below_next m n e = Prim.grind arith
 -- a configuration that is entered is shown
 pub shown_next : (c : Configuration) (me : Process) → shown_in (phase_in c me) ≡ Some c
 unfolding fresh_member
-shown_next c me = by (is_member c me)
-  where
-    by : (b : Bool) → shown_in (cond b (Member (fresh_member c me)) (Removed c)) ≡ Some c
-    by true = refl
-    by false = refl
+shown_next c me = cond_both (is_member c me) (Member (fresh_member c me)) (Removed c) (λ p. shown_in p ≡ Some c) (λ e. refl) (λ e. refl)
 
 pub install_act : (n : Node) (c : Configuration) (v : Cut) → install_acts n (next_node n c v) (configuration_of (next_node n c v)) ≡ Installed (apply c v) ∷ []
 install_act n c v =
@@ -129,7 +110,7 @@ module _ (c : Configuration) (n : Node) (acts before : List Act) (heard ms : Lis
       let out : Outcome = stays_member n.me n.installed n.decisions w in
       let same : out ≡ o = cc in
       let is : (acts ++ before) ++ map Did w.effects ≡ acts ++ acts_of before n out =
-      append_assoc acts before (map Did w.effects) ∙ ap (λ l. acts ++ l) (sym (nil_end (before ++ map Did w.effects)) ∙ ap (λ l. (before ++ map Did w.effects) ++ l) (sym (no_install_act n w.state))) in
+      append_assoc acts before (map Did w.effects) ∙ ap (λ l. acts ++ l) (sym (append-nil (before ++ map Did w.effects)) ∙ ap (λ l. (before ++ map Did w.effects) ++ l) (sym (no_install_act n w.state))) in
       subst (λ (x : Outcome). Stepped c acts n (acts_of before n x) x.node) same
       (goes_on (heard ++ (ms ++ own n.me w.effects)) w.state
       (subst (λ a. Lives c n.me a (heard ++ (ms ++ own n.me w.effects)) w.state None) is (subst (λ d. Lives c n.me ((acts ++ before) ++ map Did w.effects) (heard ++ (ms ++ own n.me w.effects)) w.state d) e life))
@@ -151,10 +132,10 @@ module _ (c : Configuration) (n : Node) (acts before : List Act) (heard ms : Lis
           let acts_are : (((acts ++ before) ++ map Did w.effects) ++ map Did conf) ++ Installed (apply t.config v) ∷ [] ≡ acts ++ acts_of before n out = regroup acts before (map Did w.effects) (map Did conf) (Installed (apply t.config v) ∷ []) ∙ ap (λ l. acts ++ l) (installed_acts n t.config v before w.effects conf) in
           let done : List Act = ((acts ++ before) ++ map Did w.effects) ++ map Did conf in
           let none_more : taken_in n.me (done ++ Installed (apply t.config v) ∷ []) ≡ taken_in n.me ((acts ++ before) ++ map Did w.effects) =
-          filter_map-append (taken_by n.me) done (Installed (apply t.config v) ∷ []) ∙ nil_end (taken_in n.me done)
+          filter_map-append (taken_by n.me) done (Installed (apply t.config v) ∷ []) ∙ append-nil (taken_in n.me done)
           ∙ filter_map-append (taken_by n.me) ((acts ++ before) ++ map Did w.effects) (map Did conf)
           ∙ ap (λ l. taken_in n.me ((acts ++ before) ++ map Did w.effects) ++ l) (all_answers_taken n.me (confirms (apply t.config v) t.pending))
-          ∙ nil_end (taken_in n.me ((acts ++ before) ++ map Did w.effects)) in
+          ∙ append-nil (taken_in n.me ((acts ++ before) ++ map Did w.effects)) in
           let heard_all : hs ≡ taken_in n.me (acts ++ acts_of before n out) = all_heard ∙ sym none_more ∙ ap (taken_in n.me) acts_are in
           subst (λ (x : Outcome). Stepped c acts n (acts_of before n x) x.node) same
           (subst (λ d. Stepped c acts n (acts_of before n out) (next_node n d v)) (sym at)
@@ -166,3 +147,40 @@ module _ (c : Configuration) (n : Node) (acts before : List Act) (heard ms : Lis
   pub settled_steps : (o : Outcome) → settle n.me n.installed n.decisions w ≡ Some o → Stepped c acts n (acts_of before n o) o.node
   unfolding settle
   settled_steps o h = settle_on w.decided refl o h
+
+-- ---- what each event makes of a member
+
+-- a member, all of whose messages were heard
+module _ (c : Configuration) (n : Node) (acts : List Act) (heard : List Message) (s : MemberState) (l : Lives c n.me acts heard s None) (sync : heard ≡ taken_in n.me acts) (member : n.phase ≡ Member s) where
+  mine : s.me ≡ n.me
+  mine = lives_me c n.me acts heard s None l
+
+  taken_more : (a : Act) → heard ++ taken_in n.me (a ∷ []) ≡ taken_in n.me (acts ++ a ∷ [])
+  taken_more a = ap (λ h. h ++ taken_in n.me (a ∷ [])) sync ∙ sym (filter_map-append (taken_by n.me) acts (a ∷ []))
+
+  pub ticks_step : (o : Outcome) → node_step n Tick ≡ Some o → Stepped c acts n (acts_of (Ticked ∷ []) n o) o.node
+  unfolding node_step
+  ticks_step o h =
+      settled_steps c n acts (Ticked ∷ []) heard [] (on_tick s) (tick_works c n.me acts heard s l (sync ∙ ap (λ p. taken_in p acts) (sym mine))) (taken_more Ticked) o
+      (subst (λ (p : Phase). step_tick n p ≡ Some o) member h)
+
+  pub receive_step : (m : Message) (o : Outcome) → node_step n (Receive m) ≡ Some o → Stepped c acts n (acts_of (Took m ∷ []) n o) o.node
+  unfolding node_step
+  receive_step m o h =
+      let w : Work = receive_as_member n.decisions s m.sender m.body in
+      let one = does acts heard s (Some (Took m)) None s None l (marks (Took m) tt) in
+      let known : In (taken_in s.me (acts ++ Took m ∷ [])) m = in_filter (taken_by s.me) (acts ++ Took m ∷ []) (Took m) m (in_right acts (Took m ∷ []) (Took m) (inl refl)) refl in
+      settled_steps c n acts (Took m ∷ []) heard (m ∷ []) w
+      (as_me c n.me (acts ++ Took m ∷ []) heard (m ∷ []) s w mine (receive_works c n.me (acts ++ Took m ∷ []) heard s one n.decisions m.sender m.body known))
+      (taken_more (Took m)) o
+      (subst (λ (p : Phase). step_receive n p m ≡ Some o) member h)
+
+  pub probe_step : (id : List ℕ) (k : ℕ) (q : Process) (j : ℕ) (ok : Bool) (o : Outcome) → HasDownStretch (filter_map (result_on k) (acts ++ Probed j ok ∷ [])) → node_step n (EdgeDown id k q) ≡ Some o →
+      Stepped c acts n (acts_of (Probed j ok ∷ []) n o) o.node
+  unfolding node_step raise_alert
+  probe_step id k q j ok o down h =
+      let a : Alert = record { observer = s.me; subject = q; ring = k; kind = Remove; config = id } in
+      let one = does acts heard s (Some (Probed j ok)) None s None l (marks (Probed j ok) tt) in
+      let two = does (acts ++ Probed j ok ∷ []) heard s None None _ None one (raises a (went_down id k q down)) in
+      settled_steps c n acts (Probed j ok ∷ []) heard [] (still (raise_alert s a)) (rests_still c n.me (acts ++ Probed j ok ∷ []) heard _ n.me two) (taken_more (Probed j ok)) o
+      (subst (λ (p : Phase). step_edge_down n p id k q ≡ Some o) member h)

@@ -1,41 +1,250 @@
 -- A member that has heard a decision has left.
-use Rattle.std.proofs.Common.{◌≡◌, ◌≤◌, ◌<◌, ◌*◌, ◌+◌, inl, inr, ℕ, suc, Bool, true, false, cond, not, List, [], ◌∷◌, count_by, refl, sym, ap, subst, ◌∙◌, Some, None, length, arith}
-use Rattle.std.specs.Prelude.{position, nat_lt}
-use Rattle.std.specs.List.{position_or_len}
-use Rattle.std.proofs.lemmas.Option.{slice_get-get_or}
-use Rattle.rapid_model.specs.Process.{Process, same_bytes}
-use Rattle.rapid_model.specs.Cut.{Cut, same_cut}
-use Rattle.rapid_model.specs.Configuration.{Configuration, AreMembers, configuration_id}
-use Rattle.rapid_model.specs.Quorum.{size, classic_size, fast_size, IsClassic, IsFast}
-use Rattle.rapid_model.specs.Ballot.{Ballot, fast_ballot}
-use Rattle.rapid_model.specs.FastRound.{count_of}
-use Rattle.rapid_model.specs.Learner.{notice_count}
-use Rattle.rapid_model.specs.Message.{Message, FastVote, Accepted, Decision}
-use Rattle.rapid_model.specs.Node.{Phase, Joining, Member, Removed, Halted, MemberState, member_config}
-use Rattle.rapid_model.specs.World.{Act, MarkedEvent}
-use Rattle.rapid_model.specs.Run.{run, founded}
-use Rattle.rapid_model.specs.History.{received, Received, Sent}
-use Rattle.rapid_model.specs.Prompt.{HeardFromEach, HeardDecision, by_votes, by_notices, by_message, Prompt}
-use Rattle.rapid_model.specs.Agreement.{NoCollision}
-use Rattle.rapid_model.proofs.Lists.{In, in_from, contains_from}
-use Rattle.rapid_model.proofs.Orders.{same_bytes_decides, same_cut_decides}
-use Rattle.rapid_safety.proofs.Atoms.{message, taken_in, Known, Lives}
-use Rattle.rapid_safety.proofs.Kept.{lives_me, lives_placed}
-use Rattle.rapid_safety.proofs.Logs.{acts_at}
-use Rattle.rapid_safety.proofs.LifeSteps.{now_member}
+use Rattle.std.proofs.Common.{◌≡◌, inl, inr, ℕ, Bool, true, false, ◌||◌, ◌==◌, List, refl, sym, ap, subst, ◌∙◌, Option, Some, None, arith, ◌<◌, ◌+◌, cond, not, ◌&&◌, unwrap_or, ◌≤◌, [], ◌∷◌, count_by, length}
+use Rattle.rapid_safety.proofs.Basics.{nat_le, slice_get-get_or, false_from_ne_true, In, in_from, contains_from, same_bytes_decides, notices_total, same_cut_decides}
+use Rattle.std.specs.FinSet as set
+use Rattle.std.specs.FinMap as map
+use Rattle.rapid_safety.proofs.Values.{Process, same_bytes, Cut, cut_cmp, same_cut, Configuration, configuration_id, position_of, AreMembers, Ballot, same_ballot, fast_ballot, Message, Body, FastVote, Accepted, Decision, classic_size, fast_size, IsClassic, IsFast}
+use Rattle.rapid_safety.proofs.Parts.{FastRound, hear_vote, count_of, fast_decision, after_notice, Learner, notice_count, notices_with, completes_notices, learnt}
+use Rattle.rapid_safety.proofs.Working.{MemberState, fresh_member, Phase, Member, member_config, current_id, own_place}
+use Rattle.rapid_safety.proofs.Worlds.{Act, MarkedEvent, run, founded, received, Received, Sent, HeardFromEach, HeardDecision, by_votes, by_notices, by_message, Prompt, NoCollision}
+use Rattle.rapid_model.proofs.Rounds.{heard-hear_vote, hear_vote-heard, hear_vote-new, count_of-one_more}
+use Rattle.rapid_agreement.proofs.SetLemmas.{new_in, old_in, insert_known, len_new_kept}
+use Rattle.rapid_safety.proofs.Atoms.{push, message, IsIdle, Atom, marks, votes_again, ignores, casts, hears_vote, hears_notice, hears_decision, Lives, enters, does, leaves, atom_config, lives_placed, taken_in, Known, lives_me}
+use Rattle.rapid_safety.proofs.Voting.{in_push}
+use Rattle.rapid_safety.proofs.Deciding.{notices_exact, is_of, of_is, no_notices, says_it, says_so, backed_by, lives_votes, lives_notices}
+use Rattle.rapid_safety.proofs.Members.{some_is, position_in, in_is, one_place, Distinct, count_cons, or_right}
+use Rattle.rapid_safety.proofs.Histories.{acts_at, now_member}
 use Rattle.rapid_safety.proofs.Lived.{lived_run}
-use Rattle.rapid_safety.proofs.Lawful.{one_place}
-use Rattle.rapid_safety.proofs.Polls.{Distinct, count_cons}
-use Rattle.rapid_safety.proofs.Backers.{says_it, says_so, backed_by}
-use Rattle.rapid_safety.proofs.Votes.{lives_votes}
-use Rattle.rapid_safety.proofs.Notices.{is_of, lives_notices}
-use Rattle.rapid_safety.proofs.Undecided.{lives_undecided}
-use Rattle.rapid_safety.proofs.Hearing.{lives_hearing, votes_counted}
-use Rattle.rapid_safety.proofs.Spoken.{received_were_said}
-use Rattle.rapid_safety.proofs.Present.{present_run, WasInstalled, was_installed}
+use Rattle.rapid_safety.proofs.News.{received_were_said}
+use Rattle.rapid_safety.proofs.Nodes.{WasInstalled, was_installed}
+use Rattle.rapid_safety.proofs.Told.{present_run}
 use Rattle.rapid_safety.proofs.Descent.{installed_distinct}
-use Rattle.rapid_safety.proofs.Installed.{installed_keeps_rules}
+use Rattle.rapid_safety.proofs.Rules.{installed_keeps_rules}
 use Rattle.rapid_safety.proofs.Steps.{StandsAt}
+
+not_itself : {A : Type 0} (id : List ℕ) → same_bytes id id ≡ false → A
+not_itself id h = let t = (same_bytes_decides id id).1 refl in let wrong : true ≡ false = sym t ∙ h in cc
+
+number_itself : (n : ℕ) → (n == n) ≡ true
+number_itself n = Prim.grind arith
+
+-- the sender and the body of what is heard, if something is
+abbrev heard_sender : Option Message → Option Process
+heard_sender None = None
+heard_sender (Some m) = Some m.sender
+
+abbrev heard_body : Option Message → Option Body
+heard_body None = None
+heard_body (Some m) = Some m.body
+
+-- ---- votes
+
+-- the place of a vote that is taken is counted
+pub own_heard : (f : FastRound) (p : ℕ) (v : Cut) → set.contains (hear_vote f p v).heard p ≡ true
+own_heard f p v = heard-hear_vote f p p v ∙ ap (λ b. b || set.contains f.heard p) (number_itself p)
+
+fast_grows : (acts : List Act) (heard : List Message) (s : MemberState) (a : Option Act) (m : Option Message) (t : MemberState) (d : Option Cut) → Atom acts heard s a m t d → (k : ℕ) → set.contains s.fast.heard k ≡ true → set.contains t.fast.heard k ≡ true
+fast_grows acts heard s _ _ _ _ (marks x h) k e = e
+fast_grows acts heard s _ _ _ _ (hears_vote q p u known there) k e = heard-hear_vote s.fast p k u ∙ or_right (p == k) (set.contains s.fast.heard k) e
+fast_grows acts heard s _ _ _ _ (casts u own ok) k e = heard-hear_vote s.fast (own_place s) k u ∙ or_right (own_place s == k) (set.contains s.fast.heard k) e
+fast_grows acts heard s _ _ _ _ x k e = e
+
+vote_heard : (acts : List Act) (heard : List Message) (s : MemberState) (a : Option Act) (m : Option Message) (t : MemberState) (d : Option Cut) → position_of s.config s.me ≡ Some (own_place s) → (s.voted ≡ true → set.contains s.fast.heard (own_place s) ≡ true) →
+    Atom acts heard s a m t d → (from : Process) (v : Cut) (p : ℕ) → m ≡ Some (message from (FastVote (current_id s) v)) → position_of s.config from ≡ Some p → set.contains t.fast.heard p ≡ true
+vote_heard acts heard s _ _ _ _ mine own (marks x h) from v p e at = cc
+vote_heard acts heard s _ _ _ _ mine own (hears_vote q k u known there) from v p e at =
+    let who : q ≡ from = some_is (ap heard_sender e) in
+    let same : k ≡ p = some_is (sym there ∙ ap (position_of s.config) who ∙ at) in
+    subst (λ n. set.contains (hear_vote s.fast k u).heard n ≡ true) same (own_heard s.fast k u)
+vote_heard acts heard s _ _ _ _ mine own (casts u proposed ok) from v p e at =
+    let same : own_place s ≡ p = some_is (sym mine ∙ ap (position_of s.config) (some_is (ap heard_sender e)) ∙ at) in
+    subst (λ n. set.contains (hear_vote s.fast (own_place s) u).heard n ≡ true) same (own_heard s.fast (own_place s) u)
+vote_heard acts heard s _ _ _ _ mine own (votes_again u voted proposed) from v p e at =
+    let same : own_place s ≡ p = some_is (sym mine ∙ ap (position_of s.config) (some_is (ap heard_sender e)) ∙ at) in
+    subst (λ n. set.contains s.fast.heard n ≡ true) same (own voted)
+vote_heard acts heard s _ _ _ _ mine own (ignores q b known idle) from v p e at =
+    let who : q ≡ from = some_is (ap heard_sender e) in
+    let what : b ≡ FastVote (current_id s) v = some_is (ap heard_body e) in
+    let off : IsIdle s from (FastVote (current_id s) v) = subst (λ x. IsIdle s x (FastVote (current_id s) v)) who (subst (IsIdle s q) what idle) in
+    elim off [ inl h ↦ not_itself (current_id s) h | inr h ↦ (let wrong : None ≡ Some p = sym h ∙ at in cc) ]
+vote_heard acts heard s _ _ _ _ mine own x from v p e at = let body = ap heard_body e in cc
+
+-- who cast its vote counts it
+own_kept : (acts : List Act) (heard : List Message) (s : MemberState) (a : Option Act) (m : Option Message) (t : MemberState) (d : Option Cut) → Atom acts heard s a m t d → (s.voted ≡ true → set.contains s.fast.heard (own_place s) ≡ true) →
+    t.voted ≡ true → set.contains t.fast.heard (own_place t) ≡ true
+own_kept acts heard s _ _ _ _ (marks x h) own e = own e
+own_kept acts heard s _ _ _ _ (casts u proposed ok) own e = own_heard s.fast (own_place s) u
+own_kept acts heard s a m t d x own e = fast_grows acts heard s a m t d x (own_place s) (own e)
+
+-- ---- notices
+
+notice_heard : (acts : List Act) (heard : List Message) (s : MemberState) (a : Option Act) (m : Option Message) (t : MemberState) (d : Option Cut) → Atom acts heard s a m t d →
+    (from : Process) (b : Ballot) (v : Cut) (p : ℕ) → m ≡ Some (message from (Accepted (current_id s) b v)) → position_of s.config from ≡ Some p → set.contains t.learner.notices ((b, v), p) ≡ true
+unfolding after_notice
+notice_heard acts heard s _ _ _ _ (marks x h) from b v p e at = cc
+notice_heard acts heard s _ _ _ _ (hears_notice q k a u known there) from b v p e at =
+    let who : q ≡ from = some_is (ap heard_sender e) in
+    let body : Accepted (current_id s) a u ≡ Accepted (current_id s) b v = some_is (ap heard_body e) in
+    let ballot : a ≡ b = cc in
+    let cut : u ≡ v = cc in
+    let same : k ≡ p = some_is (sym there ∙ ap (position_of s.config) who ∙ at) in
+    subst (λ n. set.contains (set.insert s.learner.notices ((a, u), k)) ((b, v), n) ≡ true) same
+    (subst (λ x. set.contains (set.insert s.learner.notices ((a, u), k)) ((b, x), k) ≡ true) cut
+    (subst (λ x. set.contains (set.insert s.learner.notices ((a, u), k)) ((x, u), k) ≡ true) ballot (new_in notices_total notices_exact s.learner.notices ((a, u), k))))
+notice_heard acts heard s _ _ _ _ (ignores q c known idle) from b v p e at =
+    let who : q ≡ from = some_is (ap heard_sender e) in
+    let what : c ≡ Accepted (current_id s) b v = some_is (ap heard_body e) in
+    let off : IsIdle s from (Accepted (current_id s) b v) = subst (λ x. IsIdle s x (Accepted (current_id s) b v)) who (subst (IsIdle s q) what idle) in
+    elim off [ inl h ↦ not_itself (current_id s) h | inr h ↦ (let wrong : None ≡ Some p = sym h ∙ at in cc) ]
+notice_heard acts heard s _ _ _ _ x from b v p e at = let body = ap heard_body e in cc
+
+notices_grow : (acts : List Act) (heard : List Message) (s : MemberState) (a : Option Act) (m : Option Message) (t : MemberState) (d : Option Cut) → Atom acts heard s a m t d → (x : Ballot × Cut) (k : ℕ) → set.contains s.learner.notices (x, k) ≡ true → set.contains t.learner.notices (x, k) ≡ true
+unfolding after_notice
+notices_grow acts heard s _ _ _ _ (marks y h) x k e = e
+notices_grow acts heard s _ _ _ _ (hears_notice q p a u known there) x k e = old_in notices_total notices_exact s.learner.notices ((a, u), p) (x, k) e
+notices_grow acts heard s _ _ _ _ y x k e = e
+
+-- ---- Decisions
+
+decision_heard : (acts : List Act) (heard : List Message) (s : MemberState) (a : Option Act) (m : Option Message) (t : MemberState) (d : Option Cut) → Atom acts heard s a m t d → d ≡ None → (from : Process) (v : Cut) → m ≡ Some (message from (Decision (current_id s) v)) → ⊥
+decision_heard acts heard s _ _ _ _ (marks x h) none from v e = absurd (cc)
+decision_heard acts heard s _ _ _ _ (hears_decision q u known) none from v e = absurd (cc)
+decision_heard acts heard s _ _ _ _ (ignores q b known idle) none from v e =
+    let what : b ≡ Decision (current_id s) v = some_is (ap heard_body e) in
+    not_itself (current_id s) (subst (IsIdle s q) what idle)
+decision_heard acts heard s _ _ _ _ x none from v e = let body = ap heard_body e in absurd (cc)
+
+-- ---- through a member's life
+
+pub record HearingKept (acts : List Act) (heard : List Message) (s : MemberState) : Type 0 where
+  pub votes : (from : Process) (v : Cut) (p : ℕ) → In heard (message from (FastVote (current_id s) v)) → position_of s.config from ≡ Some p → set.contains s.fast.heard p ≡ true
+  pub own : s.voted ≡ true → set.contains s.fast.heard (own_place s) ≡ true
+  pub notices : (from : Process) (b : Ballot) (v : Cut) (p : ℕ) → In heard (message from (Accepted (current_id s) b v)) → position_of s.config from ≡ Some p → set.contains s.learner.notices ((b, v), p) ≡ true
+  pub decision : (from : Process) (v : Cut) → In heard (message from (Decision (current_id s) v)) → ⊥
+
+hearing_kept : (acts : List Act) (heard : List Message) (s : MemberState) (a : Option Act) (m : Option Message) (t : MemberState) (d : Option Cut) → position_of s.config s.me ≡ Some (own_place s) → Atom acts heard s a m t d → d ≡ None →
+    HearingKept acts heard s → HearingKept (push acts a) (push heard m) t
+hearing_kept acts heard s a m t d mine x none k =
+    record {
+      votes = λ from v p i at. let at' : position_of s.config from ≡ Some p = ap (λ c. position_of c from) (sym config) ∙ at in
+          elim (in_push heard m _ (subst (λ c. In (push heard m) (message from (FastVote (configuration_id c) v))) config i)) [
+            | inl j ↦ fast_grows acts heard s a m t d x p (k.votes from v p j at')
+            | inr e ↦ vote_heard acts heard s a m t d mine k.own x from v p e at'
+          ];
+      own = own_kept acts heard s a m t d x k.own;
+      notices = λ from b v p i at. let at' : position_of s.config from ≡ Some p = ap (λ c. position_of c from) (sym config) ∙ at in
+          elim (in_push heard m _ (subst (λ c. In (push heard m) (message from (Accepted (configuration_id c) b v))) config i)) [
+            | inl j ↦ notices_grow acts heard s a m t d x (b, v) p (k.notices from b v p j at')
+            | inr e ↦ notice_heard acts heard s a m t d x from b v p e at'
+          ];
+      decision = λ from v i. elim (in_push heard m _ (subst (λ c. In (push heard m) (message from (Decision (configuration_id c) v))) config i)) [
+        | inl j ↦ k.decision from v j
+        | inr e ↦ decision_heard acts heard s a m t d x none from v e
+      ];
+    }
+  where
+    config : t.config ≡ s.config
+    config = atom_config acts heard s a m t d x
+
+pub lives_hearing : (c : Configuration) (me : Process) (acts : List Act) (heard : List Message) (s : MemberState) (d : Option Cut) → Lives c me acts heard s d → d ≡ None → HearingKept acts heard s
+unfolding fresh_member
+lives_hearing c me _ _ _ _ (enters k at) none = record { votes = λ from v p i. absurd i; own = λ e. cc; notices = λ from b v p i. absurd i; decision = λ from v i. i }
+lives_hearing c me _ _ _ _ (does acts heard s a m t d l x) none = hearing_kept acts heard s a m t d (lives_placed c me acts heard s None l) x none (lives_hearing c me acts heard s None l refl)
+lives_hearing c me _ _ _ _ (leaves acts heard s v a l mark) none = cc
+
+-- ---- in a life that goes on no counter is complete, and all that was heard is counted
+
+-- neither counter is complete
+pub record Undecided (f : FastRound) (l : Learner) : Type 0 where
+  pub votes : (v : Cut) → count_of f.counts v < fast_size f.size
+  pub notices : (b : Ballot) (v : Cut) → notice_count l.notices b v < classic_size l.size
+  pub decided : l.decided ≡ false
+
+-- ---- a vote that decides nothing
+
+module _ (f : FastRound) (p : ℕ) (v : Cut) (below : (u : Cut) → count_of f.counts u < fast_size f.size) (none : fast_decision f p v ≡ None) where
+  not_full : set.contains f.heard p ≡ false → (count_of f.counts v + 1 == fast_size f.size) ≡ false
+  unfolding fast_decision
+  not_full new =
+      false_from_ne_true _ (λ e.
+      let is : fast_decision f p v ≡ Some v = unfold fast_decision in ap (λ b. cond b None (cond (count_of f.counts v + 1 == fast_size f.size) (Some v) None)) new ∙ ap (λ b. cond b (Some v) None) e in
+      let wrong : None ≡ Some v = sym none ∙ is in cc)
+
+  still_below : (u : Cut) → count_of (hear_vote f p v).counts u < fast_size (hear_vote f p v).size
+  still_below u = by (set.contains f.heard p) refl
+    where
+      one : set.contains f.heard p ≡ false → (b : Bool) → same_cut v u ≡ b → count_of f.counts u + cond b 1 0 < fast_size f.size
+      one new true e = subst (λ x. count_of f.counts x + 1 < fast_size f.size) ((same_cut_decides v u).0 e) (Prim.grind (arith, (below v), (not_full new)))
+      one new false e = subst (λ n. n < fast_size f.size) (omega arith) (below u)
+
+      by : (b : Bool) → set.contains f.heard p ≡ b → count_of (hear_vote f p v).counts u < fast_size (hear_vote f p v).size
+      by true e = subst (λ (g : FastRound). count_of g.counts u < fast_size g.size) (sym (hear_vote-heard f p v e)) (below u)
+      by false e =
+          subst (λ (g : FastRound). count_of g.counts u < fast_size g.size) (sym (hear_vote-new f p v e))
+          (subst (λ n. n < fast_size f.size) (sym (count_of-one_more f.counts v u)) (one e (same_cut v u) refl))
+
+-- ---- a notice that decides nothing
+
+module _ (l : Learner) (p : ℕ) (b : Ballot) (v : Cut) (below : (a : Ballot) (u : Cut) → notice_count l.notices a u < classic_size l.size) (open_still : l.decided ≡ false) (none : learnt l p b v ≡ None) where
+  not_complete : completes_notices l p b v ≡ false
+  unfolding learnt
+  not_complete =
+      false_from_ne_true _ (λ e. let is : learnt l p b v ≡ Some v = unfold learnt in ap (λ t. cond t (Some v) None) e in let wrong : None ≡ Some v = sym none ∙ is in cc)
+
+  few_here : notice_count (notices_with l p b v) b v < classic_size l.size
+  few_here = Prim.grind (arith, (sym (ap (λ d. not d && nat_le (classic_size l.size) (notice_count (notices_with l p b v) b v)) open_still) ∙ not_complete))
+
+  few_all : (a : Ballot) (u : Cut) → notice_count (notices_with l p b v) a u < classic_size l.size
+  few_all a u = by (set.contains l.notices ((b, v), p)) refl
+    where
+      new : set.contains l.notices ((b, v), p) ≡ false → (t : Bool) → is_of a u (b, v) ≡ t → notice_count (notices_with l p b v) a u < classic_size l.size
+      new e true is = let same = of_is a u (b, v) is in subst (λ (x : Ballot × Cut). notice_count (notices_with l p b v) x.0 x.1 < classic_size l.size) same few_here
+      new e false is =
+          subst (λ n. n < classic_size l.size)
+          (sym (len_new_kept notices_total notices_exact l.notices ((b, v), p) (λ x. same_ballot x.0.0 a && same_cut x.0.1 u) e ∙ ap (λ t. cond t 1 0 + notice_count l.notices a u) is ∙ sym (omega arith)))
+          (below a u)
+
+      by : (t : Bool) → set.contains l.notices ((b, v), p) ≡ t → notice_count (notices_with l p b v) a u < classic_size l.size
+      by true e = subst (λ s. notice_count s a u < classic_size l.size) (sym (insert_known notices_total notices_exact l.notices ((b, v), p) e)) (below a u)
+      by false e = new e (is_of a u (b, v)) refl
+
+  still_undecided : (l.decided || completes_notices l p b v) ≡ false
+  still_undecided = ap (λ d. d || completes_notices l p b v) open_still ∙ not_complete
+
+-- ---- through a member's life
+
+vote_undecided : (f : FastRound) (l : Learner) (p : ℕ) (v : Cut) → fast_decision f p v ≡ None → Undecided f l → Undecided (hear_vote f p v) l
+vote_undecided f l p v e k = record { votes = still_below f p v k.votes e; notices = k.notices; decided = k.decided }
+
+notice_undecided : (f : FastRound) (l : Learner) (p : ℕ) (b : Ballot) (v : Cut) → learnt l p b v ≡ None → Undecided f l → Undecided f (after_notice l p b v)
+unfolding after_notice
+notice_undecided f l p b v e k = record { votes = k.votes; notices = few_all l p b v k.notices k.decided e; decided = still_undecided l p b v k.notices k.decided e }
+
+undecided_step : (acts : List Act) (heard : List Message) (s : MemberState) (a : Option Act) (m : Option Message) (t : MemberState) (d : Option Cut) → Atom acts heard s a m t d → d ≡ None → Undecided s.fast s.learner → Undecided t.fast t.learner
+undecided_step acts heard s _ _ _ _ (hears_vote from p v known at) e k = vote_undecided s.fast s.learner p v e k
+undecided_step acts heard s _ _ _ _ (casts v own ok) e k = vote_undecided s.fast s.learner _ v e k
+undecided_step acts heard s _ _ _ _ (hears_notice from p b v known at) e k = notice_undecided s.fast s.learner p b v e k
+undecided_step acts heard s _ _ _ _ (marks x h) e k = k
+undecided_step acts heard s _ _ _ _ x e k = k
+
+pub lives_undecided : (c : Configuration) (me : Process) (acts : List Act) (heard : List Message) (s : MemberState) (d : Option Cut) → Lives c me acts heard s d → d ≡ None → Undecided s.fast s.learner
+unfolding fresh_member
+lives_undecided c me _ _ _ _ (enters k at) e =
+    record {
+      votes = λ v. none_yet _ (Rattle.std.specs.Prelude.length c.members) (ap (λ o. unwrap_or o 0) (map.get-empty cut_cmp v));
+      notices = λ b v. few_yet _ (Rattle.std.specs.Prelude.length c.members) (no_notices b v);
+      decided = refl;
+    }
+  where
+    none_yet : (m n : ℕ) → m ≡ 0 → m < fast_size n
+    none_yet m n h = omega arith
+
+    few_yet : (m n : ℕ) → m ≡ 0 → m < classic_size n
+    few_yet m n h = omega arith
+lives_undecided c me _ _ _ _ (does acts heard s a m t d l x) e = undecided_step acts heard s a m t d x e (lives_undecided c me acts heard s None l refl)
+lives_undecided c me _ _ _ _ (leaves acts heard s v a l mark) e = cc
+
+-- ---- a member that has heard a decision has left
 
 -- ---- quorums
 
@@ -56,28 +265,6 @@ count_within p q (x ∷ xs) h = by (count_within p q xs (λ y i. h y (inr i))) (
     by rest false true e f = let u = cp false e in let v = cq true f in omega arith
     by rest false false e f = let u = cp false e in let v = cq false f in omega arith
 
--- a member has a place
-found_before : (ps : List Process) (p : Process) → In ps p → position_or_len (same_bytes p) ps < length ps
-found_before [] p h = absurd h
-found_before (q ∷ ps) p h = by (same_bytes p q) refl h (found_before ps p)
-  where
-    first : (n : ℕ) → 0 < suc n
-    first n = omega arith
-
-    next : (m n : ℕ) → m < n → 1 + m < suc n
-    next m n h = omega arith
-
-    by : (b : Bool) → same_bytes p q ≡ b → In (q ∷ ps) p → (In ps p → position_or_len (same_bytes p) ps < length ps) → position_or_len (same_bytes p) (q ∷ ps) < suc (length ps)
-    by true e i f = subst (λ b. cond (not b) (1 + position_or_len (same_bytes p) ps) 0 < suc (length ps)) (sym e) (first (length ps))
-    by false e (inl s) f = let t = (same_bytes_decides p q).1 (sym s) in let wrong : true ≡ false = sym t ∙ e in absurd (cc)
-    by false e (inr i) f = subst (λ b. cond (not b) (1 + position_or_len (same_bytes p) ps) 0 < suc (length ps)) (sym e) (next _ _ (f i))
-
-placed_in : (ps : List Process) (p : Process) → In ps p → (k : ℕ) × (position (same_bytes p) ps ≡ Some k)
-placed_in ps p h = (position_or_len (same_bytes p) ps, ap (λ b. cond b (Some (position_or_len (same_bytes p) ps)) None) (below (position_or_len (same_bytes p) ps) (length ps) (found_before ps p h)))
-  where
-    below : (m n : ℕ) → m < n → nat_lt m n ≡ true
-    below m n l = Prim.grind arith
-
 -- ---- what a member heard that goes on
 
 module _ (f : Configuration) (es : List MarkedEvent) (are : AreMembers f.members) (apart : NoCollision (run es (founded f))) (me : Process) (s : MemberState) (heard : List Message)
@@ -90,9 +277,6 @@ module _ (f : Configuration) (es : List MarkedEvent) (are : AreMembers f.members
 
   mine : s.me ≡ me
   mine = lives_me c me acts heard s None life
-
-  own_sync : heard ≡ taken_in s.me acts
-  own_sync = sync ∙ ap (λ p. taken_in p acts) (sym mine)
 
   distinct : Distinct c.members
   distinct = installed_distinct f es are c here
@@ -108,8 +292,8 @@ module _ (f : Configuration) (es : List MarkedEvent) (are : AreMembers f.members
   voter : (v : Cut) (a : Process) → In c.members a → Received (run es (founded f)) me c a (FastVote (configuration_id c) v) → says_it (λ u. same_cut u v) (lives_votes c me acts heard s None life).votes a ≡ true
   voter v a member h =
       let k = lives_votes c me acts heard s None life in
-      let at = placed_in c.members a member in
-      let counted = votes_counted acts heard s (lives_hearing c me acts heard s None life refl) own_sync (lives_placed c me acts heard s None life) a v at.0 (was_heard a _ h) at.1 in
+      let at = position_in a c.members (in_is c.members a member) in
+      let counted = (lives_hearing c me acts heard s None life refl).votes a v at.0 (was_heard a _ h) at.1 in
       let r = k.voter at.0 counted in
       let who : r.0.0 ≡ a = one_place r.0.0 a c.members at.0 r.2 at.1 in
       let sent_it : Sent (run es (founded f)) a (FastVote (configuration_id c) r.0.1) = subst (λ p. Sent (run es (founded f)) p (FastVote (configuration_id c) r.0.1)) who (known_sent r.0.0 _ (k.known r.0 r.1)) in
@@ -122,15 +306,12 @@ module _ (f : Configuration) (es : List MarkedEvent) (are : AreMembers f.members
       let some = count_within quorum (says_it (λ u. same_cut u v) k.votes) c.members (λ a i h. voter v a i (each a (contains_from c.members a i) h)) in
       let few = backed_by (λ u. same_cut u v) c.members distinct k.votes in
       let below = (lives_undecided c me acts heard s None life refl).votes v in
-      wrong (length c.members) (size c.members quorum) _ _ (count_of s.fast.counts v) enough some few (k.counts v) (subst (λ n. count_of s.fast.counts v < fast_size n) k.size below)
-    where
-      wrong : (n q a b m : ℕ) → 3 * n < 4 * q → q ≤ a → a ≤ b → m ≡ b → m < fast_size n → ⊥
-      wrong n q a b m h g j e i = omega arith
+      omega (arith, enough, some, few, (k.counts v), (subst (λ n. count_of s.fast.counts v < fast_size n) k.size below))
 
   giver : (b : Ballot) (v : Cut) (a : Process) → In c.members a → Received (run es (founded f)) me c a (Accepted (configuration_id c) b v) → says_it (is_of b v) (lives_notices c me acts heard s None life).notes a ≡ true
   giver b v a member h =
       let k = lives_notices c me acts heard s None life in
-      let at = placed_in c.members a member in
+      let at = position_in a c.members (in_is c.members a member) in
       let counted = (lives_hearing c me acts heard s None life refl).notices a b v at.0 (was_heard a _ h) at.1 in
       let r = k.giver (b, v) at.0 counted in
       let who : r.0 ≡ a = one_place r.0 a c.members at.0 r.2 at.1 in
@@ -145,10 +326,7 @@ module _ (f : Configuration) (es : List MarkedEvent) (are : AreMembers f.members
       let some = count_within quorum (says_it (is_of b v) k.notes) c.members (λ a i h. giver b v a i (each a (contains_from c.members a i) h)) in
       let few = backed_by (is_of b v) c.members distinct k.notes in
       let below = (lives_undecided c me acts heard s None life refl).notices b v in
-      wrong (length c.members) (size c.members quorum) _ _ (notice_count s.learner.notices b v) enough some few (k.counts b v) (subst (λ n. notice_count s.learner.notices b v < classic_size n) k.size below)
-    where
-      wrong : (n q a b m : ℕ) → n < 2 * q → q ≤ a → a ≤ b → m ≡ b → m < classic_size n → ⊥
-      wrong n q a b m h g j e i = omega arith
+      omega (arith, enough, some, few, (k.counts b v), (subst (λ n. notice_count s.learner.notices b v < classic_size n) k.size below))
 
   -- it heard no decision
   pub none_heard : HeardDecision (run es (founded f)) me c → ⊥
@@ -158,9 +336,6 @@ module _ (f : Configuration) (es : List MarkedEvent) (are : AreMembers f.members
 
 -- ---- in every run
 
-some_config : {x y : Configuration} → Some x ≡ Some y → x ≡ y
-some_config e = cc
-
 pub decisions_are_prompt : (f : Configuration) (es : List MarkedEvent) → AreMembers f.members → NoCollision (run es (founded f)) → Prompt (run es (founded f))
 decisions_are_prompt f es are apart p c there h running member =
     let w = run es (founded f) in
@@ -168,12 +343,10 @@ decisions_are_prompt f es are apart p c there h running member =
     by at p.node.phase refl
   where
     by : StandsAt (run es (founded f)) there.0 p → (ph : Phase) → p.node.phase ≡ ph → ⊥
-    by at (Joining j) is = let wrong : None ≡ Some c = sym (ap member_config is) ∙ member in absurd (cc)
-    by at (Removed d) is = let wrong : None ≡ Some c = sym (ap member_config is) ∙ member in absurd (cc)
-    by at (Halted d) is = let wrong : None ≡ Some c = sym (ap member_config is) ∙ member in absurd (cc)
     by at (Member s) is =
         let w = run es (founded f) in
         let m = now_member w (lived_run f es are) there.0 p s at is in
-        let same : c ≡ s.config = some_config (sym member ∙ ap member_config is) in
+        let same : c ≡ s.config = some_is (sym member ∙ ap member_config is) in
         let r = (present_run f es are).now there.0 p s.config at (ap member_config is) in
         none_heard f es are apart p.node.me s m.heard m.life m.sync (was_installed w.log p.node.me s.config r) (subst (HeardDecision w p.node.me) same h)
+    by at ph is = let wrong : None ≡ Some c = sym (ap member_config is) ∙ member in absurd (cc)

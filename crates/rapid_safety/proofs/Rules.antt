@@ -1,80 +1,42 @@
--- The members of a configuration that was installed keep the rules of Fast Paxos.
-use Rattle.std.proofs.Common.{◌≡◌, ◌≢◌, ◌⊎◌, ◌≤◌, inl, inr, ℕ, Bool, true, false, cond, List, [], ◌∷◌, ◌++◌, length, refl, sym, ap, subst, ◌∙◌, Option, Some, None, arith, unwrap_or}
-use Rattle.std.specs.Prelude.{Contains, filter_map, is_some}
-use Rattle.std.specs.List.{cons_option}
-use Rattle.std.specs.declared.cmp.Ordering.TheVariants.{Less}
-use Rattle.std.specs.Ordering.{ordering_then, nat_cmp, is_lt}
-use Rattle.rapid_model.specs.Process.{Process}
-use Rattle.rapid_model.specs.Cut.{Cut}
-use Rattle.rapid_model.specs.Configuration.{Configuration, configuration_id}
-use Rattle.rapid_model.specs.Ballot.{Ballot, Vote, Before, UpTo, fast_ballot, is_below}
-use Rattle.rapid_model.specs.FastPaxos.{IsReported, Several, IsProposed, MayAccept, IsLastVote, KeepsRules}
-use Rattle.rapid_model.specs.Message.{Message, Body, FastVote, Promise, Accept, Accepted, caught_up_by}
-use Rattle.rapid_model.specs.Node.{Destination, Says}
-use Rattle.rapid_model.specs.World.{World, Act, Did, Entry, Installed}
-use Rattle.rapid_model.specs.History.{Sent, sent, said_by, proposed}
-use Rattle.rapid_model.specs.Chosen.{Voted, said_about}
-use Rattle.rapid_model.specs.Agreement.{NoCollision}
-use Rattle.rapid_model.proofs.Lists.{In, in_from, contains_from, in_filter}
-use Rattle.rapid_model.proofs.Ballots.{UpTo-from, Before-irrefl}
-use Rattle.rapid_safety.proofs.Atoms.{message, IsAside, Known, taken_in}
-use Rattle.rapid_safety.proofs.Logs.{acts_at}
-use Rattle.rapid_safety.proofs.Histories.{Lived}
-use Rattle.rapid_safety.proofs.Words.{Said, lives_vote}
-use Rattle.rapid_safety.proofs.Acceptances.{VotedIn, AcceptorKept, lives_acceptor}
-use Rattle.rapid_safety.proofs.Polls.{Distinct, Poll, in_poll, report, lookup, looked_up, classic, value_safe}
-use Rattle.rapid_safety.proofs.Lawful.{Grounds, lives_coordinator, member_at}
-use Rattle.rapid_safety.proofs.Asked.{LifeIn, life_of, asks_of, asked_once}
-use Rattle.rapid_safety.proofs.Spoken.{TookSaid, from_acts, to_acts, known_said}
-use Rattle.rapid_safety.proofs.PacketsSent.{SaidIn}
-use Rattle.rapid_safety.proofs.Asides.{lives_words}
-use Rattle.rapid_safety.proofs.Kept.{lives_member}
+-- In every configuration that was installed the rules of Fast Paxos are kept, and so one cut is chosen.
+use Rattle.std.proofs.Common.{◌≡◌, ◌≢◌, ◌<◌, inl, inr, ℕ, List, [], ◌∷◌, ◌++◌, map, refl, sym, ap, subst, subst₂, ◌∙◌, Option, Some, None, length, unwrap_or}
+use Rattle.rapid_safety.proofs.Basics.{Contains, position-Some, In, in_split, in_left, in_right, in_from, contains_from, UpTo-from, Before-irrefl}
+use Rattle.rapid_safety.proofs.Values.{Process, same_bytes, Cut, Configuration, configuration_id, position_of, AreMembers, Ballot, Vote, Before, UpTo, fast_ballot, Body, FastVote, Promise, Accept, Accepted, caught_up_by}
+use Rattle.rapid_safety.proofs.Parts.{accept_cut}
+use Rattle.rapid_safety.proofs.Worlds.{IsLastVote, MayAccept, KeepsRules, VotesOwn, World, Did, Entry, Installed, MarkedEvent, Sent, sent, proposed, acts_in, Voted, said_about, NoCollision, world_step, run, founded, AcceptsLawful, OneChosen, AcceptsExclude}
+use Rattle.rapid_safety.proofs.Working.{Says, place}
+use Rattle.rapid_model.specs.RunFacts as facts
+use Rattle.rapid_agreement.specs.Asking.{Report, AreGiven}
+use Rattle.rapid_agreement.proofs.Asking.{asks_lawfully}
+use Rattle.rapid_agreement.proofs.Safety.{one_chosen, asked_excludes}
+use Rattle.rapid_safety.proofs.Atoms.{message, IsAside, taken_in, lives_member}
+use Rattle.rapid_safety.proofs.Histories.{acts_at, Lived}
+use Rattle.rapid_safety.proofs.Voting.{Said, lives_vote, VotedIn, AcceptorKept, lives_acceptor}
+use Rattle.rapid_safety.proofs.Members.{Distinct, member_at, one_place, position_in, in_is, places_are, of_map, some_is}
+use Rattle.rapid_safety.proofs.Asking.{Given, report_of, IsGiven, Grounds, LifeIn, life_of, asks_of, asked_once}
+use Rattle.rapid_safety.proofs.News.{TookSaid, from_acts, known_said, SaidIn, sent_said, said_sent, took_said, said_more}
+use Rattle.rapid_safety.proofs.Speaking.{Asides, lives_words, spoken, above_fast, asides_run}
+use Rattle.rapid_safety.proofs.Lived.{lived_run}
+use Rattle.rapid_safety.proofs.Nodes.{WasInstalled, was_installed}
+use Rattle.rapid_safety.proofs.Told.{present_run}
+use Rattle.rapid_safety.proofs.Steps.{steps, log_grows}
+use Rattle.rapid_safety.proofs.Descent.{installed_distinct}
 
 -- each configuration in which somebody did something was installed
 abbrev pub AtInstalled : World → Type 0
 AtInstalled w = (e : Entry) (c : Configuration) → In w.log e → e.at ≡ Some c → (f : Entry) × In w.log f × (f.act ≡ Installed c)
 
--- ---- sent and said
-
-pub sent_said : (log : List Entry) (p : Process) (b : Body) → In (filter_map (λ e. said_by e.who e.act) log) (message p b) → SaidIn log p b
-sent_said [] p b h = absurd h
-sent_said (e ∷ log) p b h = by e.act refl h (sent_said log p b)
-  where
-    later : SaidIn log p b → SaidIn (e ∷ log) p b
-    later r = (r.0, r.1, inr r.2, r.3, r.4)
-
-    by : (a : Act) → e.act ≡ a → In (cons_option (said_by e.who a) (filter_map (λ x. said_by x.who x.act) log)) (message p b) → (In (filter_map (λ x. said_by x.who x.act) log) (message p b) → SaidIn log p b) → SaidIn (e ∷ log) p b
-    by (Did (Says to c)) is (inl s) f = (e, to, inl refl, ap (λ (m : Message). m.sender) s, is ∙ ap (λ (m : Message). Did (Says to m.body)) s)
-    by (Did (Says to c)) is (inr i) f = later (f i)
-    by x is i f = later (f i)
-
-pub said_sent : (w : World) (p : Process) (b : Body) → SaidIn w.log p b → Sent w p b
-said_sent w p b s = contains_from (sent w) (message p b) (in_filter (λ (e : Entry). said_by e.who e.act) w.log s.0 (message p b) s.2 (Rattle.std.proofs.Common.ap₂ said_by s.3 s.4))
-
--- ---- what is said about a configuration is said in it
-
-module _ (w : World) (lived : Lived w) (took : TookSaid w) (asides : (e : Entry) (to : Destination) (b : Body) → In w.log e → e.act ≡ Did (Says to b) → IsAside b ⊎ ((c : Configuration) × (e.at ≡ Some c))) (at_installed : AtInstalled w) (apart : NoCollision w)
-    (c : Configuration) (f : Entry) (f_in : In w.log f) (f_is : f.act ≡ Installed c) where
+module _ (w : World) (lived : Lived w) (took : TookSaid w) (asides : Asides w) (at_installed : AtInstalled w) (apart : NoCollision w) (c : Configuration) (f : Entry) (f_in : In w.log f) (f_is : f.act ≡ Installed c) where
   abbrev id : List ℕ
   id = configuration_id c
 
+  -- what is said about the configuration is said in it
   pub said_here : (p : Process) (b : Body) → SaidIn w.log p b → (IsAside b → ⊥) → caught_up_by b ≡ Some id → Said (acts_at w.log p c) b
   said_here p b s off about =
-      elim (asides s.0 s.1 b s.2 s.4) [
-        | inl x ↦ absurd (off x)
-        | inr x ↦
-            let d = x.0 in
-            let here : Said (acts_at w.log p d) b = (s.1, subst (In (acts_at w.log p d)) s.4 (to_acts w.log p d s.0 s.2 s.3 x.1)) in
-            let l = life_of w.log p d b (lived.past p d) here in
-            let own = (lives_words d p _ l.heard l.state l.decided l.life).ids b here off in
-            let same_id : configuration_id d ≡ id = some_list (ap (λ z. Some (configuration_id z)) l.config ∙ sym own ∙ about) in
-            let g = at_installed s.0 d s.2 x.1 in
-            let same : d ≡ c = apart g.0 f d c (contains_from w.log g.0 g.1) (contains_from w.log f f_in) g.2 f_is same_id in
-            subst (λ z. Said (acts_at w.log p z) b) same here
-      ]
-    where
-      some_list : {x y : List ℕ} → Some x ≡ Some y → x ≡ y
-      some_list e = cc
+      let k = spoken w lived asides p b s off in
+      let e = from_acts w.log p k.config (Did (Says k.said.0 b)) k.said.1 in
+      let g = at_installed e.0 k.config e.1 e.3 in
+      subst (λ z. Said (acts_at w.log p z) b) (apart g.0 f k.config c (contains_from w.log g.0 g.1) (contains_from w.log f f_in) g.2 f_is (some_is (sym k.about ∙ about))) k.said
 
   sent_here : (p : Process) (b : Body) → Sent w p b → (IsAside b → ⊥) → caught_up_by b ≡ Some id → Said (acts_at w.log p c) b
   sent_here p b h = said_here p b (sent_said w.log p b (in_from (sent w) (message p b) h))
@@ -100,30 +62,19 @@ module _ (w : World) (lived : Lived w) (took : TookSaid w) (asides : (e : Entry)
       let l = life p _ h in
       proposal_here p l v ((lives_vote c p _ l.heard l.state l.decided l.life).for_it v (subst (λ x. Said (acts_at w.log p c) (FastVote (configuration_id x) v)) l.config h)).1
 
-  -- what is known there was said there
-  known_here : (p q : Process) (l : LifeIn w.log p c) (b : Body) → Known (acts_at w.log p c) l.state q b → (IsAside b → ⊥) → caught_up_by b ≡ Some id → Said (acts_at w.log q c) b
-  known_here p q l b k off about = said_here q b (known_said w took p q c b (subst (λ x. In (taken_in x (acts_at w.log p c)) (message q b)) (sym l.me) k)) off about
-
-  above_fast : (b : Ballot) → 2 ≤ b.round → Before fast_ballot b
-  above_fast b h = rounds b.round b.position h
-    where
-      rounds : (r p : ℕ) → 2 ≤ r → is_below fast_ballot (record { round = r; position = p }) ≡ true
-      rounds r p h = ap (λ o. is_lt (ordering_then o (nat_cmp 0 p))) (less r h)
-        where
-          less : (n : ℕ) → 2 ≤ n → nat_cmp 1 n ≡ Less
-          less n h = Prim.grind arith
+  -- what was taken there was said there
+  taken_here : (p q : Process) (b : Body) → In (taken_in p (acts_at w.log p c)) (message q b) → (IsAside b → ⊥) → caught_up_by b ≡ Some id → Said (acts_at w.log q c) b
+  taken_here p q b k off about = said_here q b (known_said w took p q c b k) off about
 
   asked_above : (p : Process) (b : Ballot) (v : Cut) → Said (acts_at w.log p c) (Accept id b v) → Before fast_ballot b
-  asked_above p b v h =
-      let l = life p _ h in
-      above_fast b ((asks_of w.log p c l).at b v (subst (λ x. Said (acts_at w.log p c) (Accept (configuration_id x) b v)) l.config h)).1
+  asked_above p b v h = above_fast b ((asks_of w.log p c (life p _ h)).asked b v h).from_two
 
   -- a cut that is accepted was asked for
   accepted_asked : (p : Process) (b : Ballot) (v : Cut) → Said (acts_at w.log p c) (Accepted id b v) → (q : Process) × Said (acts_at w.log q c) (Accept id b v)
   accepted_asked p b v h =
       let l = life p _ h in
       let r = (lives_words c p _ l.heard l.state l.decided l.life).asked b v (subst (λ x. Said (acts_at w.log p c) (Accepted (configuration_id x) b v)) l.config h) in
-      (r.0, known_here p r.0 l (Accept id b v) (subst (λ x. Known (acts_at w.log p c) l.state r.0 (Accept (configuration_id x) b v)) (sym l.config) r.1) (λ z. z) refl)
+      (r.0, taken_here p r.0 (Accept id b v) (subst₂ (λ x q. In (taken_in q (acts_at w.log p c)) (message r.0 (Accept (configuration_id x) b v))) (sym l.config) (sym l.me) r.1) (λ z. z) refl)
 
   -- ---- votes
 
@@ -149,75 +100,157 @@ module _ (w : World) (lived : Lived w) (took : TookSaid w) (asides : (e : Entry)
   asked_same : (p q : Process) (b : Ballot) (v u : Cut) → Said (acts_at w.log p c) (Accept id b v) → Said (acts_at w.log q c) (Accept id b u) → v ≡ u
   asked_same p q b v u h g = asked_once w.log p q c b v u (life p _ h) (life q _ g) h g
 
+  -- at the fast ballot a member votes for its proposal
+  pub votes_own : VotesOwn (said_about w c)
+  votes_own a v (inl h) = fast_here a v (sent_here a _ h.1 (λ z. z) refl)
+  votes_own a v (inr h) = absurd (Before-irrefl fast_ballot h.0)
+
   -- ---- a coordinator's value
 
-  module _ (distinct : Distinct c.members) where
-    may : (p : Process) (b : Ballot) (v : Cut) → Said (acts_at w.log p c) (Accept id b v) → MayAccept c.members (said_about w c) b v
-    may p b v h =
-        let l = life p _ h in
-        let g0 = (lives_coordinator c p _ l.heard l.state l.decided l.life).asked b v (subst (λ x. Said (acts_at w.log p c) (Accept (configuration_id x) b v)) l.config h) in
-        with_grounds l g0
-      where
-        with_grounds : (l : LifeIn w.log p c) → Grounds (acts_at w.log p c) l.state b v → MayAccept c.members (said_about w c) b v
-        with_grounds l g =
-            let back : l.state.config ≡ c = sym l.config in
-            let fine = subst (λ (x : Configuration). Rattle.rapid_safety.proofs.Polls.Fine x.members g.rs) back g.poll.fine in
-            let size = subst (λ (x : Configuration). g.coordinator.size ≡ length x.members) back g.size in
-            let enough = subst (λ (x : Configuration). length g.rs ≡ Rattle.rapid_model.specs.Quorum.classic_size (length x.members)) back g.enough in
-            let told : (a : Process) (r : Option (Vote Cut)) → In g.rs (a, r) → Said (acts_at w.log a c) (Promise id b r) = λ a r i. known_here p a l (Promise id b r) (subst (λ x. Known (acts_at w.log p c) l.state a (Promise (configuration_id x) b r)) back (g.poll.known (a, r) i)) (λ z. z) refl in
-            let voters : (a : Process) (x : Vote Cut) → report g.rs a ≡ Some x → in_poll g.rs a ≡ true → VotedIn id (acts_at w.log a c) x.ballot x.value = λ a x e inside. votes_of g.rs a x told e inside in
-            record {
-              quorum = in_poll g.rs;
-              reported = report g.rs;
-              enough = classic c.members distinct g.coordinator g.rs fine g.poll.kept size enough;
-              promises = λ a m inside. here_sent a _ (told a (report g.rs a) (in_rs g.rs a inside));
-              safe = value_safe c.members distinct g.coordinator g.rs fine g.poll.kept size enough (said_about w c) g.own
-                  (λ u e. (p, is_member p l, proposal_here p l u (g.mine u e)))
-                  (λ t u several r. proposed_top g.rs voters t u several r)
-                  v g.value;
-            }
-          where
-            in_rs : (rs : Poll) (a : Process) → in_poll rs a ≡ true → In rs (a, report rs a)
-            in_rs rs a inside = by (lookup rs a) refl inside
-              where
-                by : (o : Option (Option (Vote Cut))) → lookup rs a ≡ o → is_some (lookup rs a) ≡ true → In rs (a, report rs a)
-                by None e h = let z : is_some (lookup rs a) ≡ false = ap is_some e in let wrong : true ≡ false = sym h ∙ z in cc
-                by (Some x) e h = looked_up rs a (report rs a) (e ∙ ap Some (sym (ap (λ o. unwrap_or o None) e)))
+  module _ (distinct : Distinct c.members) (p : Process) (b : Ballot) (v : Cut) (h : Said (acts_at w.log p c) (Accept id b v)) where
+    l : LifeIn w.log p c
+    l = life p _ h
 
-            votes_of : (rs : Poll) (a : Process) (x : Vote Cut) → ((q : Process) (r : Option (Vote Cut)) → In rs (q, r) → Said (acts_at w.log q c) (Promise id b r)) → report rs a ≡ Some x → in_poll rs a ≡ true → VotedIn id (acts_at w.log a c) x.ballot x.value
-            votes_of rs a x told e inside =
-                let h = told a (Some x) (subst (λ r. In rs (a, r)) e (in_rs rs a inside)) in
-                ((acceptor a (life a _ h)).truly b x h).0
+    g : Grounds c p (acts_at w.log p c) l.state.proposal b v
+    g = ((asks_of w.log p c l).asked b v h).grounds
 
-            proposed_top : (rs : Poll) → ((a : Process) (x : Vote Cut) → report rs a ≡ Some x → in_poll rs a ≡ true → VotedIn id (acts_at w.log a c) x.ballot x.value) → (t : Ballot) (u : Cut) → Several c.members (in_poll rs) (report rs) t →
-                IsReported c.members (in_poll rs) (report rs) (record { ballot = t; value = u }) → IsProposed c.members (said_about w c) u
-            proposed_top rs voters t u several r = by (voters r.who (record { ballot = t; value = u }) r.says r.inside)
-              where
-                accepted_at : (a : Process) (x : Cut) → Before fast_ballot t → VotedIn id (acts_at w.log a c) t x → (q : Process) × Said (acts_at w.log q c) (Accept id t x)
-                accepted_at a x above (inl h) = absurd (Before-irrefl fast_ballot (subst (Before fast_ballot) h.0 above))
-                accepted_at a x above (inr h) = accepted_asked a t x h
+    -- the promises that it heard
+    all : List Given
+    all = g.heard.given ++ g.last ∷ []
 
-                by : VotedIn id (acts_at w.log r.who c) t u → IsProposed c.members (said_about w c) u
-                by (inl h) = (r.who, r.member, fast_here r.who u h.1)
-                by (inr h) =
-                    let a = accepted_asked r.who t u h in
-                    let above = asked_above a.0 t u a.1 in
-                    let one = accepted_at several.has_one.who several.one above (voters several.has_one.who _ several.has_one.says several.has_one.inside) in
-                    let other = accepted_at several.has_other.who several.other above (voters several.has_other.who _ several.has_other.says several.has_other.inside) in
-                    absurd (several.differ (asked_same one.0 other.0 t several.one several.other one.1 other.1))
+    all_known : (x : Given) → In all x → IsGiven c p (acts_at w.log p c) b x
+    unfolding all
+    all_known x i = elim (in_split g.heard.given (g.last ∷ []) x i) [ inl j ↦ g.heard.known x j | inr j ↦ elim j [ inl e ↦ subst (IsGiven c p (acts_at w.log p c) b) e g.known | inr n ↦ absurd n ] ]
 
-    -- the rules hold
-    pub keeps_rules : KeepsRules c.members (said_about w c)
-    keeps_rules =
+    counted : List Report
+    counted = map (report_of c) g.heard.given ++ report_of c g.last ∷ []
+
+    of_counted : (x : Report) → Contains counted x → (y : Given) × In all y × (report_of c y ≡ x)
+    unfolding all counted
+    of_counted x i =
+        elim (in_split (map (report_of c) g.heard.given) (report_of c g.last ∷ []) x (in_from counted x i)) [
+          | inl j ↦ let r = of_map (report_of c) g.heard.given x j in (r.0, in_left g.heard.given _ r.0 r.1, r.2)
+          | inr j ↦ elim j [ inl e ↦ (g.last, in_right g.heard.given (g.last ∷ []) g.last (inl refl), e) | inr n ↦ absurd n ]
+        ]
+
+    promise_of : (x : Given) → In all x → Said (acts_at w.log x.0 c) (Promise id b x.1)
+    promise_of x i = taken_here p x.0 (Promise id b x.1) (all_known x i).0 (λ z. z) refl
+
+    -- a vote that is reported was cast
+    voter : (q : ℕ) (at : Ballot) (u : Cut) → Contains counted (q, Some (record { ballot = at; value = u })) → (a : Process) × Contains c.members a × VotedIn id (acts_at w.log a c) at u
+    voter q at u i =
+        let r = of_counted _ i in
+        let vote : Vote Cut = record { ballot = at; value = u } in
+        let said : Said (acts_at w.log r.0.0 c) (Promise id b (Some vote)) = subst (λ o. Said (acts_at w.log r.0.0 c) (Promise id b o)) (ap (λ (z : Report). z.1) r.2) (promise_of r.0 r.1) in
+        (r.0.0, is_member r.0.0 (life r.0.0 _ said), ((acceptor r.0.0 (life r.0.0 _ said)).truly b vote said).0)
+
+    below : (q : Process) (k : ℕ) → position_of c q ≡ Some k → place c q < length c.members
+    below q k e = subst (λ n. n < length c.members) (sym (ap (λ o. unwrap_or o 0) e)) (position-Some (same_bytes q) c.members k q e).0
+
+    -- who has the place of a member is it
+    same_place : (q a : Process) (k : ℕ) → position_of c q ≡ Some k → Contains c.members a → place c q ≡ place c a → q ≡ a
+    same_place q a k e there same =
+        let at = position_in a c.members (in_is c.members a (in_from c.members a there)) in
+        let here : place c a ≡ at.0 = ap (λ o. unwrap_or o 0) at.1 in
+        let mine : place c q ≡ k = ap (λ o. unwrap_or o 0) e in
+        one_place q a c.members k e (at.1 ∙ ap Some (sym here ∙ sym same ∙ mine))
+
+    given : AreGiven c.members (place c) (said_about w c) b counted
+    given =
         record {
-          votes_once = λ a b v u h g. (acceptor a (life_voted a b v (voted_in a b v h))).once b v u (voted_in a b v h) (voted_in a b u g);
-          votes_from_fast = λ a b v h. elim h [ inl x ↦ inl (sym x.0) | inr x ↦ inr x.0 ];
-          votes_own = λ a v h. elim h [ inl x ↦ fast_here a v (sent_here a _ x.1 (λ z. z) refl) | inr x ↦ absurd (Before-irrefl fast_ballot x.0) ];
-          votes_as_asked = λ a b v h above. elim h [
-            | inl x ↦ absurd (Before-irrefl fast_ballot (subst (Before fast_ballot) x.0 above))
-            | inr x ↦ let q = accepted_asked a b v (sent_here a _ x.1 (λ z. z) refl) in (q.0, here_sent q.0 _ q.1)
-          ];
-          reports_last = λ a b r h. last_vote a b r (sent_here a _ h (λ z. z) refl);
-          asks_once = λ b v u h g. asked_same h.0 g.0 b v u (sent_here h.0 _ h.1 (λ z. z) refl) (sent_here g.0 _ g.1 (λ z. z) refl);
-          asks_lawfully = λ b v h. may h.0 b v (sent_here h.0 _ h.1 (λ z. z) refl);
+          within = λ x i. let r = of_counted x i in let k = (all_known r.0 r.1).1 in subst (λ n. n < length c.members) (ap (λ (z : Report). z.0) r.2) (below r.0.0 k.0 k.1);
+          promised = λ a vote there i. let r = of_counted _ i in let k = (all_known r.0 r.1).1 in
+              subst₂ (λ q o. Sent w q (Promise id b o)) (same_place r.0.0 a k.0 k.1 there (ap (λ (z : Report). z.0) r.2)) (ap (λ (z : Report). z.1) r.2) (here_sent r.0.0 _ (promise_of r.0 r.1));
+          fast_proposed = λ q u i. let r = voter q fast_ballot u i in (r.0, r.1, elim r.2 [ inl x ↦ fast_here r.0 u x.1 | inr x ↦ let a = accepted_asked r.0 fast_ballot u x in absurd (Before-irrefl fast_ballot (asked_above a.0 fast_ballot u a.1)) ]);
+          one_value = λ q o at u x other i j. let y = accepted_at at u other (voter q at u i) in let z = accepted_at at x other (voter o at x j) in asked_same y.0 z.0 at u x y.1 z.1;
         }
+      where
+        accepted_at : (at : Ballot) (u : Cut) → at ≢ fast_ballot → (a : Process) × Contains c.members a × VotedIn id (acts_at w.log a c) at u → (q : Process) × Said (acts_at w.log q c) (Accept id at u)
+        accepted_at at u other r = elim r.2 [ inl x ↦ absurd (other x.0) | inr x ↦ accepted_asked r.0 at u x ]
+
+    may : MayAccept c.members (said_about w c) b v
+    unfolding counted
+    may =
+        let place_in = lives_member c p _ l.heard l.state l.decided l.life in
+        let inside : g.heard.start.position < g.heard.start.size = subst₂ (λ m n. m < n) (sym g.heard.position) (sym g.heard.size) (below p place_in.0 place_in.1) in
+        asks_lawfully c.members (place c) (said_about w c) g.heard.start b (map (report_of c) g.heard.given) (report_of c g.last) g.choice v (places_are c distinct) g.heard.size inside given
+        (λ a u there at e. let mine : p ≡ a = same_place p a place_in.0 place_in.1 there (sym g.heard.position ∙ sym at) in subst (λ q. proposed w q c ≡ Some u) mine (proposal_here p l u (g.mine u e)))
+        (subst (λ d. accept_cut d (place c g.last.0) b g.last.1 g.choice ≡ Some v) g.heard.is g.asked)
+
+  -- the rules hold
+  pub keeps_rules : Distinct c.members → KeepsRules c.members (said_about w c)
+  keeps_rules distinct =
+      record {
+        votes_once = λ a b v u h g. (acceptor a (life_voted a b v (voted_in a b v h))).once b v u (voted_in a b v h) (voted_in a b u g);
+        votes_from_fast = λ a b v h. elim h [ inl x ↦ inl (sym x.0) | inr x ↦ inr x.0 ];
+        votes_as_asked = λ a b v h above. elim h [
+          | inl x ↦ absurd (Before-irrefl fast_ballot (subst (Before fast_ballot) x.0 above))
+          | inr x ↦ let q = accepted_asked a b v (sent_here a _ x.1 (λ z. z) refl) in (q.0, here_sent q.0 _ q.1)
+        ];
+        reports_last = λ a b r h. last_vote a b r (sent_here a _ h (λ z. z) refl);
+        asks_once = λ b v u h g. asked_same h.0 g.0 b v u (sent_here h.0 _ h.1 (λ z. z) refl) (sent_here g.0 _ g.1 (λ z. z) refl);
+        asks_lawfully = λ b v h. may distinct h.0 b v (sent_here h.0 _ h.1 (λ z. z) refl);
+      }
+
+-- ---- in every configuration that was installed the rules of Fast Paxos are kept, and so one cut is chosen
+
+pub installed_keeps_rules : (c : Configuration) (es : List MarkedEvent) → AreMembers c.members → NoCollision (run es (founded c)) → (d : Configuration) → WasInstalled (run es (founded c)).log d → KeepsRules d.members (said_about (run es (founded c)) d)
+installed_keeps_rules c es are apart d h =
+    keeps_rules (run es (founded c)) (lived_run c es are) (took_said c es) (asides_run c es) (λ e x i is. was_installed _ e.who x ((present_run c es are).at e x i is)) apart d h.0 h.1 h.2 (installed_distinct c es are d h)
+
+pub installed_votes_own : (c : Configuration) (es : List MarkedEvent) → AreMembers c.members → NoCollision (run es (founded c)) → (d : Configuration) → WasInstalled (run es (founded c)).log d → VotesOwn (said_about (run es (founded c)) d)
+installed_votes_own c es are apart d h =
+    votes_own (run es (founded c)) (lived_run c es are) (took_said c es) (asides_run c es) (λ e x i is. was_installed _ e.who x ((present_run c es are).at e x i is)) apart d h.0 h.1 h.2
+
+pub one_cut_is_chosen : (c : Configuration) (es : List MarkedEvent) → AreMembers c.members → NoCollision (run es (founded c)) → OneChosen (run es (founded c))
+one_cut_is_chosen c es are apart d v u there one other =
+    let w = run es (founded c) in
+    one_chosen d.members (said_about w d) (installed_keeps_rules c es are apart d (there.1.0, in_from w.log there.1.0 there.1.1, there.1.3)) one.0 other.0 v u one.1 other.1
+
+-- ---- what is said in a configuration
+
+-- who says something in a configuration has installed it, and it was sent
+pub said_installed : (c : Configuration) (es : List MarkedEvent) → AreMembers c.members → (d : Configuration) (p : Process) (b : Body) → facts.SaidIn (run es (founded c)) d p b → WasInstalled (run es (founded c)).log d
+said_installed c es are d p b h =
+    let w = run es (founded c) in
+    let r = from_acts w.log p d (Did (Says h.0 b)) (in_from (acts_in w p d) (Did (Says h.0 b)) h.1) in
+    was_installed w.log r.0.who d ((present_run c es are).at r.0 d r.1 r.3)
+
+pub said_was_sent : (w : World) (d : Configuration) (p : Process) (b : Body) → facts.SaidIn w d p b → Sent w p b
+said_was_sent w d p b h =
+    let r = from_acts w.log p d (Did (Says h.0 b)) (in_from (acts_in w p d) (Did (Says h.0 b)) h.1) in
+    said_sent w p b (r.0, h.0, r.1, r.2, r.4)
+
+pub accepts_are_lawful : (c : Configuration) (es : List MarkedEvent) → AreMembers c.members → NoCollision (run es (founded c)) → AcceptsLawful (run es (founded c))
+accepts_are_lawful c es are apart d p b v h =
+    (installed_keeps_rules c es are apart d (said_installed c es are d p (Accept (configuration_id d) b v) h)).asks_lawfully b v (p, said_was_sent (run es (founded c)) d p (Accept (configuration_id d) b v) h)
+
+-- ---- a run that goes on
+
+pub run_on : (es more : List MarkedEvent) (w : World) → run more (run es w) ≡ run (es ++ more) w
+run_on [] more w = refl
+run_on (e ∷ es) more w = run_on es more (world_step w e)
+
+pub sent_grows : (w v : World) → Rattle.rapid_safety.proofs.Steps.Steps w v → (p : Process) (b : Body) → Sent w p b → Sent v p b
+sent_grows w v s p b h =
+    let g = log_grows w v s in
+    said_sent v p b (subst (λ l. SaidIn l p b) (sym g.1) (said_more w.log g.0 p b (sent_said w.log p b (in_from (sent w) _ h))))
+
+pub sent_lasts : (more : List MarkedEvent) (w : World) (p : Process) (b : Body) → Sent w p b → Sent (run more w) p b
+sent_lasts [] w p b h = h
+sent_lasts (e ∷ es) w p b h = sent_lasts es (world_step w e) p b (sent_grows w (world_step w e) (steps w e) p b h)
+
+pub installed_lasts : (more : List MarkedEvent) (w : World) (d : Configuration) → WasInstalled w.log d → WasInstalled (run more w).log d
+installed_lasts [] w d h = h
+installed_lasts (e ∷ es) w d h =
+    let g = log_grows w (world_step w e) (steps w e) in
+    installed_lasts es (world_step w e) d (h.0, subst (λ l. In l h.0) (sym g.1) (Rattle.rapid_model.proofs.Lists.in_left w.log g.0 h.0 h.1), h.2)
+
+pub accepts_exclude_below : (c : Configuration) (es more : List MarkedEvent) → AreMembers c.members → NoCollision (run more (run es (founded c))) → AcceptsExclude (run es (founded c)) more
+accepts_exclude_below c es more are apart d p a b v u h before chosen =
+    let w = run es (founded c) in
+    let on : run more w ≡ run (es ++ more) (founded c) = run_on es more (founded c) in
+    let there : WasInstalled (run more w).log d = installed_lasts more w d (said_installed c es are d p (Accept (configuration_id d) b v) h) in
+    let rules : KeepsRules d.members (said_about (run more w) d) =
+    subst (λ x. KeepsRules d.members (said_about x d)) (sym on) (installed_keeps_rules c (es ++ more) are (subst NoCollision on apart) d (subst (λ (x : World). WasInstalled x.log d) on there)) in
+    asked_excludes d.members (said_about (run more w) d) rules b v (p, sent_lasts more w p (Accept (configuration_id d) b v) (said_was_sent w d p (Accept (configuration_id d) b v) h)) a u before chosen

@@ -1,4 +1,4 @@
-use Rattle.rapid_safety.proofs.Installed.{accepts_are_lawful as law}
+use Rattle.rapid_safety.proofs.Rules.{accepts_are_lawful as law}
 use Rattle.rapid_safety.proofs.accepts_are_lawful.Goals as goal
 
 pub returns : goal.returns

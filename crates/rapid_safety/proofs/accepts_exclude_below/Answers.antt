@@ -1,4 +1,4 @@
-use Rattle.rapid_safety.proofs.Installed.{accepts_exclude_below as law}
+use Rattle.rapid_safety.proofs.Rules.{accepts_exclude_below as law}
 use Rattle.rapid_safety.proofs.accepts_exclude_below.Goals as goal
 
 pub returns : goal.returns

@@ -1,4 +1,4 @@
-use Rattle.rapid_safety.proofs.Nodes.{installs_rise as law}
+use Rattle.rapid_safety.proofs.Told.{installs_rise as law}
 use Rattle.rapid_safety.proofs.installs_rise.Goals as goal
 
 pub returns : goal.returns

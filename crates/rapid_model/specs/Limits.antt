@@ -1,0 +1,55 @@
+-- The numbers of the service, each once. Positions take ten bits and counts on the wire two bytes; the rest is chosen so that a
+-- process, whatever its peers send, keeps a bounded amount.
+use Rattle.std.specs.Prelude.{ℕ}
+
+-- How many members a configuration has at most: positions in ballots are below it.
+abbrev pub most_members : ℕ
+most_members = 1024
+
+-- How many joiners wait at a host, are known to an outbox or are taken by a detector at most.
+abbrev pub most_joiners : ℕ
+most_joiners = 512
+
+-- How many processes a cut has at most: all members and all joiners.
+abbrev pub most_in_cut : ℕ
+most_in_cut = 1536
+
+-- How many alerts a batch has at most, so that its frame is within the longest.
+abbrev pub most_alerts : ℕ
+most_alerts = 2048
+
+-- How many rings there are at most: a subject's rings are the bits of a word of sixteen.
+abbrev pub most_rings : ℕ
+most_rings = 16
+
+-- The last round of a classic ballot: a round is one byte.
+abbrev pub most_rounds : ℕ
+most_rounds = 250
+
+-- How many decisions are kept for those who are behind.
+abbrev pub kept_decisions : ℕ
+kept_decisions = 64
+
+-- How many views a node installs at most.
+abbrev pub most_views : ℕ
+most_views = 65536
+
+-- How many entries the journal of a desk has at most.
+abbrev pub most_entries : ℕ
+most_entries = 65536
+
+-- How many bytes a frame has at most, after those of its length.
+abbrev pub longest_frame : ℕ
+longest_frame = 65536
+
+-- How many bytes a line of an input has at most.
+abbrev pub longest_line : ℕ
+longest_line = 256
+
+-- After so many ticks, again and again, the vote and the alerts are sent once more.
+abbrev pub resend_period : ℕ
+resend_period = 20
+
+-- After so many ticks at which it was unstable, a process is echoed.
+abbrev pub echo_age : ℕ
+echo_age = 40

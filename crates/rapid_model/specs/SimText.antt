@@ -1,0 +1,327 @@
+-- What `sim` prints: the state of a run, which lines are refused, and the output of an input.
+use Rattle.std.specs.Prelude.{ℕ, zero, suc, Bool, false, not, List, [], ◌∷◌, ◌++◌, length, filter, flat_map, replicate, codes, decimal, nat_lt, if◌then◌else◌, Option, Some, None, is_some}
+use Rattle.std.specs.List.{find, list_any, range_with_len}
+use Rattle.std.specs.FinSet as set
+use Rattle.std.specs.Ordering.{nat_cmp}
+use Rattle.rapid_model.specs.Bytes.{Identifier, Line, Word, Text}
+use Rattle.rapid_model.specs.Process.{Process, identifier, same_bytes}
+use Rattle.rapid_model.specs.Configuration.{Params, Configuration, founding}
+use Rattle.rapid_model.specs.Reading.{are_params}
+use Rattle.rapid_model.specs.World as world
+use Rattle.rapid_model.specs.World.{World, Peer, WorldEvent, MarkedEvent, running, running_under, peer_at, observed, can_deliver}
+use Rattle.rapid_model.specs.Refusal as faults
+use Rattle.rapid_model.specs.Refusal.{WorldRefusal}
+use Rattle.rapid_model.specs.Run.{WorldReport, ReportInstalled, ReportHalted, founded, reports_of, step_reports}
+use Rattle.rapid_model.specs.StoredWorld.{StoredWorld, new_world, world_of, event_refusal, with_event}
+use Rattle.rapid_model.specs.Lines.{line_feed, space, lines, line_words}
+use Rattle.rapid_model.specs.Numbered.{number_under}
+use Rattle.rapid_model.specs.SimLine.{SimLine, Parameters, Found, Events, Lose, Deliver, Drop, Flow, Packets, command_named}
+
+-- What a run keeps once its founders were taken.
+pub record Simulation : Type 0 where
+  pub world : StoredWorld
+  -- the numbers of the packets that `deliver`, `drop` and `flow` are done with
+  pub settled : set.FinSet nat_cmp
+
+-- The state of a run.
+pub data SimState : Type 0 where
+  -- neither parameters nor founders were taken
+  Blank : SimState
+  -- parameters were taken
+  Prepared : Params → SimState
+  -- founders were taken too
+  Underway : Simulation → SimState
+
+-- Why a line is refused.
+pub data SimRefusal : Type 0 where
+  BadLine : SimRefusal
+  NoParams : SimRefusal
+  BadParams : SimRefusal
+  -- the world refuses an event
+  ByWorld : WorldRefusal → SimRefusal
+
+-- What a line asks for: nothing where it is passed over, and nothing that is known where it is not in the grammar.
+pub data Asked : Type 0 where
+  Nothing : Asked
+  Unknown : Asked
+  Command : SimLine → Asked
+
+-- A command, if there is one.
+abbrev pub asked_command : Option SimLine → Asked
+asked_command None = Unknown
+asked_command (Some c) = Command c
+
+-- What the words of a line ask for.
+abbrev pub asked_words : Option (List Word) → Asked
+asked_words None = Unknown
+asked_words (Some []) = Nothing
+asked_words (Some (name ∷ ws)) = asked_command (command_named name ws)
+
+-- What a line asks for.
+unfoldable pub asked : Line → Asked
+asked line = asked_words (line_words line)
+
+-- ---- refusals
+
+-- The world of a run as it stands.
+abbrev pub world_in : Simulation → World
+world_in s = world_of s.world
+
+-- How many packets were sent.
+abbrev pub packets_sent : Simulation → ℕ
+packets_sent s = length (world_in s).packets
+
+-- Why a command is refused before parameters were taken: the first that holds. No packet was sent that could be dropped.
+abbrev pub blank_refusal : SimLine → Option SimRefusal
+blank_refusal (Parameters params) = if are_params params then None else Some BadParams
+blank_refusal (Drop k) = Some BadLine
+blank_refusal _ = Some NoParams
+
+-- Why a command is refused between parameters and founders: the first that holds.
+abbrev pub prepared_refusal : SimLine → Option SimRefusal
+prepared_refusal (Parameters params) = Some BadLine
+prepared_refusal (Found founders) = None
+prepared_refusal (Drop k) = Some BadLine
+prepared_refusal _ = Some NoParams
+
+-- Why a command is refused once founders were taken: the first that holds. Of the other lines the world may refuse an event.
+abbrev pub underway_refusal : Simulation → SimLine → Option SimRefusal
+underway_refusal s (Parameters params) = Some BadLine
+underway_refusal s (Found founders) = Some BadLine
+underway_refusal s (Drop k) = if nat_lt (packets_sent s) k then Some BadLine else None
+underway_refusal s _ = None
+
+-- Why a command is refused before it does anything, if it is.
+abbrev pub refusal : SimState → SimLine → Option SimRefusal
+refusal Blank c = blank_refusal c
+refusal (Prepared params) c = prepared_refusal c
+refusal (Underway s) c = underway_refusal s c
+
+-- Why the world of a run refuses an event, if it does.
+abbrev pub refused : Simulation → WorldEvent → Option WorldRefusal
+refused s e = event_refusal s.world e
+
+-- ---- what lines do
+
+-- An event in which no node halts for want of memory.
+abbrev pub unmarked : WorldEvent → MarkedEvent
+unmarked e = record { event = e; halts = false }
+
+-- A run of these founders, in which nothing happened yet.
+abbrev pub begun : Params → List Process → Simulation
+begun params founders = record { world = new_world (founding params founders); settled = set.empty }
+
+-- The run after an event that is accepted.
+abbrev pub taking : Simulation → WorldEvent → Simulation
+taking s e = record s { world = with_event s.world (unmarked e) }
+
+-- The run with one more packet settled.
+abbrev pub settling : Simulation → ℕ → Simulation
+settling s k = record s { settled = set.insert s.settled k }
+
+-- The run after events in turn: they stop at the first that is refused.
+unfoldable pub after_events : Simulation → List WorldEvent → Simulation
+after_events s [] = s
+after_events s (e ∷ es) = if is_some (refused s e) then s else after_events (taking s e) es
+
+-- A packet is delivered and settled, unless that is refused.
+abbrev pub after_delivery : Simulation → ℕ → Simulation
+after_delivery s k = if is_some (refused s (world.Deliver k)) then s else settling (taking s (world.Deliver k)) k
+
+-- The second is the identifier of the member that is observed.
+abbrev pub is_observed_under : Option (Configuration × Process) → Identifier → Bool
+is_observed_under None id = false
+is_observed_under (Some x) id = same_bytes id (identifier x.1)
+
+-- The peer, if there is one, observes the member of this identifier on the ring.
+abbrev pub observes_on : Identifier → Option Peer → ℕ → Bool
+observes_on id None k = false
+observes_on id (Some p) k = is_observed_under (observed p k) id
+
+-- The rings on which the running node of the first identifier observes the member of the second.
+abbrev pub rings_between : World → Identifier → Identifier → List ℕ
+rings_between w observer id = filter (observes_on id (peer_at w (running_under w observer))) (range_with_len 0 w.founding.params.k)
+
+-- Four failed probes.
+abbrev pub failing : Identifier → ℕ → List WorldEvent
+failing observer k = replicate 4 (world.Probe observer k false)
+
+-- The probes by which all that run lose the member of this identifier: four that fail on each ring on which it is observed, by
+-- observer and ring.
+unfoldable pub losing : World → Identifier → List WorldEvent
+losing w id = flat_map (λ observer. flat_map (failing observer) (rings_between w observer id)) (running w)
+
+-- The least packet that was sent and is not settled.
+unfoldable pub least_unsettled : Simulation → Option ℕ
+least_unsettled s = find (λ k. not (set.contains s.settled k)) (range_with_len 1 (packets_sent s))
+
+-- A packet can be delivered in the world of a run.
+abbrev pub can_reach : Simulation → ℕ → Bool
+can_reach s k = can_deliver (world_in s) k
+
+-- The delivery of a packet is refused.
+abbrev pub is_stopped : Simulation → ℕ → Bool
+is_stopped s k = is_some (refused s (world.Deliver k))
+
+-- A packet, if there is one, is delivered and settled where a running node is at its endpoint, else settled alone; then the flow
+-- goes on, unless the delivery was refused.
+abbrev pub after_next : Simulation → Option ℕ → (Simulation → Simulation) → Simulation
+after_next s None flow = s
+after_next s (Some k) flow =
+    if not (can_reach s k) then flow (settling s k)
+    else if is_stopped s k then s
+    else flow (settling (taking s (world.Deliver k)) k)
+
+-- The run after a flow of so many packets at most: each is the least unsettled one.
+unfoldable pub after_flow : ℕ → Simulation → Simulation
+after_flow zero s = s
+after_flow (suc n) s = after_next s (least_unsettled s) (after_flow n)
+
+-- How many packets one flow settles at most.
+abbrev pub most_in_flow : ℕ
+most_in_flow = 10000
+
+-- The run after a command.
+abbrev pub underway_after : Simulation → SimLine → Simulation
+underway_after s (Parameters params) = s
+underway_after s (Found founders) = s
+underway_after s (Events e n) = after_events s (replicate n e)
+underway_after s (Lose id) = after_events s (losing (world_in s) id)
+underway_after s (Deliver k) = after_delivery s k
+underway_after s (Drop k) = settling s k
+underway_after s Flow = after_flow most_in_flow s
+underway_after s Packets = s
+
+-- The state after a command that is not refused at once.
+abbrev pub obeying : SimState → SimLine → SimState
+obeying Blank (Parameters params) = Prepared params
+obeying Blank _ = Blank
+obeying (Prepared params) (Found founders) = Underway (begun params founders)
+obeying (Prepared params) _ = Prepared params
+obeying (Underway s) c = Underway (underway_after s c)
+
+-- The state after a line: one that is refused at once or passed over leaves it.
+unfoldable pub after : SimState → Asked → SimState
+after s Nothing = s
+after s Unknown = s
+after s (Command c) = if is_some (refusal s c) then s else obeying s c
+
+-- ---- the output
+
+-- The name of a refusal of the world.
+abbrev pub world_refusal_name : WorldRefusal → Text
+world_refusal_name faults.IdentifierUsed = codes "IdentifierUsed"
+world_refusal_name faults.EndpointBusy = codes "EndpointBusy"
+world_refusal_name faults.NoSuchNode = codes "NoSuchNode"
+world_refusal_name faults.NoSuchPacket = codes "NoSuchPacket"
+world_refusal_name faults.NotObserved = codes "NotObserved"
+world_refusal_name faults.EventsFull = codes "EventsFull"
+
+-- The name of a refusal.
+abbrev pub refusal_name : SimRefusal → Text
+refusal_name BadLine = codes "BadLine"
+refusal_name NoParams = codes "NoParams"
+refusal_name BadParams = codes "BadParams"
+refusal_name (ByWorld r) = world_refusal_name r
+
+-- The line that a refusal prints.
+abbrev pub refusal_line : SimRefusal → Text
+refusal_line r = codes "refused " ++ refusal_name r ++ line_feed ∷ []
+
+-- The numbers of processes, each after a space.
+abbrev pub numbers_text : List Process → Text
+numbers_text ps = flat_map (λ p. space ∷ decimal (number_under (identifier p))) ps
+
+-- A node by its number.
+abbrev pub node_text : Identifier → Text
+node_text id = codes "node " ++ decimal (number_under id)
+
+-- The process of this identifier is among these.
+abbrev pub is_among : Identifier → List Process → Bool
+is_among id ps = list_any (λ p. same_bytes id (identifier p)) ps
+
+-- What a node that is in a configuration says of it, and one that is not.
+abbrev pub view_text : Identifier → Configuration → Text
+view_text id c =
+    if is_among id c.members then codes " height " ++ decimal c.height ++ codes " members" ++ numbers_text c.members
+    else codes " removed at height " ++ decimal c.height
+
+-- The line that a report prints.
+abbrev pub report_line : WorldReport → Text
+report_line (ReportInstalled id c) = node_text id ++ view_text id c ++ line_feed ∷ []
+report_line (ReportHalted id) = node_text id ++ codes " halted" ++ line_feed ∷ []
+
+-- The lines that reports print.
+abbrev pub reports_text : List WorldReport → Text
+reports_text rs = flat_map report_line rs
+
+-- What an event that is accepted prints.
+abbrev pub taken_text : Simulation → WorldEvent → Text
+taken_text s e = reports_text (step_reports (world_in s) (unmarked e))
+
+-- What an event prints that the world refuses for this reason, or accepts; then what follows it where it is accepted.
+abbrev pub event_text : Simulation → WorldEvent → Option WorldRefusal → Text → Text
+event_text s e (Some r) later = refusal_line (ByWorld r)
+event_text s e None later = taken_text s e ++ later
+
+-- What events print in turn: they stop at the first that is refused, and print why.
+unfoldable pub events_text : Simulation → List WorldEvent → Text
+events_text s [] = []
+events_text s (e ∷ es) = event_text s e (refused s e) (events_text (taking s e) es)
+
+-- What one event prints.
+abbrev pub one_text : Simulation → WorldEvent → Text
+one_text s e = event_text s e (refused s e) []
+
+-- What the next packet of a flow prints, and all that follow it.
+abbrev pub next_text : Simulation → Option ℕ → (Simulation → Text) → Text
+next_text s None flow = []
+next_text s (Some k) flow =
+    if not (can_reach s k) then flow (settling s k)
+    else event_text s (world.Deliver k) (refused s (world.Deliver k)) (flow (settling (taking s (world.Deliver k)) k))
+
+-- What a flow of so many packets at most prints.
+unfoldable pub flow_text : ℕ → Simulation → Text
+flow_text zero s = []
+flow_text (suc n) s = next_text s (least_unsettled s) (flow_text n)
+
+-- What a founding prints: all founders report it.
+abbrev pub founding_text : Configuration → Text
+founding_text c = reports_text (reports_of (founded c).log)
+
+-- What a command of a run prints.
+abbrev pub underway_text : Simulation → SimLine → Text
+underway_text s (Parameters params) = []
+underway_text s (Found founders) = []
+underway_text s (Events e n) = events_text s (replicate n e)
+underway_text s (Lose id) = events_text s (losing (world_in s) id)
+underway_text s (Deliver k) = one_text s (world.Deliver k)
+underway_text s (Drop k) = []
+underway_text s Flow = flow_text most_in_flow s
+underway_text s Packets = codes "packets " ++ decimal (packets_sent s) ++ line_feed ∷ []
+
+-- What a command prints that is not refused at once.
+abbrev pub obeyed_text : SimState → SimLine → Text
+obeyed_text (Underway s) c = underway_text s c
+obeyed_text (Prepared params) (Found founders) = founding_text (founding params founders)
+obeyed_text _ _ = []
+
+-- What a command prints that is refused at once for this reason, or is not.
+abbrev pub command_text : SimState → SimLine → Option SimRefusal → Text
+command_text s c (Some r) = refusal_line r
+command_text s c None = obeyed_text s c
+
+-- What a line prints.
+unfoldable pub printed : SimState → Asked → Text
+printed s Nothing = []
+printed s Unknown = refusal_line BadLine
+printed s (Command c) = command_text s c (refusal s c)
+
+-- What these lines print, from a state on.
+abbrev pub text_of_lines : SimState → List Line → Text
+text_of_lines s [] = []
+text_of_lines s (line ∷ ls) = printed s (asked line) ++ text_of_lines (after s (asked line)) ls
+
+-- The output of an input, where no memory is wanted.
+abbrev pub sim_text : Text → Text
+sim_text input = text_of_lines Blank (lines input)
