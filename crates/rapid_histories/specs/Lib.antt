@@ -1,0 +1,6 @@
+pub mod Examples
+pub mod Firsts
+pub mod Notices
+pub mod Observing
+pub mod Promises
+pub mod Votes
