@@ -17,16 +17,28 @@ code_of EmptyCut = 8
 code_of HeightFull = 9
 code_of OutOfMemory = 99
 
--- The error reports exactly this fault. Want of memory is reported only where there is none, or where
--- just the order or the endpoints, which are looked at last, are at fault.
+-- The error reports exactly this fault. Want of memory may stand for what holds of `Unseen`: there is no fault, or
+-- one that is looked for only once memory was asked for.
+abbrev pub ReportsUnless : (Option fault.ConfigurationFault → Type 0) → Option fault.ConfigurationFault → ConfigError → Type 0
+ReportsUnless Unseen f BadParams = f ≡ Some fault.BadParams
+ReportsUnless Unseen f Truncated = f ≡ Some fault.Truncated
+ReportsUnless Unseen f Trailing = f ≡ Some fault.Trailing
+ReportsUnless Unseen f BadMagic = f ≡ Some fault.BadMagic
+ReportsUnless Unseen f NotSorted = f ≡ Some fault.NotSorted
+ReportsUnless Unseen f EndpointTwice = f ≡ Some fault.EndpointTwice
+ReportsUnless Unseen f TooMany = f ≡ Some fault.TooMany
+ReportsUnless Unseen f EmptyCut = f ≡ Some fault.EmptyCut
+ReportsUnless Unseen f HeightFull = ⊥
+ReportsUnless Unseen f OutOfMemory = Unseen f
+
+-- Of a cut: all is looked at before memory is asked for.
 abbrev pub Reports : Option fault.ConfigurationFault → ConfigError → Type 0
-Reports f BadParams = f ≡ Some fault.BadParams
-Reports f Truncated = f ≡ Some fault.Truncated
-Reports f Trailing = f ≡ Some fault.Trailing
-Reports f BadMagic = f ≡ Some fault.BadMagic
-Reports f NotSorted = f ≡ Some fault.NotSorted
-Reports f EndpointTwice = f ≡ Some fault.EndpointTwice
-Reports f TooMany = f ≡ Some fault.TooMany
-Reports f EmptyCut = f ≡ Some fault.EmptyCut
-Reports f HeightFull = ⊥
-Reports f OutOfMemory = (f ≡ None) ⊎ ((f ≡ Some fault.NotSorted) ⊎ (f ≡ Some fault.EndpointTwice))
+Reports f e = ReportsUnless (λ g. g ≡ None) f e
+
+-- Of founders: their number and their order are looked at first, and their endpoints with memory.
+abbrev pub ReportsOfFounders : Option fault.ConfigurationFault → ConfigError → Type 0
+ReportsOfFounders f e = ReportsUnless (λ g. (g ≡ None) ⊎ (g ≡ Some fault.EndpointTwice)) f e
+
+-- Of bytes: the head and the length are looked at first, and the members once they are read into memory.
+abbrev pub ReportsOfBytes : Option fault.ConfigurationFault → ConfigError → Type 0
+ReportsOfBytes f e = ReportsUnless (λ g. (g ≡ None) ⊎ ((g ≡ Some fault.NotSorted) ⊎ (g ≡ Some fault.EndpointTwice))) f e

@@ -6,7 +6,7 @@ ghost use Rattle.std.specs.Arc.{arc_slice_items};
 ghost use Rattle.rapid_model.specs.Configuration as model;
 ghost use Rattle.rapid_model.specs.Configuration.{AreMembers, IsConfiguration, founding, configuration_bytes, configuration_id, position_of};
 ghost use Rattle.rapid_model.specs.Reading.{members_fault, bytes_fault, configuration_in};
-ghost use Rattle.rapid_config.specs.Faults.{Reports};
+ghost use Rattle.rapid_config.specs.Faults.{ReportsOfFounders, ReportsOfBytes};
 
 use crate::joining::members_after;
 use crate::members::{MOST_MEMBERS, check_members, place_of};
@@ -76,7 +76,8 @@ impl Configuration {
 
     /// The founding configuration of these members, of whom there is at least one. The first that
     /// holds: `TooMany` where there are more than 1,024, `NotSorted` where their identifiers do not
-    /// strictly ascend, `EndpointTwice` where two have one endpoint.
+    /// strictly ascend, `EndpointTwice` where two have one endpoint. `OutOfMemory` comes only where
+    /// neither of the first two holds.
     pub fn seed(
         alloc: Global,
         params: Params,
@@ -86,7 +87,7 @@ impl Configuration {
         ensures value { IfOk result (λ c. c ≡ founding params founders.now) }
         ensures valid { IfOk result IsConfiguration }
         ensures allowed { OnOk result (members_fault founders.now ≡ None) }
-        ensures refused { IfErr result (Reports (members_fault founders.now)) }
+        ensures refused { IfErr result (ReportsOfFounders (members_fault founders.now)) }
     {
         check_members(alloc, founders)?;
         let members = ArcSlice::from_slice(alloc, founders)?;
@@ -99,12 +100,13 @@ impl Configuration {
     /// where they do not begin with `RPC1`, `Truncated` below 49 bytes, `BadParams`, `TooMany` where
     /// they announce more than 1,024 members, `Truncated` or `Trailing` where there are fewer or more
     /// bytes than these members have, `NotSorted` where their identifiers do not strictly ascend,
-    /// `EndpointTwice` where two have one endpoint.
+    /// `EndpointTwice` where two have one endpoint. `OutOfMemory` comes only where none of those before
+    /// `NotSorted` holds.
     pub fn from_bytes(alloc: Global, bytes: &[u8]) -> Result<Configuration, ConfigError>
         ensures value { IfOk result (λ c. c ≡ configuration_in bytes.now) }
         ensures valid { IfOk result IsConfiguration }
         ensures allowed { OnOk result (bytes_fault bytes.now ≡ None) }
-        ensures refused { IfErr result (Reports (bytes_fault bytes.now)) }
+        ensures refused { IfErr result (ReportsOfBytes (bytes_fault bytes.now)) }
     {
         let (params, count) = check_head(bytes)?;
         let members = members_in(alloc, count, bytes)?;

@@ -1,11 +1,12 @@
 // Cuts: the processes that a view change removes or adds.
 
-ghost use Rattle.std.specs.Prelude.{◌≡◌, None, Err, All, length, IfOk, IfErr, OnOk, MatchBool};
+ghost use Rattle.std.specs.Prelude.{◌≡◌, None, All, length, IfOk, IfErr, OnOk, MatchBool};
 ghost use Rattle.std.specs.Ordering.{as_partial_cmp};
 ghost use Rattle.std.specs.Cmp.{partial_equiv_from_equiv, partial_order_from_total};
+ghost use Rattle.std.specs.Cmp.Lexicographic.{slice_cmp};
 ghost use Rattle.std.proofs.lemmas.Cmp.{eq_by_cmp_equiv};
 ghost use Rattle.std.proofs.Common.{refl};
-ghost use Rattle.rapid_model.specs.Process.{IsProcess};
+ghost use Rattle.rapid_model.specs.Process.{IsProcess, process_cmp};
 ghost use Rattle.rapid_model.specs.Cut.{IsCut, is_ascending, cut_cmp, same_cut};
 ghost use Rattle.rapid_model.specs.Reading.{cut_fault};
 ghost use Rattle.rapid_model.proofs.Orders.{cuts_total};
@@ -45,18 +46,31 @@ fn ascend(processes: &[Process]) -> bool
     processes.is_sorted_by(|a, b| a < b)
 }
 
+/// How lists of one length compare: as the first processes that differ do.
+fn compare(mine: &[Process], others: &[Process]) -> Ordering
+    requires { length mine.now ≡ length others.now }
+    ensures { result ≡ slice_cmp process_cmp mine.now others.now }
+{
+    for place in 0..mine.len() {
+        if mine[place] != others[place] {
+            return mine[place].cmp(&others[place]);
+        }
+    }
+    Ordering::Equal
+}
+
 impl Cut {
     /// The most processes of a cut.
     pub const MOST: usize = 1536;
 
     /// The cut of these processes. The first that holds: `EmptyCut` where there is none, `TooMany`
-    /// where there are more than 1,536, `NotSorted` where they do not strictly ascend.
+    /// where there are more than 1,536, `NotSorted` where they do not strictly ascend. `OutOfMemory`
+    /// comes only where none of them holds.
     pub fn new(processes: Vec<Process>) -> Result<Cut, ConfigError>
         ensures value { IfOk result (λ cut. cut ≡ processes.items) }
         ensures valid { IfOk result IsCut }
         ensures allowed { OnOk result (cut_fault processes.items ≡ None) }
         ensures refused { IfErr result (Reports (cut_fault processes.items)) }
-        ensures memory { result ≡ Err ConfigError.OutOfMemory → cut_fault processes.items ≡ None }
     {
         if processes.is_empty() {
             return Err(ConfigError::EmptyCut);
@@ -103,7 +117,8 @@ impl PartialEq for Cut {
     ghost laws = { partial_equiv_from_equiv (eq_by_cmp_equiv cuts_total) };
 
     fn eq(&self, other: &Cut) -> bool {
-        self.cmp(other).is_eq()
+        let (mine, others) = (self.processes(), other.processes());
+        mine.len() == others.len() && compare(mine, others).is_eq()
     }
 }
 
@@ -132,6 +147,9 @@ impl Ord for Cut {
 
     fn cmp(&self, other: &Cut) -> Ordering {
         let (mine, others) = (self.processes(), other.processes());
-        mine.len().cmp(&others.len()).then_with(|| mine.cmp(others))
+        if mine.len() != others.len() {
+            return mine.len().cmp(&others.len());
+        }
+        compare(mine, others)
     }
 }

@@ -12,8 +12,6 @@ mod params;
 mod reading;
 mod spelling;
 mod stamp;
-#[cfg(test)]
-mod tests;
 mod told;
 
 pub use config_id::ConfigId;

@@ -4,7 +4,7 @@ ghost use Rattle.std.specs.Prelude.{◌≡◌, ◌<◌, ◌≤◌, true, None, p
 ghost use Rattle.rapid_model.specs.Process.{same_bytes};
 ghost use Rattle.rapid_model.specs.Configuration.{AreMembers, identifiers_ascend};
 ghost use Rattle.rapid_model.specs.Reading.{members_fault};
-ghost use Rattle.rapid_config.specs.Faults.{Reports};
+ghost use Rattle.rapid_config.specs.Faults.{ReportsOfFounders};
 
 use crate::ConfigError;
 use crate::endpoints::endpoints_of;
@@ -24,11 +24,11 @@ pub(crate) fn identifiers_ascend(processes: &[Process]) -> bool
 
 /// That these can be the members of a configuration, or why not. The first that holds: `TooMany`
 /// where there are more than 1,024, `NotSorted` where their identifiers do not strictly ascend,
-/// `EndpointTwice` where two have one endpoint.
+/// `EndpointTwice` where two have one endpoint. `OutOfMemory` comes only where neither of the first two holds.
 pub(crate) fn check_members(alloc: Global, processes: &[Process]) -> Result<(), ConfigError>
     ensures valid { OnOk result (AreMembers processes.now) }
     ensures allowed { OnOk result (members_fault processes.now ≡ None) }
-    ensures refused { IfErr result (Reports (members_fault processes.now)) }
+    ensures refused { IfErr result (ReportsOfFounders (members_fault processes.now)) }
 {
     if processes.len() > MOST_MEMBERS {
         return Err(ConfigError::TooMany);

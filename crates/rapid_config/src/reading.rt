@@ -5,7 +5,7 @@ ghost use Rattle.std.specs.Arc.{arc_slice_items};
 ghost use Rattle.rapid_model.specs.Process.{same_bytes};
 ghost use Rattle.rapid_model.specs.Configuration.{magic, AreMembers};
 ghost use Rattle.rapid_model.specs.Reading.{params_in, count_in, configuration_in, processes_in, members_fault, bytes_fault};
-ghost use Rattle.rapid_config.specs.Faults.{Reports};
+ghost use Rattle.rapid_config.specs.Faults.{ReportsOfBytes};
 
 use crate::members::{MOST_MEMBERS, check_members};
 use crate::spelling::{HEAD_BYTES, MAGIC, MEMBER_BYTES};
@@ -43,7 +43,7 @@ pub(crate) fn check_head(bytes: &[u8]) -> Result<(Params, usize), ConfigError>
     ensures few { IfOk result (λ r. r.1 ≤ 1024) }
     ensures length { IfOk result (λ r. length bytes.now ≡ 49 + 22 * r.1) }
     ensures fault { IfOk result (λ r. bytes_fault bytes.now ≡ members_fault (configuration_in bytes.now).members) }
-    ensures refused { IfErr result (Reports (bytes_fault bytes.now)) }
+    ensures refused { IfErr result (ReportsOfBytes (bytes_fault bytes.now)) }
     ensures no_memory { IfErr result (λ e. e ≢ ConfigError.OutOfMemory) }
 {
     if bytes.len() < MAGIC.len() {
@@ -106,7 +106,7 @@ pub(crate) fn members_in(
     ensures members { IfOk result (λ members. arc_slice_items members ≡ (configuration_in bytes.now).members) }
     ensures valid { IfOk result (λ members. AreMembers (arc_slice_items members)) }
     ensures allowed { OnOk result (members_fault (configuration_in bytes.now).members ≡ None) }
-    ensures refused { IfErr result (Reports (members_fault (configuration_in bytes.now).members)) }
+    ensures refused { IfErr result (ReportsOfBytes (members_fault (configuration_in bytes.now).members)) }
 {
     let members = read_members(alloc, count, &bytes[HEAD_BYTES..])?;
     check_members(alloc, members.as_slice())?;

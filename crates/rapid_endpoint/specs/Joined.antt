@@ -7,6 +7,7 @@ use Rattle.std.specs.Cmp.{unsigned_ties}
 use Rattle.std.specs.Cmp.Lexicographic.{pointwise, texts_ties}
 use Rattle.std.specs.Int.{w16, to_be_bytes, from_be_bytes}
 use Rattle.std.proofs.lemmas.Nat.{from_be_bytes-to_be_bytes_2}
+use Rattle.std.proofs.lemmas.Bool.{true≢false, false≢true}
 use Rattle.std.proofs.lemmas.Bool.Decides.{nat_tests}
 use Rattle.std.proofs.Math.Seq.{take-append_seam, drop-append_seam}
 use Rattle.std.proofs.lemmas.List.{take_all, drop_all, append-nil}
@@ -34,6 +35,26 @@ cmp_joined (u ∷ us) [] xs ys e = absurd (omega arith)
 cmp_joined (u ∷ us) (v ∷ vs) xs ys e =
     ap (ordering_then (nat_cmp u v)) (cmp_joined us vs xs ys (omega arith))
     ∙ sym (then_assoc (nat_cmp u v) (bytes_cmp us vs) (bytes_cmp xs ys))
+
+not_tied : (a b : Ordering) → is_eq a ≡ false → a ≡ ordering_then a b
+not_tied Less b h = refl
+not_tied Equal b h = absurd (true≢false h)
+not_tied Greater b h = refl
+
+tied : (a b : Ordering) → is_eq a ≡ true → b ≡ ordering_then a b
+tied Less b h = absurd (false≢true h)
+tied Equal b h = refl
+tied Greater b h = absurd (false≢true h)
+
+-- Where the first parts are not the same, they decide.
+pub first_decides : (us vs xs ys : List ℕ) → length us ≡ length vs → same_bytes us vs ≡ false
+    → bytes_cmp us vs ≡ bytes_cmp (us ++ xs) (vs ++ ys)
+first_decides us vs xs ys e h = not_tied (bytes_cmp us vs) (bytes_cmp xs ys) h ∙ sym (cmp_joined us vs xs ys e)
+
+-- Where they are, the second parts do.
+pub second_decides : (us vs xs ys : List ℕ) → length us ≡ length vs → same_bytes us vs ≡ true
+    → bytes_cmp xs ys ≡ bytes_cmp (us ++ xs) (vs ++ ys)
+second_decides us vs xs ys e h = tied (bytes_cmp us vs) (bytes_cmp xs ys) h ∙ sym (cmp_joined us vs xs ys e)
 
 then_is_eq : (a b : Ordering) → is_eq (ordering_then a b) ≡ (is_eq a && is_eq b)
 then_is_eq Less b = refl

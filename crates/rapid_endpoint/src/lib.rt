@@ -18,6 +18,3 @@ pub use endpoint_text::endpoints_have_one_spelling;
 pub use parse_error::ParseError;
 pub use process::Process;
 pub use process_id::ProcessId;
-
-#[cfg(test)]
-mod tests;

@@ -116,6 +116,7 @@ impl PartialEq for Process {
 
     ghost laws = { partial_equiv_from_equiv (eq_by_cmp_equiv nat_list_cmp_total) };
 
+    #[inline(always)]
     fn eq(&self, other: &Process) -> bool {
         self.id == other.id && self.endpoint == other.endpoint
     }
@@ -144,9 +145,11 @@ impl Ord for Process {
 
     ghost matches_eq = { λ x y. refl };
 
+    #[inline(always)]
     fn cmp(&self, other: &Process) -> Ordering {
-        self.id
-            .cmp(&other.id)
-            .then(self.endpoint.cmp(&other.endpoint))
+        if self.id != other.id {
+            return self.id.cmp(&other.id);
+        }
+        self.endpoint.cmp(&other.endpoint)
     }
 }

@@ -61,6 +61,7 @@ impl PartialEq for ProcessId {
 
     ghost laws = { partial_equiv_from_equiv (eq_by_cmp_equiv nat_list_cmp_total) };
 
+    #[inline(always)]
     fn eq(&self, other: &ProcessId) -> bool {
         self.bytes == other.bytes
     }
@@ -89,7 +90,13 @@ impl Ord for ProcessId {
 
     ghost matches_eq = { λ x y. refl };
 
+    // Two numbers of sixteen bytes, high byte first, compare as these bytes do.
+    #[inline(always)]
     fn cmp(&self, other: &ProcessId) -> Ordering {
-        self.bytes.cmp(&other.bytes)
+        let (mine, others) = (
+            u128::from_be_bytes(self.bytes),
+            u128::from_be_bytes(other.bytes),
+        );
+        mine.cmp(&others)
     }
 }

@@ -1,6 +1,6 @@
 // The side of the process that joins.
 
-ghost use Rattle.std.specs.Prelude.{◌≡◌, ◌&&◌, [], map, IfOk, if◌then◌else◌};
+ghost use Rattle.std.specs.Prelude.{◌≡◌, ◌&&◌, [], map, IfOk, IsOk, if◌then◌else◌};
 ghost use Rattle.rapid_model.specs.Process.{same_bytes};
 ghost use Rattle.rapid_model.specs.Joiner.{fresh_joiner, after_tick, asks_at_tick, requests_from, sent_at_reply};
 ghost use Rattle.rapid_join.specs.Answers.{answer_of, is_safe, request_of, sent_by, is_requests, question_to};
@@ -84,15 +84,16 @@ impl Joiner {
         }
     }
 
-    /// An equal joiner.
-    pub fn copy(&self) -> Joiner
-        ensures { result ≡ self.now }
+    /// An equal joiner. It takes no memory, and is always Ok.
+    pub fn try_copy(&self) -> Result<Joiner, AllocError>
+        ensures equal { IfOk result (λ joiner. joiner ≡ self.now) }
+        ensures made { IsOk result }
     {
-        Joiner {
+        Ok(Joiner {
             process: self.process,
             seed: self.seed,
             ticks: self.ticks,
-        }
+        })
     }
 }
 

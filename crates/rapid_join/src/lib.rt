@@ -12,8 +12,6 @@ mod joiner;
 mod observers;
 mod pending;
 mod reply;
-#[cfg(test)]
-mod tests;
 
 pub use answers::{HostAnswer, JoinRequest, JoinerAnswer};
 pub use host::Host;

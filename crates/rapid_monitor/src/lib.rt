@@ -6,6 +6,3 @@ mod monitors;
 
 pub use edge::{Edge, Verdict};
 pub use monitors::Monitors;
-
-#[cfg(test)]
-mod tests;

@@ -1,3 +1,5 @@
+pub mod Edges
 pub mod Faults
+pub mod Following
 pub mod Held
 pub mod Seats

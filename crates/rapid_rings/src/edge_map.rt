@@ -3,15 +3,16 @@
 ghost use Rattle.std.specs.Prelude.{◌≡◌, OnOk, OnErr};
 ghost use Rattle.std.specs.FinMap as finmap;
 
+use crate::edge_key::EdgeKey;
 use rapid_endpoint::Process;
 use std::alloc::{AllocError, Global};
-use std::collections::BTreeMap;
+use std::collections::HashMap;
 use std::marker::Model;
 
 /// The observer of each subject and ring that have one.
 #[derive(Debug, Drop)]
 pub(crate) struct EdgeMap {
-    observers: BTreeMap<(Process, u8), Process>,
+    observers: HashMap<EdgeKey, Process>,
 }
 
 impl Model for EdgeMap {
@@ -31,7 +32,7 @@ impl EdgeMap {
         ensures { result ≡ finmap.empty }
     {
         EdgeMap {
-            observers: BTreeMap::new(alloc),
+            observers: HashMap::new(alloc),
         }
     }
 
@@ -39,14 +40,14 @@ impl EdgeMap {
     pub(crate) fn observer(&self, ring: u8, subject: &Process) -> Option<Process>
         ensures { result ≡ finmap.get self.now (subject.now, ring) }
     {
-        self.observers.get(&(*subject, ring)).copied()
+        self.observers.get(&EdgeKey::new(*subject, ring)).copied()
     }
 
     /// Whether the subject has an observer on a ring.
     pub(crate) fn contains(&self, ring: u8, subject: &Process) -> bool
         ensures { result ≡ finmap.contains_key self.now (subject.now, ring) }
     {
-        self.observers.contains_key(&(*subject, ring))
+        self.observers.contains_key(&EdgeKey::new(*subject, ring))
     }
 
     /// Sets the observer of the subject on a ring. Want of memory leaves the edges as they were.
@@ -59,7 +60,8 @@ impl EdgeMap {
         ensures ok { OnOk result (self.new ≡ finmap.insert self.old (subject, ring) observer) }
         ensures unchanged { OnErr result (self.new ≡ self.old) }
     {
-        self.observers.insert((subject, ring), observer)?;
+        self.observers
+            .insert(EdgeKey::new(subject, ring), observer)?;
         Ok(())
     }
 }

@@ -4,6 +4,8 @@
 //! Whoever takes alerts asks an [`ObserverTable`]: the [`Rings`] of a configuration, or a [`Table`] of explicit edges.
 #![tactic(auto)]
 
+mod departed;
+mod edge_key;
 mod edge_map;
 mod observer_table;
 mod process_set;
@@ -12,8 +14,6 @@ mod rings;
 mod seating;
 mod table;
 mod table_error;
-#[cfg(test)]
-mod tests;
 
 pub use observer_table::ObserverTable;
 pub use rings::Rings;

@@ -27,4 +27,13 @@ pub trait ObserverTable {
     /// The member that observes the subject, a member or a joiner, on a ring from 0; none at a ring not below K.
     fn observer(&self, ring: u8, subject: &Process) -> Option<Process>
         ensures { result ≡ (observers self.now).observer ring subject.now };
+
+    /// Whether the subject is a member, and who observes it on a ring: what `is_member` and `observer` answer, for
+    /// the cost of one search where the table has a cheaper way than both.
+    fn member_and_observer(&self, ring: u8, subject: &Process) -> (bool, Option<Process>)
+        ensures member { result.0 ≡ (observers self.now).is_member subject.now }
+        ensures observer { result.1 ≡ (observers self.now).observer ring subject.now }
+    {
+        (self.is_member(subject), self.observer(ring, subject))
+    }
 }

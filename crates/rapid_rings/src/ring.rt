@@ -1,16 +1,18 @@
 // One ring.
 
-ghost use Rattle.std.specs.Prelude.{◌≡◌, ℕ, true, List, Some, None};
+ghost use Rattle.std.specs.Prelude.{◌≡◌, ◌&&◌, ◌||◌, not, ℕ, true, List, Some, None, IfOk};
 ghost use Rattle.std.specs.Option.{option_eq};
-ghost use Rattle.std.specs.List.{find};
+ghost use Rattle.std.specs.List.{find, list_any};
 ghost use Rattle.std.specs.Ordering.{is_lt, is_le};
 ghost use Rattle.std.specs.FinSet as set;
 ghost use Rattle.rapid_model.specs.Process.{Process as ModelProcess, same_bytes, is_in};
 ghost use Rattle.rapid_model.specs.Ring as model;
-ghost use Rattle.rapid_rings.specs.Seats.{seat_cmp, seats_of, IsLastBelow, IsLast, IsNextBefore, IsFirstAbove, IsFirst, IsNextAfter};
+ghost use Rattle.rapid_rings.specs.Seats.{Seat as ModelSeat, seat_cmp, same_seat, seats_of, IsLastBelow, IsLast, IsNextBefore, IsFirstAbove, IsFirst, IsNextAfter};
 
+use crate::departed::Departed;
 use rapid_endpoint::Process;
 use sha2::{Digest, Sha256};
+use std::alloc::{AllocError, Global};
 use std::marker::Model;
 
 /// A process with its key on a ring. Seats are ordered by key; ties are broken by process.
@@ -68,6 +70,42 @@ impl Ring {
     {
         seats.sort_unstable();
         Ring { seats }
+    }
+
+    /// The same ring without the seats of those that departed, and with more seats: they are merged in.
+    pub(crate) fn next(
+        &self,
+        alloc: Global,
+        departed: &Departed,
+        newcomers: &[Seat],
+    ) -> Result<Ring, AllocError>
+        ensures { IfOk result (λ ring. (q : ModelSeat) →
+            set.contains ring q ≡ ((set.contains self.now q && not (set.contains departed.now q.1)) || list_any (same_seat q) newcomers.now)) }
+    {
+        let mut seats = self.remaining(alloc, departed, newcomers.len())?;
+        seats.extend_from_slice(newcomers)?;
+        seats.sort()?;
+        Ok(Ring { seats })
+    }
+
+    // The seats of those that did not depart, in order, with room for more.
+    fn remaining(
+        &self,
+        alloc: Global,
+        departed: &Departed,
+        more: usize,
+    ) -> Result<Vec<Seat>, AllocError>
+        ensures { IfOk result (λ kept. (q : ModelSeat) →
+            list_any (same_seat q) kept.items ≡ (set.contains self.now q && not (set.contains departed.now q.1))) }
+    {
+        let seats = self.seats.as_slice();
+        let mut kept = Vec::with_capacity(alloc, seats.len().saturating_add(more))?;
+        for seat in seats {
+            if !departed.has(&seat.1) {
+                kept.push(*seat)?;
+            }
+        }
+        Ok(kept)
     }
 
     /// The process in the seat next before this one, going round.

@@ -1,15 +1,17 @@
 // The rings of a configuration.
 
-ghost use Rattle.std.specs.Prelude.{◌≡◌, ◌++◌, Some, map, IfSome, IfOk, OnOk};
+ghost use Rattle.std.specs.Prelude.{◌≡◌, [], ◌∷◌, ◌++◌, not, Some, is_some, map, filter, if◌then◌else◌, IfSome, IfOk, OnOk};
 ghost use Rattle.std.specs.List.{slice_get};
 ghost use Rattle.std.specs.Option.{option_and_then, option_map, option_to_list};
-ghost use Rattle.rapid_rings.specs.Seats.{seat, seatings_of};
+ghost use Rattle.rapid_rings.specs.Seats.{seat, seats_of, seatings_of};
+ghost use Rattle.rapid_rings.specs.Following.{HaveCome, HaveDeparted};
 ghost use Rattle.rapid_model.specs.Process.{Process as ModelProcess};
 ghost use Rattle.rapid_model.specs.Configuration.{position_of};
 ghost use Rattle.rapid_model.specs.Ring as model;
 ghost use Rattle.rapid_model.specs.Ring.{observers_of, subject_on, subjects_of};
 
 use crate::ObserverTable;
+use crate::departed::Departed;
 use crate::ring::{Ring, Seat, ring_key};
 use crate::seating::Seating;
 use rapid_config::{ConfigId, Configuration, Params};
@@ -102,11 +104,22 @@ impl Rings {
         }
     }
 
-    // The key of a process on a ring, which is computed only where the process is no member.
-    fn key(&self, ring: u8, process: &Process) -> [u8; 32]
+    // The observer of a process on a ring. It is found sooner where the process is the member at this place.
+    #[tactic(auto, unfolding(rapid_model::specs::Ring::observers_of))]
+    fn observer_of(&self, ring: u8, place: Option<usize>, process: &Process) -> Option<Process>
+        ensures { result ≡ (observers_of self.now).observer ring process.now }
+    {
+        match self.rings.get(usize::from(ring)) {
+            Some(seats) => seats.observer(&(self.key(ring, place, process), *process)),
+            None => None,
+        }
+    }
+
+    // The key of a process on a ring, which is computed only where it is not that of the member at this place.
+    fn key(&self, ring: u8, place: Option<usize>, process: &Process) -> [u8; 32]
         ensures { result ≡ model.ring_key ring process.now }
     {
-        match self.configuration.position(process) {
+        match place {
             Some(place) => self.key_near(ring, place, process),
             None => ring_key(ring, process),
         }
@@ -145,11 +158,21 @@ fn build(
     ensures { IfOk result (λ rings. rings ≡ configuration.now) }
 {
     let members = locate(alloc, configuration.members(), before)?;
+    let departed = departed_from(alloc, before, configuration)?;
     let mut rings = Vec::new(alloc);
     let mut seatings = Vec::new(alloc);
     for number in 0..configuration.params().k() {
-        let seating = seat_members(alloc, number, members.as_slice(), before)?;
-        rings.push(seating.ring(alloc)?)?;
+        let (seating, newcomers) = seat_members(alloc, number, members.as_slice(), before)?;
+        let newcomers = newcomers.as_slice();
+        rings.push(ring_of(
+            alloc,
+            number,
+            configuration,
+            &seating,
+            newcomers,
+            before,
+            &departed,
+        )?)?;
         seatings.push(seating)?;
     }
     Ok(Rings {
@@ -184,20 +207,76 @@ fn place_before(before: Option<&Rings>, process: &Process) -> Option<usize>
     }
 }
 
-// The members on the ring with this number, by place.
+// The members before that are members no more.
+fn departed_from(
+    alloc: Global,
+    before: Option<&Rings>,
+    configuration: &Configuration,
+) -> Result<Departed, AllocError>
+    ensures { IfOk result (λ departed. IfSome before.entry (λ rings. HaveDeparted rings.now configuration.now departed)) }
+{
+    match before {
+        Some(rings) => Departed::between(alloc, &rings.configuration, configuration),
+        None => Ok(Departed::nobody(alloc)),
+    }
+}
+
+// The members on the ring with this number, by place, and the seats of those that have no place before.
 fn seat_members(
     alloc: Global,
     number: u8,
     members: &[Located],
     before: Option<&Rings>,
-) -> Result<Seating, AllocError>
-    ensures { IfOk result (λ seating. seating ≡ map (λ m. seat number m.0) members.now) }
+) -> Result<(Seating, Vec<Seat>), AllocError>
+    ensures seating { IfOk result (λ r. r.0 ≡ map (λ m. seat number m.0) members.now) }
+    ensures newcomers { IfOk result (λ r. r.1.items ≡ map (λ m. seat number m.0) (filter (λ m. not (is_some m.1)) members.now)) }
 {
     let mut seating = Seating::with_capacity(alloc, members.len())?;
+    let mut newcomers = Vec::new(alloc);
     for member in members {
-        seating.push((known_key(before, number, member), member.0))?;
+        let key = known_key(before, number, member);
+        add_newcomer(&mut newcomers, member, key)?;
+        seating.push((key, member.0))?;
     }
-    Ok(seating)
+    Ok((seating, newcomers))
+}
+
+// Adds the seat of a member that has no place before.
+fn add_newcomer(
+    newcomers: &mut Vec<Seat>,
+    member: &Located,
+    key: [u8; 32],
+) -> Result<(), AllocError>
+    ensures { OnOk result (newcomers.new.items ≡ (if is_some member.now.1 then newcomers.old.items else newcomers.old.items ++ (key, member.now.0) ∷ [])) }
+{
+    if member.1.is_none() {
+        newcomers.push((key, member.0))?;
+    }
+    Ok(())
+}
+
+// The ring with this number: made of the ring before, if there is one, else of the seats of all members.
+fn ring_of(
+    alloc: Global,
+    number: u8,
+    configuration: &Configuration,
+    seating: &Seating,
+    newcomers: &[Seat],
+    before: Option<&Rings>,
+    departed: &Departed,
+) -> Result<Ring, AllocError>
+    requires seated { seating.now ≡ map (seat number) configuration.now.members }
+    requires newcomers { IfSome before (λ rings. HaveCome rings.now configuration.now number newcomers.now) }
+    requires departed { IfSome before (λ rings. HaveDeparted rings.now configuration.now departed.now) }
+    ensures { IfOk result (λ ring. ring ≡ seats_of number configuration.now.members) }
+{
+    match before {
+        Some(rings) => match rings.rings.get(usize::from(number)) {
+            Some(ring) => ring.next(alloc, departed, newcomers),
+            None => seating.ring(alloc),
+        },
+        None => seating.ring(alloc),
+    }
 }
 
 // The key of a process on a ring, which rings before may have.
@@ -242,9 +321,11 @@ impl ObserverTable for Rings {
     }
 
     fn observer(&self, ring: u8, subject: &Process) -> Option<Process> {
-        match self.rings.get(usize::from(ring)) {
-            Some(seats) => seats.observer(&(self.key(ring, subject), *subject)),
-            None => None,
-        }
+        self.observer_of(ring, self.configuration.position(subject), subject)
+    }
+
+    fn member_and_observer(&self, ring: u8, subject: &Process) -> (bool, Option<Process>) {
+        let place = self.configuration.position(subject);
+        (place.is_some(), self.observer_of(ring, place, subject))
     }
 }

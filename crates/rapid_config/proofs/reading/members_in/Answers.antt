@@ -1,10 +1,9 @@
 use Rattle.std.proofs.Common.{◌≡◌, ◌≤◌, ℕ, List, length, drop, sym, ap, subst, ◌∙◌, inl, arith}
 use Rattle.std.proofs.lemmas.Result.{err_from_is_err_and}
 use Rattle.rapid_model.specs.Process.{Process}
-use Rattle.rapid_model.specs.Configuration.{AreMembers}
 use Rattle.rapid_model.specs.Reading.{processes_in, members_fault, count_in}
-use Rattle.rapid_config.specs.Faults.{Reports}
-use Rattle.rapid_config.proofs.Announced.{announced, late_fault, length_in}
+use Rattle.rapid_config.specs.Faults.{ReportsOfBytes}
+use Rattle.rapid_config.proofs.Announced.{announced, late_fault, of_bytes, length_in}
 use Rattle.rapid_config.proofs.reading.members_in.Goals as goal
 
 few : (n m : ℕ) (bytes : List ℕ) → n ≡ m → n ≤ 1024 → length (processes_in m bytes) ≤ 1024
@@ -20,7 +19,7 @@ pub returns-in_err-check_members-clause-refused : goal.returns-in_err-check_memb
 returns-in_err-check_members-clause-refused c =
     let p = err_from_is_err_and c.from_residual-in_err-check_members.result c.from_residual-in_err-check_members.ensures.1 in
     let all = announced c.args.bytes.now c.args.count c.in_ok-members.members.items c.requires.count c.in_ok-members.ensures in
-    rw (p.1, p.2) (subst (λ (ps : List Process). Reports (members_fault ps) c.in_err-check_members.field-0.0) (c.as_slice.ensures.value ∙ all) c.in_err-check_members.ensures.refused)
+    rw (p.1, p.2) (subst (λ (ps : List Process). ReportsOfBytes (members_fault ps) c.in_err-check_members.field-0.0) (c.as_slice.ensures.value ∙ all) (of_bytes _ _ c.in_err-check_members.ensures.refused))
 
 pub returns-in_err-shared-clause-refused : goal.returns-in_err-shared-clause-refused
 returns-in_err-shared-clause-refused c =

@@ -1,4 +1,4 @@
-use Rattle.std.proofs.Common.{ℕ, List, [], ◌∷◌, ◌++◌, sym, ap, ◌∙◌}
+use Rattle.std.proofs.Common.{List, [], ◌∷◌, ◌++◌, sym, ap, ◌∙◌}
 use Rattle.rapid_model.specs.Process.{Process}
 use Rattle.rapid_model.specs.Reading.{processes_in}
 use Rattle.rapid_config.proofs.Announced.{members_more}

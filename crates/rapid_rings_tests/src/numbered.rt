@@ -1,0 +1,15 @@
+// Processes by their numbers.
+
+use rapid_endpoint::{Endpoint, Process, ProcessId};
+
+/// The process of this identifier in 16 bytes, at this port of 127.0.0.1.
+pub fn at(number: u16, port: u16) -> Process {
+    let [high, low] = number.to_be_bytes();
+    let id = ProcessId::new([0, 0, 0, 0, 0, 0, 0, 0, 0, 0, 0, 0, 0, 0, high, low]);
+    Process::new(id, Endpoint::new([127, 0, 0, 1], port))
+}
+
+/// The process with this number as identifier and port.
+pub fn process(number: u16) -> Process {
+    at(number, number)
+}
