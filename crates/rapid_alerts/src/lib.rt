@@ -7,8 +7,6 @@ mod batch;
 mod errors;
 mod index;
 mod outbox;
-#[cfg(test)]
-mod tests;
 
 pub use alert::{Alert, Kind};
 pub use batch::Batch;

@@ -1,15 +1,16 @@
 -- A detector before and after a batch.
-use Rattle.std.proofs.Common.{◌≡◌, ℕ, ◌-◌, ◌≤◌, Bool, true, false, cond, ◌||◌, List, [], ◌∷◌, length, filter, refl, sym, ap, subst, ◌∙◌, arith, Option, Some, None, is_some}
+use Rattle.std.proofs.Common.{◌≡◌, ℕ, ◌-◌, Bool, true, false, cond, ◌||◌, List, [], ◌∷◌, length, filter, refl, sym, ap, subst, ◌∙◌, arith, Option, Some, None, is_some}
 use Rattle.std.specs.FinSet as set
-use Rattle.rapid_model.specs.Process.{Process, is_in, same_bytes}
+use Rattle.rapid_model.specs.Process.{Process, is_in}
 use Rattle.rapid_model.specs.Cut.{Cut}
 use Rattle.rapid_model.specs.Alert.{Alert}
 use Rattle.rapid_model.specs.Ring.{Observers, AreObservers}
-use Rattle.rapid_model.specs.Reports.{Report, report_cmp, Reports, subjects, reports, is_implied, cut_of}
-use Rattle.rapid_model.specs.Detector.{Detector, joiners, taken, with_alerts, batch_taken, direct_after, after_batch}
+use Rattle.rapid_model.specs.Reports.{Report, report_cmp, Reports, subjects, reports, reaches_low, is_implied, cut_if, is_stable, unstable, cut_of}
+use Rattle.rapid_model.specs.Detector.{Detector, joiners, taken, with_alerts, batch_taken, direct_after, after_batch, batch_cut}
 use Rattle.rapid_model.proofs.Orders.{same_bytes_decides}
 use Rattle.rapid_model.proofs.Closure.{reports_least}
-use Rattle.rapid_cut.specs.Limits.{IsWithinLimits, IsDetecting}
+use Rattle.rapid_cut.specs.Closing.{active}
+use Rattle.rapid_cut.specs.Limits.{IsDetecting, IsKept, IsRepeated}
 use Rattle.rapid_cut.specs.Watching.{Watching}
 use Rattle.rapid_cut.proofs.Sets.{report_on}
 use Rattle.rapid_cut.proofs.Closing.{least_is_one, on_low}
@@ -52,6 +53,22 @@ detecting_none t direct all obs d a =
       };
     }))
 
+pub kept_none : (t : Observers) (direct all : Reports) → AreObservers t → direct ≡ set.empty → all ≡ set.empty → IsKept t direct all [] 0 false
+kept_none t direct all obs d a =
+    record {
+      detecting = detecting_none t direct all obs d a;
+      active = sym (ap (active t) d ∙ ap (filter (λ s. reaches_low t none (Some s))) (empty_list (subjects none) no_subject));
+      count = sym (ap (λ r. length (joiners t r)) d ∙ ap (λ ps. length (filter (is_joiner t) ps)) (empty_list (subjects none) no_subject));
+      none_yet = λ _. ap (cut_of t) d ∙ ap (λ ps. cut_if (filter (is_stable t (reports t none)) ps) (unstable t none)) (empty_list (subjects none) no_subject);
+    }
+
+pub kept_after : (t : Observers) (direct all : Reports) (listed : List Process) (joined : ℕ) (cut : Option Cut) → IsDetecting t direct all → listed ≡ active t direct → joined ≡ length (joiners t direct) → cut ≡ cut_of t direct → IsKept t direct all listed joined (is_some cut)
+kept_after t direct all listed joined cut d l j is = record { detecting = d; active = l; count = j; none_yet = λ h. sym is ∙ none_of cut h }
+  where
+    none_of : (c : Option Cut) → is_some c ≡ false → c ≡ None
+    none_of None h = refl
+    none_of (Some c) h = cc
+
 -- ---- a batch
 
 or_keeps : (a b : Bool) → a ≡ true → (a || b) ≡ a
@@ -69,3 +86,33 @@ closed_after t d xs h =
 
 pub after_along : {T : Type 0} (f : T → Observers) (w v : Watching T) (xs : List Alert) → w ≡ v → after_batch (f w.table) w.detector xs ≡ after_batch (f v.table) v.detector xs
 after_along {T} f w v xs e = ap (λ (u : Watching T). after_batch (f u.table) u.detector xs) e
+
+-- a batch that is there already changes nothing
+
+or_false : (a : Bool) → (a || false) ≡ a
+or_false true = refl
+or_false false = refl
+
+direct_stays : (t : Observers) (d : Detector) (xs : List Alert) (count : ℕ) → d.closed ≡ false → IsRepeated t d.direct xs count → direct_after t d xs ≡ d.direct
+direct_stays t d xs count h r = ap (λ b. with_alerts d.direct (cond b [] (taken t d.direct xs))) h ∙ r.same
+
+pub repeated_after : (t : Observers) (d : Detector) (xs : List Alert) (count : ℕ) → d.closed ≡ false → IsRepeated t d.direct xs count → cut_of t d.direct ≡ None
+    → (let e : Detector = record { direct = d.direct; closed = d.closed; skipped = length xs - count } in e) ≡ after_batch t d xs
+unfolding after_batch
+repeated_after t d xs count h r none =
+    let direct = direct_stays t d xs count h r in
+    let closed = ap (λ q. d.closed || is_some (cut_of t q)) direct ∙ ap (λ c. d.closed || is_some c) none ∙ or_false d.closed in
+    let skipped : ◌≡◌ {A = ℕ} (cond d.closed 0 (length xs - length (batch_taken t d xs))) (length xs - count) =
+    ap (λ b. cond b 0 (length xs - length (cond b [] (taken t d.direct xs)))) h ∙ ap (λ n. length xs - n) r.number in
+    λ i. record { direct = sym direct i; closed = sym closed i; skipped = sym skipped i }
+
+pub repeated_cut : (t : Observers) (d : Detector) (xs : List Alert) (count : ℕ) → d.closed ≡ false → IsRepeated t d.direct xs count → cut_of t d.direct ≡ None → None ≡ batch_cut t d xs
+unfolding batch_cut
+repeated_cut t d xs count h r none =
+    sym (ap (λ b. cond b None (cut_of t (direct_after t d xs))) h ∙ ap (cut_of t) (direct_stays t d xs count h r) ∙ none)
+
+pub cut_along : {T : Type 0} (f : T → Observers) (w v : Watching T) (xs : List Alert) → w ≡ v → batch_cut (f w.table) w.detector xs ≡ batch_cut (f v.table) v.detector xs
+cut_along {T} f w v xs e = ap (λ (u : Watching T). batch_cut (f u.table) u.detector xs) e
+
+pub unstable_along : {T : Type 0} (f : T → Observers) (w v : Watching T) → w ≡ v → unstable (f w.table) w.detector.direct ≡ unstable (f v.table) v.detector.direct
+unstable_along {T} f w v e = ap (λ (u : Watching T). unstable (f u.table) u.detector.direct) e

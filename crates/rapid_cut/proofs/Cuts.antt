@@ -1,21 +1,23 @@
 -- The stable processes are a cut.
-use Rattle.std.proofs.Common.{◌≡◌, ℕ, zero, suc, ◌+◌, ◌≤◌, ◌<◌, Bool, true, false, cond, not, ◌&&◌, ◌||◌, List, [], ◌∷◌, length, filter, get_or, refl, sym, ap, subst, ◌∙◌, arith, Option, Some, None, nat_lt}
-use Rattle.std.specs.Prelude.{All, IsTrue}
-use Rattle.std.specs.List.Sorted.{IsStrictlySortedBy}
+use Rattle.std.proofs.Common.{◌≡◌, ℕ, zero, suc, ◌+◌, ◌≤◌, Bool, true, false, cond, not, ◌||◌, List, [], ◌∷◌, length, filter, refl, sym, ap, subst, ◌∙◌, arith, Some, None, nat_lt, nat_le}
+use Rattle.std.specs.Prelude.{All}
+use Rattle.std.specs.List.{list_any}
 use Rattle.std.proofs.lemmas.List.Kept.{IsStrictlySortedBy-filter}
 use Rattle.rapid_model.specs.Process.{Process, process_cmp, is_in, same_bytes}
 use Rattle.rapid_model.specs.Cut.{is_ascending}
 use Rattle.rapid_model.specs.Ring.{Observers, AreObservers, IsObserved}
-use Rattle.rapid_model.specs.Reports.{Reports, subjects}
-use Rattle.rapid_model.specs.Detector.{joiners}
-use Rattle.rapid_model.specs.Reading.{ConfigurationFault, cut_fault, EmptyCut, TooMany, NotSorted}
+use Rattle.rapid_model.specs.Reports.{Reports, subjects, tally, reaches_low, is_stable, is_unstable, stable, unstable, cut_if}
+use Rattle.rapid_model.specs.Reading.{cut_fault, TooMany, NotSorted}
 use Rattle.rapid_model.proofs.InOrder.{ascends}
 use Rattle.rapid_model.proofs.Orders.{same_bytes_decides}
 use Rattle.rapid_config.specs.Faults.{Reports as Refuses}
 use Rattle.rapid_config.specs.declared.error.ConfigError.{ConfigError}
 use Rattle.rapid_config.specs.declared.error.ConfigError.TheVariants.{BadParams, Truncated, Trailing, BadMagic, NotSorted as Unsorted, EndpointTwice, TooMany as Many, EmptyCut as Empty, HeightFull, OutOfMemory}
-use Rattle.rapid_cut.specs.Limits.{IsWithinLimits}
-use Rattle.rapid_cut.proofs.Joiners.{sorted_subjects, is_joiner}
+use Rattle.rapid_cut.specs.Closing.{active}
+use Rattle.rapid_cut.specs.Limits.{IsWithinLimits, IsDetecting}
+use Rattle.rapid_cut.proofs.Closing.{both}
+use Rattle.rapid_cut.proofs.OnePass.{low_before}
+use Rattle.rapid_cut.proofs.Joiners.{sorted_subjects}
 
 only_memory : (e : ConfigError) → Refuses None e → e ≡ OutOfMemory
 only_memory BadParams h = cc
@@ -85,3 +87,67 @@ refused_for_memory t r p found e obs w is some h =
     let few : length found ≤ 1536 = (let a = few_subjects t r obs w in let b = fewer p (subjects r) in let c = ap length is in omega (arith, a, b, c)) in
     let up : is_ascending found ≡ true = ap is_ascending is ∙ ascends (filter p (subjects r)) (IsStrictlySortedBy-filter process_cmp p (subjects r) (sorted_subjects r)) in
     only_memory e (subst (λ f. Refuses f e) (no_fault found some few up) h)
+
+-- ---- only processes with L direct reports are stable or unstable
+
+filter_within : (p q : Process → Bool) (xs : List Process) → ((x : Process) → p x ≡ true → q x ≡ true) → filter p (filter q xs) ≡ filter p xs
+filter_within p q [] h = refl
+filter_within p q (x ∷ xs) h =
+    elim (q x) as (λ b. q x ≡ b → filter p (cond b (x ∷ filter q xs) (filter q xs)) ≡ filter p (x ∷ xs)) [
+      | true ↦ λ e. ap (λ l. cond (p x) (x ∷ l) l) (filter_within p q xs h)
+      | false ↦ λ e. filter_within p q xs h ∙ sym (ap (λ b. cond b (x ∷ filter p xs) (filter p xs)) (fails (p x) (q x) (h x) e))
+    ] refl
+  where
+    fails : (a b : Bool) → (a ≡ true → b ≡ true) → b ≡ false → a ≡ false
+    fails true b h e = sym (h refl) ∙ e
+    fails false b h e = refl
+
+pub stable_of : (t : Observers) (direct all : Reports) (ss : List Process) → IsDetecting t direct all → ss ≡ active t direct → filter (is_stable t all) ss ≡ stable t direct
+stable_of t direct all ss d e =
+    ap (filter (is_stable t all)) e
+    ∙ filter_within (is_stable t all) (λ s. reaches_low t direct (Some s)) (subjects direct) (λ s h.
+    low_before t direct (Some s) d.rules (subst (λ r. reaches_low t r (Some s) ≡ true) d.closure (at_least t.params.l t.params.h (tally t all s) d.rules.params.below h)))
+    ∙ ap (λ r. filter (is_stable t r) (subjects direct)) d.closure
+  where
+    at_least : (l h n : ℕ) → l ≤ h → nat_le h n ≡ true → nat_le l n ≡ true
+    at_least l h n b e = grind (arith, b, e)
+
+pub unstable_of : (t : Observers) (direct all : Reports) (ss : List Process) → IsDetecting t direct all → ss ≡ active t direct → filter (is_unstable t all) ss ≡ unstable t direct
+unstable_of t direct all ss d e =
+    ap (filter (is_unstable t all)) e
+    ∙ filter_within (is_unstable t all) (λ s. reaches_low t direct (Some s)) (subjects direct) (λ s h.
+    low_before t direct (Some s) d.rules (subst (λ r. reaches_low t r (Some s) ≡ true) d.closure (both (nat_le t.params.l (tally t all s)) (nat_lt (tally t all s) t.params.h) h).0))
+    ∙ ap (λ r. filter (is_unstable t r) (subjects direct)) d.closure
+
+-- ---- whether there is a cut
+
+-- one passes where a filter keeps some
+pub some_kept : (p : Process → Bool) (xs : List Process) → list_any p xs ≡ true → length (filter p xs) ≡ 0 → ⊥
+some_kept p [] h = cc
+some_kept p (x ∷ xs) h =
+    elim (p x) as (λ b. (b || list_any p xs) ≡ true → length (cond b (x ∷ filter p xs) (filter p xs)) ≡ 0 → ⊥) [
+      | true ↦ λ _ e. absurd (omega (arith, e))
+      | false ↦ λ h e. some_kept p xs h e
+    ] h
+
+pub none_kept : (p : Process → Bool) (xs : List Process) → list_any p xs ≡ false → length (filter p xs) ≡ 0
+none_kept p [] h = refl
+none_kept p (x ∷ xs) h =
+    elim (p x) as (λ b. (b || list_any p xs) ≡ false → length (cond b (x ∷ filter p xs) (filter p xs)) ≡ 0) [
+      | true ↦ λ e. cc
+      | false ↦ λ e. none_kept p xs e
+    ] h
+
+pub no_stable : (ss us : List Process) → length ss ≡ 0 → None ≡ cut_if ss us
+no_stable [] us h = refl
+no_stable (s ∷ ss) us h = absurd (omega (arith, h))
+
+pub some_unstable : (ss us : List Process) → (length us ≡ 0 → ⊥) → None ≡ cut_if ss us
+some_unstable [] us h = refl
+some_unstable (s ∷ ss) [] h = absurd (h refl)
+some_unstable (s ∷ ss) (u ∷ us) h = refl
+
+pub all_stable : (ss us : List Process) → (length ss ≡ 0 → ⊥) → length us ≡ 0 → Some ss ≡ cut_if ss us
+all_stable [] us h k = absurd (h refl)
+all_stable (s ∷ ss) [] h k = refl
+all_stable (s ∷ ss) (u ∷ us) h k = absurd (omega (arith, k))

@@ -1,11 +1,9 @@
 -- The joiners that are reported on, after one more report.
-use Rattle.std.proofs.Common.{◌≡◌, ℕ, zero, suc, ◌+◌, ◌≤◌, ◌<◌, Bool, true, false, cond, not, ◌&&◌, ◌||◌, List, [], ◌∷◌, length, map, filter, refl, sym, ap, subst, ◌∙◌, ◌⊎◌, inl, inr, arith}
-use Rattle.std.specs.List.{list_any}
+use Rattle.std.proofs.Common.{◌≡◌, ℕ, ◌+◌, ◌≤◌, Bool, true, false, not, ◌&&◌, ◌||◌, List, [], ◌∷◌, length, map, filter, refl, sym, ap, subst, ◌∙◌, ◌⊎◌, inl, inr, arith, nat_lt}
 use Rattle.std.specs.List.Sorted.{IsStrictlySortedBy}
 use Rattle.std.specs.Cmp.{both_ways, eq_by_cmp_equiv}
-use Rattle.std.specs.declared.cmp.Ordering.{Ordering}
 use Rattle.std.specs.declared.cmp.Ordering.TheVariants.{Less, Equal, Greater}
-use Rattle.std.specs.Ordering.{eq_by_cmp, match_ordering}
+use Rattle.std.specs.Ordering.{eq_by_cmp, is_eq, match_ordering}
 use Rattle.std.specs.BTreeSet.{insert_key}
 use Rattle.std.specs.FinSet as set
 use Rattle.std.proofs.lemmas.List.Kept.{IsStrictlySortedBy-filter}
@@ -13,7 +11,8 @@ use Rattle.std.proofs.lemmas.Map.Made.{is_member-filter}
 use Rattle.rapid_model.specs.Process.{Process, process_cmp, is_in, same_bytes}
 use Rattle.rapid_model.specs.Ring.{Observers}
 use Rattle.rapid_model.specs.Reports.{Report, report_cmp, Reports, subjects}
-use Rattle.rapid_model.specs.Detector.{joiners}
+use Rattle.rapid_model.specs.Alert.{Alert, is_well_formed}
+use Rattle.rapid_model.specs.Detector.{joiners, is_taken}
 use Rattle.rapid_model.proofs.Orders.{reports_total, reports_exact, processes_total, processes_exact, tie_decides, same_bytes_decides}
 use Rattle.rapid_model.proofs.InOrder.{any_insert, sorted_in_order, same_sorted, sorted_insert}
 use Rattle.rapid_cut.proofs.Sets.{subject_of, report_on}
@@ -59,7 +58,7 @@ subjects_more r x =
 
 -- ---- a filter of a sorted list
 
-in_filter : (p : Process → Bool) (xs : List Process) (q : Process) → is_in (filter p xs) q ≡ (is_in xs q && p q)
+pub in_filter : (p : Process → Bool) (xs : List Process) (q : Process) → is_in (filter p xs) q ≡ (is_in xs q && p q)
 in_filter p xs q = is_member-filter (eq_by_cmp_equiv processes_total) p q (λ x e. ap p ((same_bytes_decides q x).0 e)) xs
 
 and_or : (a b c : Bool) → ((a || b) && c) ≡ ((a && c) || (b && c))
@@ -139,3 +138,56 @@ insert_again xs k h s =
 
 pub sorted_joiners : (t : Observers) (r : Reports) → IsStrictlySortedBy process_cmp (joiners t r)
 sorted_joiners t r = IsStrictlySortedBy-filter process_cmp (is_joiner t) (subjects r) (sorted_subjects r)
+
+-- ---- how many joiners there are
+
+pub on_joiner : (t : Observers) (r : Reports) (s : Process) → t.is_member s ≡ false → is_in (joiners t r) s ≡ is_in (subjects r) s
+on_joiner t r s h = in_filter (is_joiner t) (subjects r) s ∙ ap (λ b. is_in (subjects r) s && not b) h ∙ and_true (is_in (subjects r) s)
+
+-- whether it is a member or reported on is whether it is a member or a joiner that is
+pub known_alike : (t : Observers) (r : Reports) (s : Process) (b : Bool) → (t.is_member s || is_in (subjects r) s || b) ≡ (t.is_member s || is_in (joiners t r) s || b)
+known_alike t r s b =
+    elim (t.is_member s) as (λ m. t.is_member s ≡ m → (m || is_in (subjects r) s || b) ≡ (m || is_in (joiners t r) s || b)) [
+      | true ↦ λ e. refl
+      | false ↦ λ e. ap (λ c. c || b) (sym (on_joiner t r s e))
+    ] refl
+
+pub length_insert_new : (xs : List Process) (k : Process) → is_in xs k ≡ false → length (insert_key process_cmp xs k) ≡ length xs + 1
+length_insert_new [] k h = omega arith
+length_insert_new (x ∷ xs) k h =
+    elim (process_cmp k x) as (λ r. process_cmp k x ≡ r → length (match_ordering r (k ∷ x ∷ xs) (x ∷ xs) (x ∷ insert_key process_cmp xs k)) ≡ length (x ∷ xs) + 1) [
+      | Less ↦ λ e. omega arith
+      | Equal ↦ λ e. (let n : true ≡ false = sym (ap (λ o. is_eq o || is_in xs k) e) ∙ h in cc)
+      | Greater ↦ λ e. (let rest = length_insert_new xs k (later (same_bytes k x) (is_in xs k) h) in omega (arith, rest))
+    ] refl
+  where
+    later : (a b : Bool) → (a || b) ≡ false → b ≡ false
+    later true b h = cc
+    later false b h = h
+
+pub joiners_stay : (t : Observers) (r : Reports) (s : Process) (k : ℕ) → (t.is_member s || is_in (subjects r) s) ≡ true → joiners t (set.insert r (s, k)) ≡ joiners t r
+joiners_stay t r s k h =
+    elim (t.is_member s) as (λ m. t.is_member s ≡ m → (m || is_in (subjects r) s) ≡ true → joiners t (set.insert r (s, k)) ≡ joiners t r) [
+      | true ↦ λ e _. joiners_same t r (s, k) e
+      | false ↦ λ e there. joiners_more t r (s, k) e ∙ insert_again (joiners t r) s (on_joiner t r s e ∙ there) (IsStrictlySortedBy-filter process_cmp (is_joiner t) (subjects r) (sorted_subjects r))
+    ] refl h
+
+pub joiners_grow : (t : Observers) (r : Reports) (s : Process) (k : ℕ) → (t.is_member s || is_in (subjects r) s) ≡ false → length (joiners t (set.insert r (s, k))) ≡ length (joiners t r) + 1
+joiners_grow t r s k h =
+    elim (t.is_member s) as (λ m. t.is_member s ≡ m → (m || is_in (subjects r) s) ≡ false → length (joiners t (set.insert r (s, k))) ≡ length (joiners t r) + 1) [
+      | true ↦ λ e no. cc
+      | false ↦ λ e no. ap length (joiners_more t r (s, k) e) ∙ length_insert_new (joiners t r) s (on_joiner t r s e ∙ no)
+    ] refl h
+
+-- ---- an alert that is well-formed
+
+taken_as : (t : Observers) (r : Reports) (a : Alert) → is_well_formed t a ≡ true → is_taken t r a ≡ (t.is_member a.subject || is_in (subjects r) a.subject || nat_lt (length (joiners t r)) 512)
+taken_as t r a w =
+    ap (λ b. b && (t.is_member a.subject || is_in (joiners t r) a.subject || nat_lt (length (joiners t r)) 512)) w
+    ∙ sym (known_alike t r a.subject (nat_lt (length (joiners t r)) 512))
+
+pub taken_when : (t : Observers) (r : Reports) (a : Alert) → is_well_formed t a ≡ true → (t.is_member a.subject || is_in (subjects r) a.subject) ≡ true → is_taken t r a ≡ true
+taken_when t r a w h = taken_as t r a w ∙ ap (λ b. b || nat_lt (length (joiners t r)) 512) h
+
+pub taken_where_room : (t : Observers) (r : Reports) (a : Alert) → is_well_formed t a ≡ true → (t.is_member a.subject || is_in (subjects r) a.subject) ≡ false → is_taken t r a ≡ nat_lt (length (joiners t r)) 512
+taken_where_room t r a w h = taken_as t r a w ∙ ap (λ b. b || nat_lt (length (joiners t r)) 512) h

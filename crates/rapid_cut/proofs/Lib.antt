@@ -1,7 +1,12 @@
 pub mod Sets
 pub mod Closing
+pub mod OnePass
+pub mod Passing
+pub mod Active
 pub mod Joiners
+pub mod Masks
 pub mod Taking
 pub mod Cuts
+pub mod InTurn
 pub mod Batches
 pub mod Repeats

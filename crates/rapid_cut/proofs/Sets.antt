@@ -1,5 +1,5 @@
 -- Sets of reports by their keys in order.
-use Rattle.std.proofs.Common.{◌≡◌, ℕ, ◌⊎◌, inl, inr, Bool, true, false, ◌||◌, List, [], ◌∷◌, ◌++◌, map, refl, sym, ap, subst, ◌∙◌}
+use Rattle.std.proofs.Common.{◌≡◌, ℕ, ◌⊎◌, inl, inr, Bool, true, false, ◌||◌, List, [], ◌∷◌, map, refl, sym, ap, subst, ◌∙◌}
 use Rattle.std.specs.List.{list_any}
 use Rattle.std.specs.List.Sorted.{IsStrictlySortedBy}
 use Rattle.std.specs.Ordering.{eq_by_cmp}
@@ -8,7 +8,6 @@ use Rattle.std.specs.BTreeSet.{insert_key}
 use Rattle.std.specs.FinSet as set
 use Rattle.rapid_model.specs.Process.{Process, process_cmp, is_in, same_bytes}
 use Rattle.rapid_model.specs.Reports.{Report, report_cmp, Reports, subjects}
-use Rattle.rapid_model.specs.InOrder.{in_order}
 use Rattle.rapid_model.proofs.Orders.{reports_total, reports_exact, processes_total, processes_exact, tie_decides, same_bytes_decides}
 use Rattle.rapid_model.proofs.InOrder.{any_insert, any_in_order, sorted_in_order, same_sorted, sorted_insert}
 

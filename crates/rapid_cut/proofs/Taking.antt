@@ -1,18 +1,17 @@
 -- Taking the alerts of a batch one after another.
-use Rattle.std.proofs.Common.{◌≡◌, ℕ, zero, suc, ◌+◌, ◌≤◌, ◌<◌, Bool, true, false, cond, not, ◌&&◌, ◌||◌, List, [], ◌∷◌, length, map, drop, get_or, add-one, refl, sym, ap, subst, ◌∙◌, ◌⊎◌, inl, inr, arith, Option, Some, None, IsSome, nat_lt}
+use Rattle.std.proofs.Common.{◌≡◌, ℕ, zero, suc, ◌+◌, ◌≤◌, ◌<◌, Bool, true, false, cond, ◌&&◌, ◌||◌, List, [], ◌∷◌, length, map, drop, get_or, add-one, refl, sym, ap, subst, ◌∙◌, ◌⊎◌, inl, inr, arith, Option, Some, None, IsSome, nat_lt}
 use Rattle.std.specs.Option.{option_eq}
-use Rattle.std.specs.List.{list_any}
 use Rattle.std.specs.Ordering.{eq_by_cmp}
-use Rattle.std.specs.BTreeSet.{insert_key}
 use Rattle.std.specs.FinSet as set
-use Rattle.rapid_model.specs.Process.{Process, process_cmp, is_in, same_bytes}
+use Rattle.rapid_model.specs.Process.{Process, is_in, same_bytes}
 use Rattle.rapid_model.specs.Ring.{Observers, IsObserved, observes}
 use Rattle.rapid_model.specs.Alert.{Alert, is_well_formed, kind_fits}
 use Rattle.rapid_model.specs.Reports.{Report, report_cmp, Reports, report_of, subjects}
 use Rattle.rapid_model.specs.Detector.{joiners, is_taken, taken, with_alerts}
-use Rattle.rapid_model.proofs.Orders.{reports_total, reports_exact, same_bytes_decides}
-use Rattle.rapid_cut.specs.Limits.{IsWithinLimits}
-use Rattle.rapid_cut.proofs.Joiners.{in_subjects_more, joiners_more, joiners_same, length_insert, insert_again, sorted_joiners}
+use Rattle.rapid_model.proofs.Orders.{reports_total, reports_exact, tie_decides, same_bytes_decides}
+use Rattle.rapid_cut.specs.Limits.{IsWithinLimits, IsRepeated}
+use Rattle.rapid_cut.proofs.Sets.{subject_of}
+use Rattle.rapid_cut.proofs.Joiners.{in_subjects_more, joiners_more, joiners_same, length_insert, insert_again, sorted_joiners, known_alike}
 
 both : (a b : Bool) → (a && b) ≡ true → (a ≡ true) × (b ≡ true)
 both true b h = (refl, h)
@@ -96,10 +95,10 @@ limits_kept t r a h w =
 -- ---- the loop
 
 -- what was taken so far, and what is still taken of the rest, make up what is taken of all
-pub record IsTaking (t : Observers) (start : Reports) (all : List Alert) (i : ℕ) (direct : Reports) (joined : List Process) (count : ℕ) : Type 0 where
+pub record IsTaking (t : Observers) (start : Reports) (all : List Alert) (i : ℕ) (direct : Reports) (joined count : ℕ) : Type 0 where
   pub reports : with_alerts start (taken t start all) ≡ with_alerts direct (taken t direct (drop i all))
   pub number : length (taken t start all) ≡ count + length (taken t direct (drop i all))
-  pub joining : joined ≡ joiners t direct
+  pub joining : joined ≡ length (joiners t direct)
   pub limits : IsWithinLimits t start → IsWithinLimits t direct
   pub bound : count ≤ i
 
@@ -117,12 +116,12 @@ drop_done f [] (suc i) h = refl
 drop_done f (x ∷ xs) zero h = absurd (omega (arith, h))
 drop_done f (x ∷ xs) (suc i) h = drop_done f xs i (omega (arith, h))
 
-pub taking_none : (t : Observers) (start direct : Reports) (all : List Alert) (joined : List Process) → direct ≡ start → joined ≡ joiners t start → IsTaking t start all 0 direct joined 0
+pub taking_none : (t : Observers) (start direct : Reports) (all : List Alert) (joined : ℕ) → direct ≡ start → joined ≡ length (joiners t start) → IsTaking t start all 0 direct joined 0
 taking_none t start direct all joined e j =
     subst (λ d. IsTaking t start all 0 d joined 0) (sym e) (record { reports = refl; number = omega arith; joining = j; limits = λ h. h; bound = omega arith })
 
-pub taking_more : (t : Observers) (start : Reports) (all : List Alert) (i : ℕ) (direct more : Reports) (joined joined' : List Process) (count count' : ℕ) (a : Alert) (b : Bool) →
-    drop i all ≡ a ∷ drop (i + 1) all → b ≡ is_taken t direct a → more ≡ cond b (set.insert direct (report_of a)) direct → joined' ≡ joiners t more → count' ≡ cond b (count + 1) count →
+pub taking_more : (t : Observers) (start : Reports) (all : List Alert) (i : ℕ) (direct more : Reports) (joined joined' count count' : ℕ) (a : Alert) (b : Bool) →
+    drop i all ≡ a ∷ drop (i + 1) all → b ≡ is_taken t direct a → more ≡ cond b (set.insert direct (report_of a)) direct → joined' ≡ length (joiners t more) → count' ≡ cond b (count + 1) count →
     IsTaking t start all i direct joined count → IsTaking t start all (i + 1) more joined' count'
 taking_more t start all i direct more joined joined' count count' a b at is m j n h =
     elim (is_taken t direct a) as (λ c. is_taken t direct a ≡ c → IsTaking t start all (i + 1) more joined' count') [
@@ -152,9 +151,77 @@ taking_more t start all i direct more joined joined' count count' a b at is m j 
           }
     ] refl
 
-pub taking_all : (t : Observers) (start : Reports) (all : List Alert) (i : ℕ) (direct : Reports) (joined : List Process) (count : ℕ) → drop i all ≡ [] → IsTaking t start all i direct joined count →
+pub taking_all : (t : Observers) (start : Reports) (all : List Alert) (i : ℕ) (direct : Reports) (joined count : ℕ) → drop i all ≡ [] → IsTaking t start all i direct joined count →
     (direct ≡ with_alerts start (taken t start all)) × (count ≡ length (taken t start all))
 taking_all t start all i direct joined count e h = (
   sym (h.reports ∙ ap (λ l. with_alerts direct (taken t direct l)) e ∙ with_none direct),
   (let l = ap (λ l. length (taken t direct l)) e in omega (arith, h.number, l)),
 )
+
+-- ---- alerts that are there already
+
+insert_known : (r : Reports) (x : Report) → set.contains r x ≡ true → set.insert r x ≡ r
+insert_known r x h =
+    set.same_set reports_total reports_exact (set.insert r x) r (λ q.
+    set.contains-insert reports_total r x q ∙ again q)
+  where
+    again : (q : Report) → (eq_by_cmp report_cmp q x || set.contains r q) ≡ set.contains r q
+    again q =
+        elim (eq_by_cmp report_cmp q x) as (λ b. eq_by_cmp report_cmp q x ≡ b → (b || set.contains r q) ≡ set.contains r q) [
+          | true ↦ λ e. sym (subst (λ y. set.contains r y ≡ true) (sym ((tie_decides reports_total reports_exact q x).0 e)) h)
+          | false ↦ λ e. refl
+        ] refl
+
+known_taken : (t : Observers) (r : Reports) (a : Alert) → is_well_formed t a ≡ true → set.contains r (report_of a) ≡ true → is_taken t r a ≡ true
+known_taken t r a w h =
+    ap (λ b. b && (t.is_member a.subject || is_in (joiners t r) a.subject || nat_lt (length (joiners t r)) 512)) w
+    ∙ sym (known_alike t r a.subject (nat_lt (length (joiners t r)) 512)) ∙ there (t.is_member a.subject) (is_in (subjects r) a.subject) _ (subject_of r (report_of a) h)
+  where
+    there : (a b c : Bool) → b ≡ true → (a || b || c) ≡ true
+    there true b c e = refl
+    there false true c e = refl
+    there false false c e = cc
+
+pub repeats_one : (t : Observers) (r : Reports) (all : List Alert) (i count : ℕ) (a : Alert) → drop i all ≡ a ∷ drop (i + 1) all → is_well_formed t a ≡ true → set.contains r (report_of a) ≡ true
+    → IsTaking t r all i r (length (joiners t r)) count → IsTaking t r all (i + 1) r (length (joiners t r)) (count + 1)
+repeats_one t r all i count a at w h k =
+    taking_more t r all i r r (length (joiners t r)) (length (joiners t r)) count (count + 1) a true at (sym (known_taken t r a w h)) (sym (insert_known r (report_of a) h)) refl refl k
+
+pub repeats_skip : (t : Observers) (r : Reports) (all : List Alert) (i count : ℕ) (a : Alert) → drop i all ≡ a ∷ drop (i + 1) all → is_well_formed t a ≡ false
+    → IsTaking t r all i r (length (joiners t r)) count → IsTaking t r all (i + 1) r (length (joiners t r)) count
+repeats_skip t r all i count a at w k =
+    taking_more t r all i r r (length (joiners t r)) (length (joiners t r)) count count a false at
+    (sym (ap (λ b. b && (t.is_member a.subject || is_in (joiners t r) a.subject || nat_lt (length (joiners t r)) 512)) w)) refl refl refl k
+
+pub repeats_all : (t : Observers) (r : Reports) (all : List Alert) (i count : ℕ) → drop i all ≡ [] → IsTaking t r all i r (length (joiners t r)) count → IsRepeated t r all count
+repeats_all t r all i count e k =
+    let h = taking_all t r all i r (length (joiners t r)) count e k in
+    record { same = sym h.0; number = sym h.1 }
+
+-- ---- the same alerts taken into another set
+
+-- what was taken so far into the other set, and what is still taken
+abbrev pub IsTakingInto : Observers → Reports → List Alert → ℕ → Reports → Reports → Reports → Type 0
+IsTakingInto t start all i direct other known = with_alerts other (taken t start all) ≡ with_alerts known (taken t direct (drop i all))
+
+pub into_more : (t : Observers) (start : Reports) (all : List Alert) (i : ℕ) (direct more other known grown : Reports) (a : Alert) (b : Bool) →
+    drop i all ≡ a ∷ drop (i + 1) all → b ≡ is_taken t direct a → more ≡ cond b (set.insert direct (report_of a)) direct → grown ≡ cond b (set.insert known (report_of a)) known →
+    IsTakingInto t start all i direct other known → IsTakingInto t start all (i + 1) more other grown
+into_more t start all i direct more other known grown a b at is m n h =
+    elim (is_taken t direct a) as (λ c. is_taken t direct a ≡ c → with_alerts other (taken t start all) ≡ with_alerts grown (taken t more (drop (i + 1) all))) [
+      | true ↦ λ e.
+          let m' : more ≡ set.insert direct (report_of a) = m ∙ ap (λ c. cond c (set.insert direct (report_of a)) direct) (is ∙ e) in
+          let n' : grown ≡ set.insert known (report_of a) = n ∙ ap (λ c. cond c (set.insert known (report_of a)) known) (is ∙ e) in
+          let rest = drop (i + 1) all in
+          let next : taken t direct (drop i all) ≡ a ∷ taken t (set.insert direct (report_of a)) rest = ap (taken t direct) at ∙ ap (λ c. cond c (a ∷ taken t (set.insert direct (report_of a)) rest) (taken t direct rest)) e in
+          h ∙ ap (with_alerts known) next ∙ with_more known a (taken t (set.insert direct (report_of a)) rest) ∙ ap (λ r. with_alerts (set.insert known (report_of a)) (taken t r rest)) (sym m') ∙ ap (λ r. with_alerts r (taken t more rest)) (sym n')
+      | false ↦ λ e.
+          let m' : more ≡ direct = m ∙ ap (λ c. cond c (set.insert direct (report_of a)) direct) (is ∙ e) in
+          let n' : grown ≡ known = n ∙ ap (λ c. cond c (set.insert known (report_of a)) known) (is ∙ e) in
+          let rest = drop (i + 1) all in
+          let next : taken t direct (drop i all) ≡ taken t direct rest = ap (taken t direct) at ∙ ap (λ c. cond c (a ∷ taken t (set.insert direct (report_of a)) rest) (taken t direct rest)) e in
+          h ∙ ap (with_alerts known) next ∙ ap (λ r. with_alerts known (taken t r rest)) (sym m') ∙ ap (λ r. with_alerts r (taken t more rest)) (sym n')
+    ] refl
+
+pub into_all : (t : Observers) (start : Reports) (all : List Alert) (i : ℕ) (direct other known : Reports) → drop i all ≡ [] → IsTakingInto t start all i direct other known → known ≡ with_alerts other (taken t start all)
+into_all t start all i direct other known e h = sym (h ∙ ap (λ l. with_alerts known (taken t direct l)) e ∙ with_none known)

@@ -1,19 +1,16 @@
--- What the search for an implied report finds.
-use Rattle.std.specs.Prelude.{◌≡◌, Bool, true, false, not, ◌&&◌, List}
+-- What the pass adds to a set of reports.
+use Rattle.std.specs.Prelude.{◌≡◌, ℕ, true, ◌⊎◌, List, filter, Some}
 use Rattle.std.specs.FinSet as set
-use Rattle.rapid_model.specs.Process.{Process, is_in}
+use Rattle.rapid_model.specs.Process.{Process}
 use Rattle.rapid_model.specs.Ring.{Observers}
-use Rattle.rapid_model.specs.Reports.{Report, Reports, is_implied}
+use Rattle.rapid_model.specs.Reports.{Report, Reports, reaches_low, is_implied, Includes, subjects}
 
--- The set implies the report and does not have it.
-abbrev pub is_missing : Observers → Reports → Report → Bool
-is_missing t r x = not (set.contains r x) && is_implied t r x
+-- The new set is the old one with reports that the direct ones imply, among them each that is on s.
+pub record AddsImplied (t : Observers) (direct : Reports) (s : Process) (old new : Reports) : Type 0 where
+  pub includes : Includes new old
+  pub implied : (x : Report) → set.contains new x ≡ true → (set.contains old x ≡ true) ⊎ (is_implied t direct x ≡ true)
+  pub all : (k : ℕ) → is_implied t direct (s, k) ≡ true → set.contains new (s, k) ≡ true
 
--- The report is on one of these processes; the set implies it and does not have it.
-pub record IsMissing (t : Observers) (ss : List Process) (r : Reports) (x : Report) : Type 0 where
-  pub subject : is_in ss x.0 ≡ true
-  pub missing : is_missing t r x ≡ true
-
--- The set has each report on these processes that it implies.
-abbrev pub NoneMissing : Observers → List Process → Reports → Type 0
-NoneMissing t ss r = (x : Report) → is_in ss x.0 ≡ true → is_missing t r x ≡ false
+-- The processes with at least L reports, ascending.
+abbrev pub active : Observers → Reports → List Process
+active t r = filter (λ s. reaches_low t r (Some s)) (subjects r)

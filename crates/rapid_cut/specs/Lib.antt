@@ -1,4 +1,6 @@
 pub mod Closing
+pub mod Keys
 pub mod Laws
 pub mod Limits
+pub mod Masks
 pub mod Watching

@@ -1,9 +1,11 @@
 -- What is known of the reports that were taken.
-use Rattle.std.specs.Prelude.{◌≡◌, ◌≤◌, true, length}
+use Rattle.std.specs.Prelude.{◌≡◌, ◌≤◌, ℕ, Bool, true, false, List, length, None}
 use Rattle.rapid_model.specs.Process.{Process, is_in}
+use Rattle.rapid_model.specs.Alert.{Alert}
 use Rattle.rapid_model.specs.Ring.{Observers, AreObservers, IsObserved}
-use Rattle.rapid_model.specs.Reports.{Reports, subjects, reports}
-use Rattle.rapid_model.specs.Detector.{joiners}
+use Rattle.rapid_model.specs.Reports.{Reports, subjects, reports, cut_of}
+use Rattle.rapid_cut.specs.Closing.{active}
+use Rattle.rapid_model.specs.Detector.{joiners, taken, with_alerts}
 
 -- Each subject has an observer, and at most 512 of them are joiners.
 pub record IsWithinLimits (t : Observers) (r : Reports) : Type 0 where
@@ -15,3 +17,15 @@ pub record IsDetecting (t : Observers) (direct all : Reports) : Type 0 where
   pub rules : AreObservers t
   pub closure : all ≡ reports t direct
   pub limits : IsWithinLimits t direct
+
+-- What it keeps, lists and counters too: which processes have L direct reports, how many joiners are reported on, and that there is no cut until it is closed.
+pub record IsKept (t : Observers) (direct all : Reports) (listed : List Process) (joined : ℕ) (closed : Bool) : Type 0 where
+  pub detecting : IsDetecting t direct all
+  pub active : listed ≡ active t direct
+  pub count : joined ≡ length (joiners t direct)
+  pub none_yet : closed ≡ false → cut_of t direct ≡ None
+
+-- So many of these alerts are taken, and each is there already.
+pub record IsRepeated (t : Observers) (r : Reports) (xs : List Alert) (count : ℕ) : Type 0 where
+  pub same : with_alerts r (taken t r xs) ≡ r
+  pub number : length (taken t r xs) ≡ count

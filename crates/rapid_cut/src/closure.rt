@@ -1,24 +1,31 @@
 // The reports that a set implies.
 
-ghost use Rattle.std.specs.Prelude.{◌≡◌, Some, IfOk, IfSome, IfNone};
-ghost use Rattle.std.specs.List.{find};
-ghost use Rattle.rapid_model.specs.Ring.{AreObservers, rings};
+ghost use Rattle.std.specs.Prelude.{◌≡◌, Some, IfOk, OnOk};
+ghost use Rattle.rapid_model.specs.Ring.{AreObservers};
 ghost use Rattle.rapid_model.specs.Reports as model;
-ghost use Rattle.rapid_cut.specs.Closing.{is_missing, IsMissing, NoneMissing};
+ghost use Rattle.rapid_cut.specs.Closing.{AddsImplied, active as active_of};
 
-use crate::reports::{Report, ReportSet};
+use crate::reports::ReportSet;
 use rapid_endpoint::Process;
 use rapid_rings::ObserverTable;
 use std::alloc::AllocError;
-use std::collections::BTreeSet;
 
 /// The number of reports on the process.
 pub fn tally<T: ObserverTable>(table: &T, reports: &ReportSet, subject: &Process) -> usize
     ensures { result ≡ model.tally (T.observers table.now) reports.now subject.now }
 {
-    (0..table.params().k())
-        .filter(|ring| reports.has(subject, *ring))
-        .count()
+    reports.tally(subject, table.params().k())
+}
+
+/// The processes with at least L reports, ascending.
+pub fn active_ones<T: ObserverTable>(
+    table: &T,
+    reports: &ReportSet,
+) -> Result<Vec<Process>, AllocError>
+    ensures { IfOk result (λ found. found.items ≡ active_of (T.observers table.now) reports.now) }
+{
+    let params = table.params();
+    reports.with_tally(usize::from(params.l()), params.k())
 }
 
 /// Whether the process has at least L reports.
@@ -41,40 +48,57 @@ fn is_implied<T: ObserverTable>(table: &T, reports: &ReportSet, subject: &Proces
     }
 }
 
-/// The least ring for which a report on the process is implied and not there.
-fn missing_ring<T: ObserverTable>(table: &T, reports: &ReportSet, subject: &Process) -> Option<u8>
-    ensures { result ≡ find (λ ring. is_missing (T.observers table.now) reports.now (subject.now, ring)) (rings (T.observers table.now)) }
-{
-    (0..table.params().k()).find(|ring| !reports.has(subject, *ring)
-        && is_implied(table, reports, subject, *ring))
-}
-
-/// A report on one of the processes that is implied and not there.
-fn missing_report<T: ObserverTable>(
+/// Adds the reports on the process that the direct ones imply.
+fn add_implied<T: ObserverTable>(
     table: &T,
-    reports: &ReportSet,
-    subjects: &BTreeSet<Process>,
-) -> Option<Report>
-    ensures found { IfSome result (IsMissing (T.observers table.now) subjects.now.keys reports.now) }
-    ensures none { IfNone result (NoneMissing (T.observers table.now) subjects.now.keys reports.now) }
+    direct: &ReportSet,
+    subject: &Process,
+    all: &mut ReportSet,
+) -> Result<(), AllocError>
+    ensures { OnOk result (AddsImplied (T.observers table.now) direct.now subject.now all.old all.new) }
 {
-    for subject in subjects.iter() {
-        if let Some(ring) = missing_ring(table, reports, subject) {
-            return Some((*subject, ring));
+    for ring in 0..table.params().k() {
+        if is_implied(table, direct, subject, ring) {
+            all.insert((*subject, ring))?;
         }
     }
-    None
+    Ok(())
 }
 
-/// The reports with all that they imply.
-pub fn close<T: ObserverTable>(table: &T, direct: &ReportSet) -> Result<ReportSet, AllocError>
-    requires { AreObservers (T.observers table.now) }
+/// The reports with all that they imply: one pass over those with at least L direct reports, since
+/// what is implied goes to no other process.
+pub fn close<T: ObserverTable>(
+    table: &T,
+    direct: &ReportSet,
+    active: &[Process],
+) -> Result<ReportSet, AllocError>
+    requires rules { AreObservers (T.observers table.now) }
+    requires active { active.now ≡ active_of (T.observers table.now) direct.now }
     ensures { IfOk result (λ all. all ≡ model.reports (T.observers table.now) direct.now) }
 {
-    let subjects = direct.subjects()?;
     let mut all = direct.try_copy()?;
-    while let Some(report) = missing_report(table, &all, &subjects) {
-        all.insert(report)?;
+    for subject in active {
+        add_implied(table, direct, subject, &mut all)?;
     }
     Ok(all)
+}
+
+/// The reports with all that they imply, where these are known with what the active ones of before
+/// implied: they are all while the same are active.
+pub fn close_again<T: ObserverTable>(
+    table: &T,
+    direct: &ReportSet,
+    active: &[Process],
+    before: &[Process],
+    known: ReportSet,
+) -> Result<ReportSet, AllocError>
+    requires rules { AreObservers (T.observers table.now) }
+    requires active { active.now ≡ active_of (T.observers table.now) direct.now }
+    requires known { active.now ≡ before.now → known ≡ model.reports (T.observers table.now) direct.now }
+    ensures { IfOk result (λ all. all ≡ model.reports (T.observers table.now) direct.now) }
+{
+    if active == before {
+        return Ok(known);
+    }
+    close(table, direct, active)
 }

@@ -1,20 +1,21 @@
 // The cut detector.
 
 ghost use Rattle.std.specs.Prelude.{◌≡◌, ◌≤◌, map, length, filter, IfOk, OnOk, OnErr};
+ghost use Rattle.std.specs.List.{list_any};
 ghost use Rattle.rapid_model.specs.Reports as model;
 ghost use Rattle.rapid_model.specs.Detector.{empty_detector, after_batch, batch_cut};
 ghost use Rattle.rapid_alerts.specs.Alerts.{alert_of};
+ghost use Rattle.rapid_cut.specs.Closing.{active as active_of};
 ghost use Rattle.rapid_cut.specs.Limits.{IsDetecting};
 
-use crate::closure::{close, tally};
+use crate::closure::{active_ones, close_again, tally};
 use crate::reports::ReportSet;
-use crate::taken::take_all;
+use crate::taken::{Taken, repeats, take_all};
 use rapid_alerts::Alert;
 use rapid_config::{ConfigError, Cut};
 use rapid_endpoint::Process;
 use rapid_rings::ObserverTable;
 use std::alloc::{AllocError, Global};
-use std::collections::BTreeSet;
 use std::marker::Model;
 
 /// The stable ones of these processes: those with at least H reports.
@@ -22,9 +23,9 @@ fn stable_ones<T: ObserverTable>(
     alloc: Global,
     table: &T,
     reports: &ReportSet,
-    subjects: &BTreeSet<Process>,
+    subjects: &[Process],
 ) -> Result<Vec<Process>, AllocError>
-    ensures { IfOk result (λ found. found.items ≡ filter (model.is_stable (T.observers table.now) reports.now) subjects.now.keys) }
+    ensures { IfOk result (λ found. found.items ≡ filter (model.is_stable (T.observers table.now) reports.now) subjects.now) }
 {
     let stable = usize::from(table.params().h());
     subjects
@@ -39,22 +40,32 @@ fn unstable_ones<T: ObserverTable>(
     alloc: Global,
     table: &T,
     reports: &ReportSet,
-    subjects: &BTreeSet<Process>,
+    subjects: &[Process],
 ) -> Result<Vec<Process>, AllocError>
-    ensures { IfOk result (λ found. found.items ≡ filter (model.is_unstable (T.observers table.now) reports.now) subjects.now.keys) }
+    ensures { IfOk result (λ found. found.items ≡ filter (model.is_unstable (T.observers table.now) reports.now) subjects.now) }
 {
-    let (noise, stable) = (
-        usize::from(table.params().l()),
-        usize::from(table.params().h()),
-    );
     subjects
         .iter()
-        .filter(|subject| {
-            let tally = tally(table, reports, subject);
-            noise <= tally && tally < stable
-        })
+        .filter(|subject| is_unstable(table, reports, subject))
         .copied()
         .collect(alloc)
+}
+
+/// Whether the process has at least L reports and fewer than H.
+fn is_unstable<T: ObserverTable>(table: &T, reports: &ReportSet, subject: &Process) -> bool
+    ensures { result ≡ model.is_unstable (T.observers table.now) reports.now subject.now }
+{
+    let tally = tally(table, reports, subject);
+    usize::from(table.params().l()) <= tally && tally < usize::from(table.params().h())
+}
+
+/// Whether one of these processes is unstable.
+fn is_any_unstable<T: ObserverTable>(table: &T, reports: &ReportSet, subjects: &[Process]) -> bool
+    ensures { result ≡ list_any (model.is_unstable (T.observers table.now) reports.now) subjects.now }
+{
+    subjects
+        .iter()
+        .any(|subject| is_unstable(table, reports, subject))
 }
 
 /// The want of memory that is the only error of a list that is a cut.
@@ -73,14 +84,18 @@ fn cut_of<T: ObserverTable>(
     table: &T,
     direct: &ReportSet,
     all: &ReportSet,
+    active: &[Process],
 ) -> Result<Option<Cut>, AllocError>
-    requires { IsDetecting (T.observers table.now) direct.now all.now }
+    requires detecting { IsDetecting (T.observers table.now) direct.now all.now }
+    requires active { active.now ≡ active_of (T.observers table.now) direct.now }
     ensures { IfOk result (λ cut. cut ≡ model.cut_of (T.observers table.now) direct.now) }
 {
-    let subjects = direct.subjects()?;
-    let unstable = unstable_ones(alloc, table, all, &subjects)?;
-    let stable = stable_ones(alloc, table, all, &subjects)?;
-    if stable.is_empty() || !unstable.is_empty() {
+    let _ = direct;
+    if is_any_unstable(table, all, active) {
+        return Ok(None);
+    }
+    let stable = stable_ones(alloc, table, all, active)?;
+    if stable.is_empty() {
         return Ok(None);
     }
     match Cut::new(stable) {
@@ -101,6 +116,8 @@ pub struct Detector<T: ObserverTable> {
     table: T,
     direct: ReportSet,
     all: ReportSet,
+    active: Vec<Process>,
+    joiners: usize,
     closed: bool,
     skipped: usize,
     alloc: Global,
@@ -108,7 +125,7 @@ pub struct Detector<T: ObserverTable> {
 
 impl<T: ObserverTable> Model for Detector<T> {
     ghost use Rattle.rapid_cut.specs.Watching.{Watching, watching_code};
-    ghost use Rattle.rapid_cut.specs.Limits.{IsDetecting};
+    ghost use Rattle.rapid_cut.specs.Limits.{IsKept};
 
     ghost Value = { Watching T };
 
@@ -116,7 +133,7 @@ impl<T: ObserverTable> Model for Detector<T> {
 
     ghost view = { λ d. record { table = d.table; detector = record { direct = d.direct; closed = d.closed; skipped = d.skipped } } };
 
-    ghost invariant = { λ d. IsDetecting (T.observers d.table) d.direct d.all };
+    ghost invariant = { λ d. IsKept (T.observers d.table) d.direct d.all d.active.items d.joiners d.closed };
 }
 
 impl<T: ObserverTable> Detector<T> {
@@ -130,6 +147,8 @@ impl<T: ObserverTable> Detector<T> {
             table,
             direct: ReportSet::new(alloc),
             all: ReportSet::new(alloc),
+            active: Vec::new(alloc),
+            joiners: 0,
             closed: false,
             skipped: 0,
             alloc,
@@ -150,12 +169,24 @@ impl<T: ObserverTable> Detector<T> {
             self.skipped = 0;
             return Ok(None);
         }
-        let taken = take_all(&self.table, &self.direct, alerts)?;
-        let all = close(&self.table, &taken.direct)?;
-        let cut = cut_of(self.alloc, &self.table, &taken.direct, &all)?;
-        self.skipped = alerts.len() - taken.count;
+        if let Some(count) = repeats(&self.table, &self.direct, alerts) {
+            self.skipped = alerts.len() - count;
+            return Ok(None);
+        }
+        let Taken {
+            direct,
+            all: known,
+            joiners,
+            count,
+        } = take_all(&self.table, &self.direct, &self.all, self.joiners, alerts)?;
+        let active = active_ones(&self.table, &direct)?;
+        let all = close_again(&self.table, &direct, &active, &self.active, known)?;
+        let cut = cut_of(self.alloc, &self.table, &direct, &all, &active)?;
+        self.skipped = alerts.len() - count;
         self.closed = cut.is_some();
-        self.direct = taken.direct;
+        self.active = active;
+        self.joiners = joiners;
+        self.direct = direct;
         self.all = all;
         Ok(cut)
     }
@@ -179,8 +210,7 @@ impl<T: ObserverTable> Detector<T> {
     pub fn unstable(&self) -> Result<Vec<Process>, AllocError>
         ensures { IfOk result (λ found. found.items ≡ model.unstable (T.observers self.now.table) self.now.detector.direct) }
     {
-        let subjects = self.direct.subjects()?;
-        unstable_ones(self.alloc, &self.table, &self.all, &subjects)
+        unstable_ones(self.alloc, &self.table, &self.all, &self.active)
     }
 
     /// An equal detector over a table that says the same, as another share of one table does.
@@ -195,6 +225,8 @@ impl<T: ObserverTable> Detector<T> {
             table,
             direct: self.direct.try_copy()?,
             all: self.all.try_copy()?,
+            active: self.active.clone()?,
+            joiners: self.joiners,
             closed: self.closed,
             skipped: self.skipped,
             alloc: self.alloc,

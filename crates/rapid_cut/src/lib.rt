@@ -2,19 +2,24 @@
 //! that are to be removed or let in together.
 #![tactic(auto)]
 
-ghost use Rattle.rapid_cut.specs.Laws.{OrderAndRepeatsChangeNothing};
+ghost use Rattle.rapid_cut.specs.Laws.{OrderAndRepeatsChangeNothing, OnePassIsEnough};
 
+mod ascending;
 mod closure;
 mod detector;
 mod reports;
+mod subject_key;
 mod taken;
 
 pub use detector::Detector;
 
-#[cfg(test)]
-mod tests;
-
 /// Neither the order of the alerts that are taken nor repeats among them change the cut.
 pub fn order_and_repeats_change_nothing()
     ensures { OrderAndRepeatsChangeNothing }
+{}
+
+/// The reports are the direct ones and each whose subject and observer both have at least L direct
+/// reports: what is implied implies nothing more.
+pub fn one_pass_is_enough()
+    ensures { OnePassIsEnough }
 {}

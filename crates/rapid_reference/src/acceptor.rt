@@ -1,7 +1,7 @@
 // The acceptor as lists of what it promised and of its votes.
 use crate::cuts::{Cuts, NUMBERS, Number, number_of};
 use anyhow::{Context, Result, bail};
-use rapid_paxos::{Acceptor, AcceptorError, Ballot};
+use rapid_paxos::{AcceptError, Acceptor, Ballot, PromiseError};
 use std::alloc::Global;
 
 /// How many calls a sequence has.
@@ -34,20 +34,20 @@ impl BallotList {
         promised.max(voted)
     }
 
-    fn promise(&mut self, ballot: Ballot) -> Result<Result<Option<Vote>, AcceptorError>> {
+    fn promise(&mut self, ballot: Ballot) -> Result<Result<Option<Vote>, PromiseError>> {
         if ballot <= self.rnd() {
-            return Ok(Err(AcceptorError::Promised(self.rnd())));
+            return Ok(Err(PromiseError::Promised(self.rnd())));
         }
         self.promised.push(ballot)?;
         Ok(Ok(self.votes.last().copied()))
     }
 
-    fn accept(&mut self, ballot: Ballot, number: Number) -> Result<Result<(), AcceptorError>> {
+    fn accept(&mut self, ballot: Ballot, number: Number) -> Result<Result<(), AcceptError>> {
         if ballot < self.rnd() {
-            return Ok(Err(AcceptorError::Promised(self.rnd())));
+            return Ok(Err(AcceptError::Promised(self.rnd())));
         }
         if self.votes.iter().any(|vote| vote.0 == ballot) {
-            return Ok(Err(AcceptorError::AlreadyVoted));
+            return Ok(Err(AcceptError::AlreadyVoted));
         }
         self.votes.push((ballot, number))?;
         Ok(Ok(()))

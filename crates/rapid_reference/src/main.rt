@@ -1,14 +1,17 @@
 //! Compares what a member keeps for the vote, which are counters, with lists of all that it heard, from which each answer
-//! is counted anew. Every sequence of calls of four positions, two cuts and two ballots is tried, up to a short length. A
-//! difference ends the program. The numbers that it must print were counted by another program, so that a comparison that
-//! is passed over shows too.
+//! is counted anew. Every sequence of calls of four positions, two cuts and two ballots is tried, up to a short length.
+//! A cut detector over a small table is compared with a list of reports that repeated passes close, for every short
+//! sequence of batches. A difference ends the program. The numbers that it must print were counted by another program,
+//! so that a comparison that is passed over shows too.
 #![tactic(auto)]
 
 mod acceptor;
 mod coordinator;
 mod cuts;
+mod detector;
 mod fast_round;
 mod learner;
+mod worst;
 
 use anyhow::Result;
 use cuts::Cuts;
@@ -32,5 +35,11 @@ fn main(rt: HostRuntime) -> Result<()> {
     }
     let votes = acceptor::compare(rt.alloc(), &cuts)?;
     println!(rt; "acceptor: {votes} votes")?;
+    for (high, low) in [(1, 1), (2, 1), (2, 2)] {
+        let found = detector::compare(rt.alloc(), high, low)?;
+        println!(rt; "detector with the marks {high} and {low}: {found} cuts")?;
+    }
+    let processes = worst::cut_of(rt.alloc())?;
+    println!(rt; "one report on each of 1024: a cut of {processes}")?;
     Ok(())
 }

@@ -2,21 +2,13 @@
 
 ghost use Rattle.std.specs.Prelude.{◌<◌};
 
-use crate::{Alert, Batch, BatchError, Kind, Outbox, RaiseError, Raising};
+use crate::numbered::process;
+use crate::tables::{add_all, add_joiners, add_members, table_of_edge};
+use rapid_alerts::{Alert, Batch, BatchError, Kind, Outbox, RaiseError, Raising};
 use rapid_config::{ConfigId, Params};
-use rapid_endpoint::{Endpoint, Process, ProcessId};
 use rapid_rings::Table;
 use std::alloc::{AllocError, Global};
 use std::test::Fail;
-
-/// The process whose identifier is the number in sixteen bytes and whose port is the number.
-fn process(number: u16) -> Process {
-    let mut id = [0; 16];
-    let bytes = number.to_be_bytes();
-    id[14] = bytes[0];
-    id[15] = bytes[1];
-    Process::new(ProcessId::new(id), Endpoint::new([127, 0, 0, 1], number))
-}
 
 fn alert_in(config: ConfigId, kind: Kind, ring: u8, observer: u16, subject: u16) -> Alert {
     Alert {
@@ -35,8 +27,7 @@ fn alert(kind: Kind, ring: u8, observer: u16, subject: u16) -> Alert {
 /// A table in which process 1 observes process 5 on both of two rings.
 fn table_of_one(alloc: Global) -> Result<Table, Fail> {
     let mut table = Table::new(alloc, Params::new(2, 2, 1)?);
-    table.add(0, process(1), process(5))?;
-    table.add(1, process(1), process(5))?;
+    add_all(&mut table, &[(0, 1, 5), (1, 1, 5)])?;
     Ok(table)
 }
 
@@ -112,18 +103,14 @@ fn a_batch_has_the_alert_that_was_raised(rt: HostRuntime) -> Result<(), Fail> {
     Ok(())
 }
 
-/// An outbox of process 1 on two rings, who observes so many joiners, from 2 on, and on ring 0 the member 1000.
+/// An outbox of process 1 on two rings, who observes so many joiners, from 2 on, and on ring 0 the
+/// member 1000.
 fn outbox_of_joiners(alloc: Global, joiners: u16) -> Result<Outbox<Table>, Fail>
     requires { joiners < 900 }
 {
     let mut table = Table::new(alloc, Params::new(2, 2, 1)?);
-    for number in 0..joiners {
-        let joiner = process(number + 2);
-        table.joiner(joiner)?;
-        table.add(0, process(1), joiner)?;
-        table.add(1, process(1), joiner)?;
-    }
-    table.add(0, process(1), process(1000))?;
+    add_joiners(&mut table, joiners)?;
+    add_all(&mut table, &[(0, 1, 1000)])?;
     Ok(Outbox::new(alloc, table, process(1)))
 }
 
@@ -159,11 +146,7 @@ fn outbox_of_members(alloc: Global, members: u16) -> Result<Outbox<Table>, Fail>
     requires { members < 900 }
 {
     let mut table = Table::new(alloc, Params::new(16, 9, 3)?);
-    for number in 0..members {
-        for ring in 0..16 {
-            table.add(ring, process(1), process(number + 2))?;
-        }
-    }
+    add_members(&mut table, members)?;
     Ok(Outbox::new(alloc, table, process(1)))
 }
 
@@ -207,13 +190,18 @@ fn want_of_memory_leaves_the_outbox_as_it_was(rt: HostRuntime) -> Result<(), Fai
     Ok(())
 }
 
+/// A copy over an equal table has the alerts that were raised, and which of them are flushed.
 #[test]
-fn an_outbox_is_copied_over_an_equal_table(rt: HostRuntime) -> Result<(), Fail> {
-    let params = Params::new(2, 2, 1)?;
-    let outbox = Outbox::new(rt.alloc(), Table::new(rt.alloc(), params), process(1));
-    let mut copy = outbox.try_copy(Table::new(rt.alloc(), params))?;
-    assert!(rt; copy.raised().is_empty());
-    assert_eq!(rt; flushed(&mut copy)?, 0);
+fn want_of_memory_in_a_copied_outbox(rt: HostRuntime) -> Result<(), Fail> {
+    let params = Params::new(1, 1, 1)?;
+    let (one, five) = (process(1), process(5));
+    let table = table_of_edge(rt.alloc(), params, one, five)?;
+    let equal = table_of_edge(rt.alloc(), params, one, five)?;
+    let mut outbox = Outbox::new(rt.alloc(), table, one);
+    outbox.raise(alert(Kind::Remove, 0, 1, 5))?;
+    let mut copy = outbox.try_copy(equal)?;
+    assert!(rt; copy.raised() == outbox.raised());
+    assert_eq!(rt; flushed(&mut copy)?, 1);
     Ok(())
 }
 
@@ -242,6 +230,13 @@ fn a_batch_is_refused_by_the_first_reason(rt: HostRuntime) -> Result<(), Fail> {
         assert!(rt; Batch::new(alerts).err() == expected);
     }
     assert!(rt; Batch::new(Vec::new(rt.alloc())).err() == Some(BatchError::EmptyBatch));
+    Ok(())
+}
+
+#[test]
+fn want_of_memory_in_batches(rt: HostRuntime) -> Result<(), Fail> {
+    let batch = Batch::new(alerts(rt.alloc(), 2)?)?.try_copy(rt.alloc())?;
+    assert_eq!(rt; batch.alerts().len(), 2);
     Ok(())
 }
 

@@ -2,37 +2,21 @@
 
 ghost use Rattle.std.specs.Prelude.{◌<◌};
 
-use crate::Detector;
+use crate::numbered::process;
+use crate::tables::{Edge, add_all, add_joiner, add_joiners, table_of_edge};
 use rapid_alerts::{Alert, Kind};
 use rapid_config::{ConfigId, Params};
-use rapid_endpoint::{Endpoint, Process, ProcessId};
+use rapid_cut::Detector;
+use rapid_endpoint::Process;
 use rapid_rings::Table;
 use std::alloc::{AllocError, Global};
 use std::test::Fail;
 
-/// A ring, an observer and a subject.
-type Edge = (u8, u16, u16);
-
-/// The process whose identifier is the number in sixteen bytes and whose port is the number.
-fn process(number: u16) -> Process {
-    let mut id = [0; 16];
-    let bytes = number.to_be_bytes();
-    id[14] = bytes[0];
-    id[15] = bytes[1];
-    Process::new(ProcessId::new(id), Endpoint::new([127, 0, 0, 1], number))
-}
-
-fn table(alloc: Global, marks: (u8, u8, u8), edges: &[Edge]) -> Result<Table, Fail> {
-    let mut table = Table::new(alloc, Params::new(marks.0, marks.1, marks.2)?);
-    for (ring, observer, subject) in edges {
-        table.add(*ring, process(*observer), process(*subject))?;
-    }
-    Ok(table)
-}
-
 /// A detector with K = 4, H = 3 and L = 2 over these edges.
 fn detector(alloc: Global, edges: &[Edge]) -> Result<Detector<Table>, Fail> {
-    Ok(Detector::new(alloc, table(alloc, (4, 3, 2), edges)?))
+    let mut table = Table::new(alloc, Params::new(4, 3, 2)?);
+    add_all(&mut table, edges)?;
+    Ok(Detector::new(alloc, table))
 }
 
 fn alert(kind: Kind, edge: Edge) -> Alert {
@@ -211,12 +195,16 @@ fn nothing_is_implied_below_the_noise_mark(rt: HostRuntime) -> Result<(), Fail> 
 
 const NINE: [Edge; 1] = [(0, 1, 9)];
 
+/// A detector with K = H = L = 1 and the joiner 9, whom process 1 observes.
+fn detector_of_nine(alloc: Global) -> Result<Detector<Table>, Fail> {
+    let mut table = Table::new(alloc, Params::new(1, 1, 1)?);
+    add_joiner(&mut table, process(1), process(9))?;
+    Ok(Detector::new(alloc, table))
+}
+
 #[test]
 fn an_alert_of_the_wrong_kind_is_skipped(rt: HostRuntime) -> Result<(), Fail> {
-    let mut table = table(rt.alloc(), (1, 1, 1), &[])?;
-    table.joiner(process(9))?;
-    table.add(0, process(1), process(9))?;
-    let mut detector = Detector::new(rt.alloc(), table);
+    let mut detector = detector_of_nine(rt.alloc())?;
     let wrong = removed(rt.alloc(), &mut detector, &NINE)?;
     assert_eq!(rt; wrong.len(), 0);
     assert_eq!(rt; detector.skipped(), 1);
@@ -266,13 +254,8 @@ fn edges_of_one(alloc: Global, ring: u8, many: u16) -> Result<Vec<Edge>, AllocEr
 fn detector_of_joiners(alloc: Global, joiners: u16) -> Result<Detector<Table>, Fail>
     requires { joiners < 1000 }
 {
-    let mut table = table(alloc, (2, 2, 1), &[])?;
-    for number in 0..joiners {
-        let joiner = process(number + 2);
-        table.joiner(joiner)?;
-        table.add(0, process(1), joiner)?;
-        table.add(1, process(1), joiner)?;
-    }
+    let mut table = Table::new(alloc, Params::new(2, 2, 1)?);
+    add_joiners(&mut table, joiners)?;
     Ok(Detector::new(alloc, table))
 }
 
@@ -307,7 +290,8 @@ fn a_known_joiner_is_taken_when_512_are_there(rt: HostRuntime) -> Result<(), Fai
     Ok(())
 }
 
-/// Where some growth of the second batch is refused the detector is as it was, and the next call works.
+/// Where some growth of the second batch is refused the detector is as it was, and the next call
+/// works.
 #[test]
 fn want_of_memory_leaves_the_detector_as_it_was(rt: HostRuntime) -> Result<(), Fail> {
     let mut detector = detector(rt.alloc(), &FIVE)?;
@@ -325,5 +309,20 @@ fn want_of_memory_leaves_the_detector_as_it_was(rt: HostRuntime) -> Result<(), F
     }
     assert_eq!(rt; detector.tally(&process(5)), 3);
     assert_eq!(rt; detector.skipped(), 0);
+    Ok(())
+}
+
+/// A copy over an equal table has the reports that were taken, and goes on by itself.
+#[test]
+fn want_of_memory_in_a_copied_detector(rt: HostRuntime) -> Result<(), Fail> {
+    let params = Params::new(2, 2, 1)?;
+    let (one, five) = (process(1), process(5));
+    let table = table_of_edge(rt.alloc(), params, one, five)?;
+    let equal = table_of_edge(rt.alloc(), params, one, five)?;
+    let mut detector = Detector::new(rt.alloc(), table);
+    assert!(rt; detector.batch(&[alert(Kind::Remove, (0, 1, 5))])?.is_none());
+    let copy = detector.try_copy(equal)?;
+    assert_eq!(rt; copy.tally(&five), 1);
+    assert_eq!(rt; copy.unstable()?.len(), 1);
     Ok(())
 }

@@ -1,0 +1,55 @@
+-- While the same processes have L direct reports, the same is implied.
+use Rattle.std.proofs.Common.{◌≡◌, ℕ, ◌≤◌, Bool, true, false, ◌&&◌, ◌||◌, List, map, refl, sym, ap, ◌∙◌, Option, Some, None, nat_lt, nat_le, arith}
+use Rattle.std.specs.FinSet as set
+use Rattle.rapid_model.specs.Process.{Process, is_in}
+use Rattle.rapid_model.specs.Alert.{Alert}
+use Rattle.rapid_model.specs.Ring.{Observers, AreObservers, rings}
+use Rattle.rapid_model.specs.Reports.{Report, report_cmp, Reports, report_of, tally, reaches_low, is_implied, subjects, reports}
+use Rattle.rapid_model.specs.Detector.{with_alerts}
+use Rattle.rapid_model.proofs.Closure.{some_counted}
+use Rattle.rapid_model.proofs.Orders.{reports_total, reports_exact}
+use Rattle.rapid_cut.specs.Closing.{active}
+use Rattle.rapid_cut.proofs.Sets.{subject_of}
+use Rattle.rapid_cut.proofs.Joiners.{in_filter}
+use Rattle.rapid_cut.proofs.OnePass.{one_pass}
+
+and_is : (a b : Bool) → (b ≡ true → a ≡ true) → (a && b) ≡ b
+and_is true b h = refl
+and_is false true h = h refl
+and_is false false h = refl
+
+low_active : (t : Observers) (r : Reports) (s : Process) → AreObservers t → reaches_low t r (Some s) ≡ is_in (active t r) s
+low_active t r s obs =
+    sym (in_filter (λ q. reaches_low t r (Some q)) (subjects r) s ∙ and_is (is_in (subjects r) s) (reaches_low t r (Some s)) (λ h.
+    let enough : t.params.l ≤ tally t r s = at_most t.params.l (tally t r s) h in
+    some_counted t (subjects r) r s (rings t) (λ y k. subject_of r y k) (omega (arith, enough, obs.params.some))))
+  where
+    at_most : (m n : ℕ) → nat_le m n ≡ true → m ≤ n
+    at_most m n e = grind (arith, e)
+
+low_same : (t : Observers) (r q : Reports) (o : Option Process) → AreObservers t → active t r ≡ active t q → reaches_low t r o ≡ reaches_low t q o
+low_same t r q None obs e = refl
+low_same t r q (Some s) obs e = low_active t r s obs ∙ ap (λ l. is_in l s) e ∙ sym (low_active t q s obs)
+
+implied_same : (t : Observers) (r q : Reports) (x : Report) → AreObservers t → active t r ≡ active t q → is_implied t r x ≡ is_implied t q x
+implied_same t r q x obs e =
+    ap (λ b. nat_lt x.1 t.params.k && b && reaches_low t r (t.observer x.1 x.0)) (low_same t r q (Some x.0) obs e)
+    ∙ ap (λ b. nat_lt x.1 t.params.k && reaches_low t q (Some x.0) && b) (low_same t r q (t.observer x.1 x.0) obs e)
+
+or_swap : (a b c : Bool) → ((a || b) || c) ≡ ((a || c) || b)
+or_swap true b c = refl
+or_swap false true true = refl
+or_swap false true false = refl
+or_swap false false true = refl
+or_swap false false false = refl
+
+pub known_still : (t : Observers) (old all new known : Reports) (before now : List Process) (xs : List Alert) → AreObservers t → all ≡ reports t old → before ≡ active t old → now ≡ active t new
+    → known ≡ with_alerts all xs → new ≡ with_alerts old xs → now ≡ before → known ≡ reports t new
+known_still t old all new known before now xs obs a b n k w same =
+    set.same_set reports_total reports_exact known (reports t new) (λ x.
+    ap (λ r. set.contains r x) k ∙ set.contains-union reports_total all (set.from_list (map report_of xs)) x
+    ∙ ap (λ c. c || set.contains (set.from_list {R = report_cmp} (map report_of xs)) x) (ap (λ r. set.contains r x) a ∙ one_pass t old x obs)
+    ∙ or_swap (set.contains old x) (is_implied t old x) (set.contains (set.from_list {R = report_cmp} (map report_of xs)) x)
+    ∙ ap (λ c. c || is_implied t old x) (sym (ap (λ r. set.contains r x) w ∙ set.contains-union reports_total old (set.from_list (map report_of xs)) x))
+    ∙ ap (λ c. set.contains new x || c) (implied_same t old new x obs (sym b ∙ sym same ∙ n))
+    ∙ sym (one_pass t new x obs))

@@ -1,0 +1,52 @@
+// The batch that implies most: one report on each of 1,024 processes, of which all sixteen rings follow.
+use crate::detector::process;
+use anyhow::Result;
+use rapid_alerts::{Alert, Kind};
+use rapid_config::{ConfigId, Params};
+use rapid_cut::Detector;
+use rapid_rings::Table;
+use std::alloc::Global;
+
+/// How many processes there are.
+const PROCESSES: u16 = 1024;
+
+/// The number of the process that observes another on a ring: the one so many places behind it.
+fn observer(ring: u8, subject: u16) -> u16 {
+    subject.wrapping_add(u16::from(ring)) % PROCESSES + 1
+}
+
+/// The table in which each process has an observer on each of sixteen rings.
+fn table(alloc: Global) -> Result<Table> {
+    let mut table = Table::new(alloc, Params::new(16, 16, 1)?);
+    for subject in 1..=PROCESSES {
+        for ring in 0..16u8 {
+            table.add(ring, process(observer(ring, subject)), process(subject))?;
+        }
+    }
+    Ok(table)
+}
+
+/// The alert of the first observer of each process.
+fn alerts(alloc: Global) -> Result<Vec<Alert>> {
+    let mut alerts = Vec::new(alloc);
+    for subject in 1..=PROCESSES {
+        alerts.push(Alert {
+            observer: process(observer(0, subject)),
+            subject: process(subject),
+            ring: 0,
+            kind: Kind::Remove,
+            config: ConfigId::zero(),
+        })?;
+    }
+    Ok(alerts)
+}
+
+/// How many processes are in the cut of the batch.
+pub fn cut_of(alloc: Global) -> Result<usize> {
+    let mut detector = Detector::new(alloc, table(alloc)?);
+    let alerts = alerts(alloc)?;
+    match detector.batch(alerts.as_slice())? {
+        Some(cut) => Ok(cut.processes().len()),
+        None => Ok(0),
+    }
+}
