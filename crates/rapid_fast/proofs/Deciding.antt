@@ -1,5 +1,5 @@
 -- One more vote at a fast round, by whether its position has voted.
-use Rattle.std.proofs.Common.{◌≡◌, ℕ, ◌+◌, ◌≤◌, Bool, true, false, cond, ◌==◌, refl, sym, ap, subst, ◌∙◌, Some, None, eq-eqb, ne_eqb}
+use Rattle.std.proofs.Common.{◌≡◌, ℕ, ◌+◌, ◌≤◌, Bool, true, false, cond, ◌==◌, refl, sym, ap, subst, ◌∙◌, Option, Some, None}
 use Rattle.std.specs.Ordering.{nat_cmp}
 use Rattle.std.specs.FinSet as set
 use Rattle.rapid_model.specs.Cut.{Cut}
@@ -22,13 +22,10 @@ after_vote-known r p v h = λ i. record { position = r.position; round = sym (he
 
 -- the fields of a round r, at a vote of a position that is not among those heard
 module _ (r : OwnRound) (n own : ℕ) (s : set.FinSet nat_cmp) (m : Counts) (view : record { position = own; round = record { size = n; heard = s; counts = m } } ≡ r) (p : ℕ) (v : Cut) (new : set.contains s p ≡ false) where
-  pub decided : (k full : ℕ) → k ≡ count_of m v → full ≡ fast_size n → k + 1 ≡ full → Some v ≡ fast_decision r.round p v
-  decided k full count size e =
-      decision-new (record { size = n; heard = s; counts = m }) p v new true (eq-eqb _ _ (ap (λ c. c + 1) (sym count) ∙ e ∙ size)) ∙ ap (λ (q : OwnRound). fast_decision q.round p v) view
-
-  pub undecided : (k full : ℕ) → k ≡ count_of m v → full ≡ fast_size n → (k + 1 ≡ full → ⊥) → None ≡ fast_decision r.round p v
-  undecided k full count size e =
-      decision-new (record { size = n; heard = s; counts = m }) p v new false (ne_eqb _ _ (λ h. e (ap (λ c. c + 1) count ∙ h ∙ sym size))) ∙ ap (λ (q : OwnRound). fast_decision q.round p v) view
+  pub decided_now : (full : ℕ) (d : Option Cut) → full ≡ fast_size n → d ≡ cond (count_of m v + 1 == full) (Some v) None → d ≡ fast_decision r.round p v
+  decided_now full d size e =
+      e ∙ ap (λ k. cond (count_of m v + 1 == k) (Some v) None) size
+      ∙ decision-new (record { size = n; heard = s; counts = m }) p v new _ refl ∙ ap (λ (q : OwnRound). fast_decision q.round p v) view
 
   pub heard_now : (t : set.FinSet nat_cmp) (l : Counts) → t ≡ set.insert s p → l ≡ one_more m v → record { position = own; round = record { size = n; heard = t; counts = l } } ≡ after_vote r p v
   heard_now t l a b =
@@ -39,7 +36,6 @@ module _ (r : OwnRound) (n own : ℕ) (s : set.FinSet nat_cmp) (m : Counts) (vie
   pub round_kept : (t : set.FinSet nat_cmp) (l : Counts) → t ≡ set.insert s p → l ≡ one_more m v → IsRound (record { position = own; round = record { size = n; heard = s; counts = m } }) → IsRound (record { position = own; round = record { size = n; heard = t; counts = l } })
   round_kept t l a b is =
       record {
-        member = is.member;
         few = is.few;
         counted = λ w. subst (λ x. count_of l w ≤ set.len x) (sym a) (subst (λ x. count_of x w ≤ set.len (set.insert s p)) (sym b) (counted-one_more m s p v new is.counted w));
       }

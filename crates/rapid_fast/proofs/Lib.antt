@@ -1,3 +1,4 @@
+pub mod Apart
 pub mod BitSets
 pub mod Places
 pub mod Counting

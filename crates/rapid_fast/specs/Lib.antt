@@ -1,3 +1,4 @@
+pub mod Apart
 pub mod Bits
 pub mod OwnRound
 pub mod Refusals

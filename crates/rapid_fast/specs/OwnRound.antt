@@ -1,5 +1,5 @@
 -- The fast round as the member at a position keeps it.
-use Rattle.std.specs.Prelude.{ℕ, ◌≤◌, ◌<◌, refl}
+use Rattle.std.specs.Prelude.{ℕ, ◌≤◌, refl}
 use Rattle.std.specs.Coded.{Coded, code_by, coded×, coded_ℕ}
 use Rattle.std.specs.FinSet as set
 use Rattle.rapid_model.specs.Cut.{Cut}
@@ -24,8 +24,7 @@ fresh_own n p = record { position = p; round = fresh_round n }
 abbrev pub after_vote : OwnRound → ℕ → Cut → OwnRound
 after_vote r p v = record { position = r.position; round = hear_vote r.round p v }
 
--- The member is one of at most 1,024, and no cut has more votes than there are voters.
+-- There are at most 1,024 members, and no cut has more votes than there are voters.
 pub record IsRound (r : OwnRound) : Type 0 where
-  pub member : r.position < r.round.size
   pub few : r.round.size ≤ 1024
   pub counted : (v : Cut) → count_of r.round.counts v ≤ set.len r.round.heard

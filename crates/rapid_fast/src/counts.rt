@@ -1,5 +1,6 @@
 // How many votes there are for each cut.
-ghost use Rattle.std.specs.Prelude.{◌≡◌, ◌≤◌, IfOk, OnOk, OnErr, length};
+ghost use Rattle.std.specs.Prelude.{◌≡◌, ◌≤◌, ◌+◌, ◌==◌, Some, None, if◌then◌else◌};
+ghost use Rattle.std.specs.Prelude.{IfOk, OnOk, OnErr, length};
 ghost use Rattle.std.specs.FinMap as map;
 ghost use Rattle.std.specs.List.Sorted.{IsSearchInRange, IsBinarySearchResult};
 ghost use Rattle.rapid_model.specs.Cut.{cut_cmp};
@@ -41,6 +42,17 @@ fn place(counts: &[(Cut, usize)], cut: &Cut) -> Result<usize, usize>
     counts.binary_search_by(|count| count.0.cmp(cut))
 }
 
+/// A copy of a cut, where one is wanted.
+pub(crate) fn copy_where(wanted: bool, alloc: Global, cut: &Cut) -> Result<Option<Cut>, AllocError>
+    ensures { IfOk result (λ copy. copy ≡ (if wanted then Some cut.now else None)) }
+{
+    if wanted {
+        Ok(Some(cut.try_copy(alloc)?))
+    } else {
+        Ok(None)
+    }
+}
+
 impl CutCounts {
     /// No counter.
     pub fn new(alloc: Global) -> CutCounts
@@ -75,14 +87,34 @@ impl CutCounts {
         ensures ok { OnOk result (self.new ≡ one_more self.old cut.now) }
         ensures unchanged { OnErr result (self.new ≡ self.old) }
     {
+        // a cut that was counted has one at least, so none is answered
+        self.add_up_to(cut, 0)?;
+        Ok(())
+    }
+
+    /// Counts one more for a cut; the cut, where there are then just so many. Want of memory leaves
+    /// the counters as they were.
+    pub fn add_up_to(&mut self, cut: &Cut, enough: usize) -> Result<Option<Cut>, AllocError>
+        requires room { count_of self.old cut.now ≤ 1024 }
+        ensures ok { OnOk result (self.new ≡ one_more self.old cut.now) }
+        ensures reached { IfOk result (λ reached. reached ≡
+            (if count_of self.old cut.now + 1 == enough then Some cut.now else None)) }
+        ensures unchanged { OnErr result (self.new ≡ self.old) }
+    {
         match place(&self.counts, cut) {
-            Ok(i) => self.counts[i].1 += 1,
+            Ok(i) => {
+                let count = self.counts[i].1 + 1;
+                let reached = copy_where(count == enough, self.alloc, cut)?;
+                self.counts[i].1 += 1;
+                Ok(reached)
+            }
             Err(i) => {
+                let reached = copy_where(enough == 1, self.alloc, cut)?;
                 let cut = cut.try_copy(self.alloc)?;
                 self.counts.insert(i, (cut, 1))?;
+                Ok(reached)
             }
         }
-        Ok(())
     }
 
     /// Drops each counter.

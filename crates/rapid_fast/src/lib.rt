@@ -5,11 +5,9 @@ mod counts;
 mod positions;
 mod quorum;
 mod round;
+mod votes;
 
 pub use counts::CutCounts;
 pub use positions::PositionSet;
 pub use quorum::fast_size;
 pub use round::{FastRound, HearError};
-
-#[cfg(test)]
-mod tests;

@@ -1,7 +1,8 @@
 // Sets of positions.
-ghost use Rattle.std.specs.Prelude.{◌≡◌, ◌≤◌, ◌<◌};
+ghost use Rattle.std.specs.Prelude.{◌≡◌, ◌≤◌, ◌<◌, IfOk, IsOk};
 ghost use Rattle.std.specs.FinSet as set;
 
+use std::alloc::AllocError;
 use std::marker::Model;
 
 /// How many words hold a bit for each position below 1,024.
@@ -70,13 +71,14 @@ impl PositionSet {
         self.len += 1;
     }
 
-    /// An equal set.
-    pub fn copy(&self) -> PositionSet
-        ensures { result ≡ self.now }
+    /// An equal set. It takes no memory, and is always Ok.
+    pub fn try_copy(&self) -> Result<PositionSet, AllocError>
+        ensures equal { IfOk result (λ s. s ≡ self.now) }
+        ensures made { IsOk result }
     {
-        PositionSet {
+        Ok(PositionSet {
             words: self.words,
             len: self.len,
-        }
+        })
     }
 }

@@ -1,11 +1,10 @@
 // Sizes of quorums.
-ghost use Rattle.std.specs.Prelude.{◌≡◌, ◌≤◌};
+ghost use Rattle.std.specs.Prelude.{◌≡◌};
 ghost use Rattle.rapid_model.specs.Quorum as model;
 
 /// The least size of a fast quorum of `n` members, more than three quarters of them.
 pub fn fast_size(n: usize) -> usize
-    requires { n ≤ 1024 }
     ensures { result ≡ model.fast_size n }
 {
-    3 * n / 4 + 1
+    n / 4 * 3 + n % 4 * 3 / 4 + 1
 }

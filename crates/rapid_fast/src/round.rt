@@ -4,7 +4,8 @@ ghost use Rattle.rapid_model.specs.FastRound.{fast_decision};
 ghost use Rattle.rapid_fast.specs.OwnRound.{fresh_own, after_vote};
 ghost use Rattle.rapid_fast.specs.Refusals.{IsHearRefusal, hear_code};
 
-use crate::{CutCounts, PositionSet, fast_size};
+use crate::votes::VoteCounts;
+use crate::{PositionSet, fast_size};
 use rapid_config::Cut;
 use std::alloc::{AllocError, Global};
 use std::marker::Model;
@@ -39,8 +40,7 @@ pub struct FastRound {
     size: usize,
     position: usize,
     heard: PositionSet,
-    counts: CutCounts,
-    alloc: Global,
+    counts: VoteCounts,
 }
 
 impl Model for FastRound {
@@ -56,39 +56,46 @@ impl Model for FastRound {
 }
 
 impl FastRound {
-    /// The round of `size` members, at most 1,024, as the one at `position` keeps it; no vote is there.
+    /// The round of `size` members, at most 1,024, as the one at `position` keeps it; no vote is
+    /// there.
     pub fn new(alloc: Global, size: usize, position: usize) -> FastRound
-        requires few { size ≤ 1024 }
-        requires member { position < size }
+        requires { size ≤ 1024 }
         ensures { result ≡ fresh_own size position }
     {
         FastRound {
             size,
             position,
             heard: PositionSet::new(),
-            counts: CutCounts::new(alloc),
-            alloc,
+            counts: VoteCounts::new(alloc),
         }
     }
 
-    /// The own vote; the cut, where this vote completes a fast quorum for it. A second vote is ignored. Want of
-    /// memory leaves the round as it was.
-    pub fn vote(&mut self, cut: &Cut) -> Result<Option<Cut>, AllocError>
+    /// The own vote; the cut, where this vote completes a fast quorum for it. A second vote is
+    /// ignored.
+    ///
+    /// # Errors
+    ///
+    /// `NotMember` where the own position isn't below the number of members; `OutOfMemory`. Both
+    /// leave the round as it was.
+    pub fn vote(&mut self, cut: &Cut) -> Result<Option<Cut>, HearError>
         ensures decided { IfOk result (λ d. d ≡ fast_decision self.old.round self.old.position cut.now) }
         ensures heard { OnOk result (self.new ≡ after_vote self.old self.old.position cut.now) }
+        ensures member { OnOk result (self.old.position < self.old.round.size) }
+        ensures refused { IfErr result (IsHearRefusal self.old.round self.old.position) }
         ensures unchanged { OnErr result (self.new ≡ self.old) }
         ensures size { self.new.round.size ≡ self.old.round.size }
         ensures position { self.new.position ≡ self.old.position }
     {
-        self.take(self.position, cut)
+        self.hear(self.position, cut)
     }
 
-    /// A vote of the member at a position; the cut, where this vote completes a fast quorum for it. A second vote of a
-    /// member is ignored.
+    /// A vote of the member at a position; the cut, where this vote completes a fast quorum for it.
+    /// A second vote of a member is ignored.
     ///
     /// # Errors
     ///
-    /// `NotMember` where the position isn't below the number of members; `OutOfMemory`. Both leave the round as it was.
+    /// `NotMember` where the position isn't below the number of members; `OutOfMemory`. Both leave
+    /// the round as it was.
     pub fn hear(&mut self, position: usize, cut: &Cut) -> Result<Option<Cut>, HearError>
         ensures decided { IfOk result (λ d. d ≡ fast_decision self.old.round position cut.now) }
         ensures heard { OnOk result (self.new ≡ after_vote self.old position cut.now) }
@@ -116,13 +123,7 @@ impl FastRound {
         if self.heard.contains(position) {
             return Ok(None);
         }
-        let completes = self.counts.count(cut) + 1 == fast_size(self.size);
-        let decided = if completes {
-            Some(cut.try_copy(self.alloc)?)
-        } else {
-            None
-        };
-        self.counts.add(cut)?;
+        let decided = self.counts.add(cut, fast_size(self.size))?;
         self.heard.insert(position);
         Ok(decided)
     }
@@ -134,9 +135,8 @@ impl FastRound {
         Ok(FastRound {
             size: self.size,
             position: self.position,
-            heard: self.heard.copy(),
+            heard: self.heard.try_copy()?,
             counts: self.counts.try_copy()?,
-            alloc: self.alloc,
         })
     }
 }

@@ -3,23 +3,29 @@ use Rattle.std.specs.Prelude.{◌≡◌, ℕ, Option, Result, Err, IsOk}
 use Rattle.rapid_model.specs.Cut.{Cut}
 use Rattle.rapid_model.specs.Ballot.{Vote}
 use Rattle.rapid_model.specs.Acceptor as model
-use Rattle.rapid_paxos.specs.declared.acceptor.AcceptorError.{AcceptorError}
-use Rattle.rapid_paxos.specs.declared.acceptor.AcceptorError.TheVariants.{Promised, AlreadyVoted, OutOfMemory}
+use Rattle.rapid_paxos.specs.declared.acceptor.AcceptError.{AcceptError}
+use Rattle.rapid_paxos.specs.declared.acceptor.AcceptError.TheVariants as accept
+use Rattle.rapid_paxos.specs.declared.acceptor.PromiseError.{PromiseError}
+use Rattle.rapid_paxos.specs.declared.acceptor.PromiseError.TheVariants as promise
 
 -- Want of memory is answered only where a vote would be cast.
-abbrev pub IsAcceptRefusal : Result (Unit {0}) model.AcceptorRefusal → AcceptorError → Type 0
-IsAcceptRefusal r (Promised b) = r ≡ Err (model.Promised b)
-IsAcceptRefusal r AlreadyVoted = r ≡ Err model.AlreadyVoted
-IsAcceptRefusal r OutOfMemory = IsOk r
+abbrev pub IsAcceptRefusal : Result (Unit {0}) model.AcceptorRefusal → AcceptError → Type 0
+IsAcceptRefusal r (accept.Promised b) = r ≡ Err (model.Promised b)
+IsAcceptRefusal r accept.AlreadyVoted = r ≡ Err model.AlreadyVoted
+IsAcceptRefusal r accept.OutOfMemory = IsOk r
 
 -- Want of memory is answered only where a promise would be given.
-abbrev pub IsPromiseRefusal : Result (Option (Vote Cut)) model.AcceptorRefusal → AcceptorError → Type 0
-IsPromiseRefusal r (Promised b) = r ≡ Err (model.Promised b)
-IsPromiseRefusal r AlreadyVoted = ⊥
-IsPromiseRefusal r OutOfMemory = IsOk r
+abbrev pub IsPromiseRefusal : Result (Option (Vote Cut)) model.AcceptorRefusal → PromiseError → Type 0
+IsPromiseRefusal r (promise.Promised b) = r ≡ Err (model.Promised b)
+IsPromiseRefusal r promise.OutOfMemory = IsOk r
 
--- The numbers of an acceptor's refusals.
-abbrev pub acceptor_code : AcceptorError → ℕ
-acceptor_code (Promised b) = 1
-acceptor_code AlreadyVoted = 2
-acceptor_code OutOfMemory = 99
+-- The numbers of the refusals of a vote.
+abbrev pub accept_code : AcceptError → ℕ
+accept_code (accept.Promised b) = 1
+accept_code accept.AlreadyVoted = 2
+accept_code accept.OutOfMemory = 99
+
+-- The numbers of the refusals of a promise.
+abbrev pub promise_code : PromiseError → ℕ
+promise_code (promise.Promised b) = 1
+promise_code promise.OutOfMemory = 99

@@ -3,7 +3,7 @@ ghost use Rattle.std.specs.Prelude.{◌≡◌, IfOk, OnOk, OnErr, IfErr, IsTrue,
 ghost use Rattle.rapid_model.specs.Acceptor as model;
 ghost use Rattle.rapid_model.specs.Ballot.{fast_ballot};
 ghost use Rattle.rapid_paxos.specs.Reported.{last_of};
-ghost use Rattle.rapid_paxos.specs.Refusals.{IsAcceptRefusal, IsPromiseRefusal, acceptor_code};
+ghost use Rattle.rapid_paxos.specs.Refusals.{IsAcceptRefusal, IsPromiseRefusal, accept_code, promise_code};
 
 use crate::Ballot;
 use rapid_config::Cut;
@@ -11,11 +11,34 @@ use std::alloc::{AllocError, Global};
 use std::marker::Model;
 use thiserror::Error;
 
-/// Why an acceptor refuses.
+/// Why an acceptor gives no promise.
 #[derive(Clone, Copy, Debug, PartialEq, Eq, Error)]
-pub enum AcceptorError {
-    /// It has promised this ballot, which is higher, or for a promise not lower.
+pub enum PromiseError {
+    /// It has promised or voted at this ballot, which is not lower.
     #[error("a ballot at or above this one was promised")]
+    Promised(Ballot),
+    /// Want of memory; nothing changed.
+    #[error("out of memory")]
+    OutOfMemory,
+}
+
+impl PromiseError {
+    /// The number of the refusal.
+    pub fn code(&self) -> u8
+        ensures { result ≡ promise_code self.now }
+    {
+        match self {
+            PromiseError::Promised(_) => 1,
+            PromiseError::OutOfMemory => 99,
+        }
+    }
+}
+
+/// Why an acceptor does not vote.
+#[derive(Clone, Copy, Debug, PartialEq, Eq, Error)]
+pub enum AcceptError {
+    /// It has promised or voted at this ballot, which is higher.
+    #[error("a ballot above this one was promised")]
     Promised(Ballot),
     /// It has voted at this ballot.
     #[error("it has voted at this ballot")]
@@ -25,15 +48,15 @@ pub enum AcceptorError {
     OutOfMemory,
 }
 
-impl AcceptorError {
+impl AcceptError {
     /// The number of the refusal.
     pub fn code(&self) -> u8
-        ensures { result ≡ acceptor_code self.now }
+        ensures { result ≡ accept_code self.now }
     {
         match self {
-            AcceptorError::Promised(_) => 1,
-            AcceptorError::AlreadyVoted => 2,
-            AcceptorError::OutOfMemory => 99,
+            AcceptError::Promised(_) => 1,
+            AcceptError::AlreadyVoted => 2,
+            AcceptError::OutOfMemory => 99,
         }
     }
 }
@@ -73,8 +96,8 @@ fn has_voted_at(ballot: Ballot, last: &Option<(Ballot, Cut)>) -> bool
     }
 }
 
-/// An equal vote.
-fn copy_vote(
+/// An equal vote, which shares its cut, if there is one.
+pub fn copy_vote(
     alloc: Global,
     vote: &Option<(Ballot, Cut)>,
 ) -> Result<Option<(Ballot, Cut)>, AllocError>
@@ -111,7 +134,7 @@ impl Acceptor {
     ///
     /// `Promised(rnd)` where the ballot isn't above `rnd`; `OutOfMemory`. Both leave the acceptor as it was.
     #[tactic(auto, unfolding(rapid_model::specs::Acceptor::promise_answer, rapid_model::specs::Acceptor::after_promise))]
-    pub fn promise(&mut self, ballot: Ballot) -> Result<Promise, AcceptorError>
+    pub fn promise(&mut self, ballot: Ballot) -> Result<Promise, PromiseError>
         ensures promised { OnOk result (self.new ≡ model.after_promise self.old ballot) }
         ensures ballot { IfOk result (λ p. p.ballot ≡ ballot) }
         ensures vote { IfOk result (λ p. model.promise_answer self.old ballot ≡ Ok (last_of p.vote)) }
@@ -119,9 +142,9 @@ impl Acceptor {
         ensures unchanged { OnErr result (self.new ≡ self.old) }
     {
         if ballot <= self.rnd {
-            return Err(AcceptorError::Promised(self.rnd));
+            return Err(PromiseError::Promised(self.rnd));
         }
-        let vote = copy_vote(self.alloc, &self.last).map_err(|_| AcceptorError::OutOfMemory)?;
+        let vote = copy_vote(self.alloc, &self.last).map_err(|_| PromiseError::OutOfMemory)?;
         self.rnd = ballot;
         Ok(Promise { ballot, vote })
     }
@@ -133,28 +156,28 @@ impl Acceptor {
     /// `Promised(rnd)` where the ballot is below `rnd`, then `AlreadyVoted` where it has voted at this ballot;
     /// `OutOfMemory`. Each leaves the acceptor as it was.
     #[tactic(auto, unfolding(rapid_model::specs::Acceptor::accepts, rapid_model::specs::Acceptor::after_accept, rapid_model::specs::Acceptor::accept_answer))]
-    pub fn accept(&mut self, ballot: Ballot, cut: &Cut) -> Result<(), AcceptorError>
+    pub fn accept(&mut self, ballot: Ballot, cut: &Cut) -> Result<(), AcceptError>
         ensures accepted { OnOk result (self.new ≡ model.after_accept self.old ballot cut.now) }
         ensures allowed { OnOk result (IsTrue (model.accepts self.old ballot)) }
         ensures refused { IfErr result (IsAcceptRefusal (model.accept_answer self.old ballot)) }
         ensures unchanged { OnErr result (self.new ≡ self.old) }
     {
         if ballot < self.rnd {
-            return Err(AcceptorError::Promised(self.rnd));
+            return Err(AcceptError::Promised(self.rnd));
         }
         if has_voted_at(ballot, &self.last) {
-            return Err(AcceptorError::AlreadyVoted);
+            return Err(AcceptError::AlreadyVoted);
         }
         let cut = cut
             .try_copy(self.alloc)
-            .map_err(|_| AcceptorError::OutOfMemory)?;
+            .map_err(|_| AcceptError::OutOfMemory)?;
         self.rnd = ballot;
         self.last = Some((ballot, cut));
         Ok(())
     }
 
     /// The fast vote: a vote for a cut at the fast ballot, refused as `accept` refuses.
-    pub fn fast_vote(&mut self, cut: &Cut) -> Result<(), AcceptorError>
+    pub fn fast_vote(&mut self, cut: &Cut) -> Result<(), AcceptError>
         ensures accepted { OnOk result (self.new ≡ model.after_accept self.old fast_ballot cut.now) }
         ensures allowed { OnOk result (IsTrue (model.accepts self.old fast_ballot)) }
         ensures refused { IfErr result (IsAcceptRefusal (model.accept_answer self.old fast_ballot)) }

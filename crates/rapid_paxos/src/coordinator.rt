@@ -231,7 +231,7 @@ impl Coordinator {
             size: self.size,
             position: self.position,
             ballot: self.ballot,
-            heard: self.heard.copy(),
+            heard: self.heard.try_copy()?,
             top: self.top,
             counts: self.counts.try_copy()?,
             alloc: self.alloc,

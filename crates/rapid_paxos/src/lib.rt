@@ -7,10 +7,8 @@ mod coordinator;
 mod learner;
 mod notices;
 mod quorum;
-#[cfg(test)]
-mod tests;
 
-pub use acceptor::{Acceptor, AcceptorError, Promise};
+pub use acceptor::{AcceptError, Acceptor, Promise, PromiseError, copy_vote};
 pub use ballot::Ballot;
 pub use coordinator::{Accept, Coordinator, RoundsUsed};
 pub use learner::Learner;

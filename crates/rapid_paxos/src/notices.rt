@@ -97,7 +97,7 @@ impl NoticeSet {
     {
         let mut entries = Vec::with_capacity(self.alloc, self.entries.len())?;
         for ((ballot, cut), positions) in &self.entries {
-            entries.push(((*ballot, cut.try_copy(self.alloc)?), positions.copy()))?;
+            entries.push(((*ballot, cut.try_copy(self.alloc)?), positions.try_copy()?))?;
         }
         Ok(NoticeSet {
             entries,

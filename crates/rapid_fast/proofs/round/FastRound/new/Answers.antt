@@ -7,8 +7,7 @@ use Rattle.rapid_fast.proofs.round.FastRound.new.Goals as goal
 pub invariant_of-result : goal.invariant_of-result
 invariant_of-result c =
     record {
-      member = c.requires.member;
-      few = c.requires.few;
+      few = c.requires;
       counted = λ v.
           let none : count_of c.new-2.result v ≡ 0 = ap (λ m. count_of m v) c.new-2.ensures ∙ ap (λ o. unwrap_or o 0) (map.get-empty cut_cmp v) in
           omega (arith, none);

@@ -1,30 +1,20 @@
 // Worked cases of classic recovery, and growths that are refused.
+
 ghost use Rattle.std.specs.Prelude.{◌≡◌, ◌<◌};
 
-use crate::{
-    Accept, Acceptor, AcceptorError, Ballot, Coordinator, Learner, Promise, RoundsUsed,
-    classic_size,
-};
+use crate::numbered::process;
 use rapid_config::Cut;
-use rapid_endpoint::{Endpoint, Process, ProcessId};
+use rapid_paxos::{
+    Accept, AcceptError, Acceptor, Ballot, Coordinator, Learner, Promise, RoundsUsed, classic_size,
+};
 use std::alloc::{AllocError, Global};
 use std::process::Abort;
 use std::test::Fail;
 
-/// The process with the number n: the identifier n, and the endpoint 127.0.0.1:n.
-fn process(n: u8) -> Process {
-    let mut id = [0; 16];
-    id[15] = n;
-    Process::new(
-        ProcessId::new(id),
-        Endpoint::new([127, 0, 0, 1], u16::from(n)),
-    )
-}
-
 /// The cut of one process.
 fn cut(alloc: Global, n: u8) -> Result<Cut, Fail> {
     let mut processes = Vec::new(alloc);
-    processes.push(process(n))?;
+    processes.push(process(u16::from(n)))?;
     Ok(Cut::new(processes)?)
 }
 
@@ -178,9 +168,9 @@ fn an_acceptor_votes_once(rt: HostRuntime) -> Result<(), Fail> {
     acceptor.fast_vote(&x)?;
     assert_eq!(rt;
         acceptor.fast_vote(&x).err(),
-        Some(AcceptorError::AlreadyVoted)
+        Some(AcceptError::AlreadyVoted)
     );
-    assert_eq!(rt; AcceptorError::AlreadyVoted.code(), 2);
+    assert_eq!(rt; AcceptError::AlreadyVoted.code(), 2);
     Ok(())
 }
 
@@ -195,7 +185,7 @@ fn an_acceptor_keeps_its_promise(rt: HostRuntime) -> Result<(), Fail> {
     let mut copy = acceptor.try_copy()?;
     assert_eq!(rt;
         acceptor.fast_vote(&x).err(),
-        Some(AcceptorError::Promised(ballot))
+        Some(AcceptError::Promised(ballot))
     );
     copy.accept(ballot, &x)?;
     assert_eq!(rt; copy.rnd(), ballot);
@@ -245,7 +235,8 @@ fn heard(
     }
 }
 
-/// Where some growth is refused the coordinator is as it was, so that promises heard again make the same request.
+/// Where some growth is refused the coordinator is as it was, so that promises heard again make the
+/// same request.
 #[test]
 fn want_of_memory_leaves_the_coordinator_as_it_was(rt: HostRuntime) -> Result<(), Fail> {
     let mut coordinator = Coordinator::new(rt.alloc(), 5, 0);
@@ -261,7 +252,8 @@ fn want_of_memory_leaves_the_coordinator_as_it_was(rt: HostRuntime) -> Result<()
     Ok(())
 }
 
-/// Where some growth is refused the learner is as it was, so that notices heard again teach the same cut.
+/// Where some growth is refused the learner is as it was, so that notices heard again teach the
+/// same cut.
 #[test]
 fn want_of_memory_leaves_the_learner_as_it_was(rt: HostRuntime) -> Result<(), Fail> {
     let x = cut(rt.alloc(), 6)?;
@@ -273,5 +265,35 @@ fn want_of_memory_leaves_the_learner_as_it_was(rt: HostRuntime) -> Result<(), Fa
     };
     assert!(rt; first.is_none());
     assert!(rt; learner.hear(1, low, &x)? == Some(x));
+    Ok(())
+}
+
+/// Where some growth is refused the acceptor is as it was, so that it makes its promise and its
+/// vote when it is asked again.
+#[test]
+fn want_of_memory_leaves_the_acceptor_as_it_was(rt: HostRuntime) -> Result<(), Fail> {
+    let x = cut(rt.alloc(), 6)?;
+    let mut acceptor = Acceptor::new(rt.alloc());
+    if acceptor.fast_vote(&x).is_err() {
+        assert_eq!(rt; acceptor.rnd(), Ballot::FAST);
+        acceptor.fast_vote(&x)?;
+    }
+    let ballot = Ballot::classic(2, 0).expect(&rt, "a classic ballot");
+    let promise = match acceptor.promise(ballot) {
+        Ok(promise) => promise,
+        Err(_refused) => acceptor.promise(ballot)?,
+    };
+    assert!(rt; promise.vote == Some((Ballot::FAST, x)));
+    Ok(())
+}
+
+#[test]
+fn want_of_memory_in_copies(rt: HostRuntime) -> Result<(), Fail> {
+    let x = cut(rt.alloc(), 6)?;
+    let low = Ballot::classic(2, 0).expect(&rt, "a classic ballot");
+    let mut learner = Learner::new(rt.alloc(), 3);
+    assert!(rt; learner.hear(0, low, &x)?.is_none());
+    let mut copy = learner.try_copy()?;
+    assert!(rt; copy.hear(1, low, &x)? == Some(x));
     Ok(())
 }

@@ -1,24 +1,15 @@
 // Worked cases of the fast round, and growths that are refused.
-use crate::{FastRound, HearError, PositionSet, fast_size};
+
+use crate::numbered::process;
 use rapid_config::{ConfigError, Cut};
-use rapid_endpoint::{Endpoint, Process, ProcessId};
+use rapid_fast::{FastRound, HearError, PositionSet, fast_size};
 use std::alloc::Global;
 use std::test::Fail;
-
-/// The process with the number n: the identifier n, and the endpoint 127.0.0.1:n.
-fn process(n: u8) -> Process {
-    let mut id = [0; 16];
-    id[15] = n;
-    Process::new(
-        ProcessId::new(id),
-        Endpoint::new([127, 0, 0, 1], u16::from(n)),
-    )
-}
 
 /// The cut of one process.
 fn cut(alloc: Global, n: u8) -> Result<Cut, ConfigError> {
     let mut processes = Vec::new(alloc);
-    processes.push(process(n))?;
+    processes.push(process(u16::from(n)))?;
     Cut::new(processes)
 }
 
@@ -49,7 +40,8 @@ fn decided_at(
 #[test]
 fn decides_at_the_fourth_of_five(rt: HostRuntime) -> Result<(), Fail> {
     let mut round = FastRound::new(rt.alloc(), 5, 2);
-    // a second vote of a member is ignored, three of five are no fast quorum, and the cut is decided once
+    // a second vote of a member is ignored, three of five are no fast quorum, and the cut is
+    // decided once
     let votes = [
         (0, 6),
         (4, 7),
@@ -93,14 +85,15 @@ fn one_member_decides_alone(rt: HostRuntime) -> Result<(), Fail> {
 }
 
 #[test]
-fn positions(rt: HostRuntime) {
+fn positions(rt: HostRuntime) -> Result<(), Fail> {
     let mut positions = PositionSet::new();
     positions.insert(64);
     positions.insert(1023);
     positions.insert(64);
-    let copy = positions.copy();
+    let copy = positions.try_copy()?;
     assert_eq!(rt; copy.len(), 2);
     assert!(rt; copy.contains(1023) && !copy.contains(65));
+    Ok(())
 }
 
 /// A vote, given again where its growth is refused.
@@ -111,7 +104,8 @@ fn heard(round: &mut FastRound, position: usize, cut: &Cut) -> Result<Option<Cut
     }
 }
 
-/// Where some growth is refused the round is as it was, so that votes given again make the same decision.
+/// Where some growth is refused the round is as it was, so that votes given again make the same
+/// decision.
 #[test]
 fn want_of_memory_leaves_the_round_as_it_was(rt: HostRuntime) -> Result<(), Fail> {
     let x = cut(rt.alloc(), 6)?;
@@ -121,5 +115,15 @@ fn want_of_memory_leaves_the_round_as_it_was(rt: HostRuntime) -> Result<(), Fail
         assert!(rt; heard(&mut round, position, cut)?.is_none());
     }
     assert!(rt; heard(&mut round, 4, &x)? == Some(x));
+    Ok(())
+}
+
+#[test]
+fn want_of_memory_in_a_copied_round(rt: HostRuntime) -> Result<(), Fail> {
+    let x = cut(rt.alloc(), 6)?;
+    let mut round = FastRound::new(rt.alloc(), 2, 0);
+    assert!(rt; round.vote(&x)?.is_none());
+    let mut copy = round.try_copy()?;
+    assert!(rt; copy.hear(1, &x)? == Some(x));
     Ok(())
 }
