@@ -4,3 +4,4 @@ pub mod Echoing
 pub mod Flushing
 pub mod Hosts
 pub mod Places
+pub mod Waiting

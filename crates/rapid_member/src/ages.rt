@@ -1,6 +1,6 @@
 // For how long processes were unstable.
 
-ghost use Rattle.std.specs.Prelude.{◌≡◌, IfOk, OnOk, OnErr};
+ghost use Rattle.std.specs.Prelude.{◌≡◌, true, IfOk, OnOk, OnErr};
 ghost use Rattle.std.specs.FinMap as map;
 ghost use Rattle.rapid_model.specs.Tick.{age_of, next_ages};
 
@@ -70,6 +70,13 @@ impl Ages {
     {
         self.ages.insert(process, age)?;
         Ok(())
+    }
+
+    /// Whether no process was unstable.
+    pub(crate) fn is_empty(&self) -> bool
+        ensures { result ≡ true → self.now ≡ map.empty }
+    {
+        self.ages.is_empty()
     }
 
     /// Equal ages.

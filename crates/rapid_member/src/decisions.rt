@@ -1,6 +1,6 @@
 // The decisions of configurations that were left.
 
-ghost use Rattle.std.specs.Prelude.{◌≡◌, ◌++◌, ◌∷◌, [], Some, IfOk, OnOk};
+ghost use Rattle.std.specs.Prelude.{◌≡◌, ◌++◌, ◌∷◌, [], Some, IfOk, OnOk, OnErr};
 ghost use Rattle.std.specs.Option.{option_copied};
 ghost use Rattle.rapid_model.specs.NodeStep.{last_64};
 ghost use Rattle.rapid_model.specs.Node.{outputs};
@@ -82,7 +82,7 @@ impl Decisions {
         Some(&found.1)
     }
 
-    /// Answers a message about a configuration that was left.
+    /// Answers a message about a configuration that was left. Want of memory says nothing.
     pub fn catch_up(
         &self,
         alloc: Global,
@@ -91,7 +91,8 @@ impl Decisions {
         from: &Process,
         id: ConfigId,
     ) -> Result<(), AllocError>
-        ensures { OnOk result (out.new.items ≡ out.old.items ++ outputs me (receive.catch_up self.now from.now (Some id))) }
+        ensures said { OnOk result (out.new.items ≡ out.old.items ++ outputs me (receive.catch_up self.now from.now (Some id))) }
+        ensures unchanged { OnErr result (out.new.items ≡ out.old.items) }
     {
         match self.decided_in(id) {
             Some(cut) => answer(out, me, from, Body::Decision(id, cut.try_copy(alloc)?)),

@@ -1,6 +1,6 @@
 // What goes out in a join.
 
-ghost use Rattle.std.specs.Prelude.{◌≡◌, ◌++◌, All, map, flat_map, OnOk};
+ghost use Rattle.std.specs.Prelude.{◌≡◌, ◌++◌, All, map, flat_map, OnOk, OnErr};
 ghost use Rattle.std.specs.FinSet as set;
 ghost use Rattle.rapid_model.specs.Host.{confirms};
 ghost use Rattle.rapid_model.specs.Node.{To, Says, outputs};
@@ -23,7 +23,8 @@ pub(crate) fn say_answer(
     answered: &HostAnswer,
 ) -> Result<(), AllocError>
     requires { AnswersObservers answered.now }
-    ensures { OnOk result (out.new.items ≡ out.old.items ++ outputs me (answer_to joiner.now (host_answer_of answered.now))) }
+    ensures said { OnOk result (out.new.items ≡ out.old.items ++ outputs me (answer_to joiner.now (host_answer_of answered.now))) }
+    ensures unchanged { OnErr result (out.new.items ≡ out.old.items) }
 {
     match answered {
         HostAnswer::Nothing => Ok(()),
@@ -55,46 +56,56 @@ fn say_all(
     answers: &[(Process, HostAnswer)],
 ) -> Result<(), AllocError>
     requires { All (λ x. AnswersObservers x.1) answers.now }
-    ensures { OnOk result (out.new.items ≡ out.old.items ++ outputs me (flat_map (λ x. answer_to x.0 x.1) (map answered_of answers.now))) }
+    ensures said { OnOk result (out.new.items ≡ out.old.items ++ outputs me (flat_map (λ x. answer_to x.0 x.1) (map answered_of answers.now))) }
+    ensures unchanged { OnErr result (out.new.items ≡ out.old.items) }
 {
+    let mut said = Vec::new(alloc);
     for (joiner, answered) in answers {
-        say_answer(alloc, out, me, joiner, answered)?;
+        say_answer(alloc, &mut said, me, joiner, answered)?;
     }
+    out.append(&mut said)?;
     Ok(())
 }
 
 /// Sends a joiner's requests.
 fn send_requests(
+    alloc: Global,
     out: &mut Vec<Output>,
     me: Process,
     requests: &[JoinRequest],
 ) -> Result<(), AllocError>
-    ensures { OnOk result (out.new.items ≡ out.old.items ++ outputs me (map (λ x. Says (To x.0) x.1) (map request_of requests.now))) }
+    ensures said { OnOk result (out.new.items ≡ out.old.items ++ outputs me (map (λ x. Says (To x.0) x.1) (map request_of requests.now))) }
+    ensures unchanged { OnErr result (out.new.items ≡ out.old.items) }
 {
+    let mut said = Vec::new(alloc);
     for request in requests {
         let body = Body::JoinRequest(request.id, request.ring);
-        say_to(out, me, request.to, body)?;
+        say_to(&mut said, me, request.to, body)?;
     }
+    out.append(&mut said)?;
     Ok(())
 }
 
-/// Sends, in the name of this process, what a joiner answers.
+/// Sends, in the name of this process, what a joiner answers. Want of memory sends nothing.
 pub fn send_joining(
+    alloc: Global,
     out: &mut Vec<Output>,
     me: Process,
     answered: &JoinerAnswer,
 ) -> Result<(), AllocError>
-    ensures { OnOk result (out.new.items ≡ out.old.items ++ outputs me (map (λ x. Says (To x.0) x.1) (sent_by answered.now))) }
+    ensures said { OnOk result (out.new.items ≡ out.old.items ++ outputs me (map (λ x. Says (To x.0) x.1) (sent_by answered.now))) }
+    ensures unchanged { OnErr result (out.new.items ≡ out.old.items) }
 {
     match answered {
         JoinerAnswer::Nothing => Ok(()),
         JoinerAnswer::PreJoin(seed) => say_to(out, me, *seed, Body::PreJoin),
-        JoinerAnswer::Requests(requests) => send_requests(out, me, requests.as_slice()),
+        JoinerAnswer::Requests(requests) => send_requests(alloc, out, me, requests.as_slice()),
     }
 }
 
 /// Says, in the name of this process, to the joiners that wait at a member what they get after a change to the next
-/// configuration. None waits afterwards.
+/// configuration. None waits afterwards. Want of memory says nothing; who waits is open then, and the rest of the member
+/// stays.
 pub fn confirm_pending(
     alloc: Global,
     out: &mut Vec<Output>,
@@ -103,6 +114,8 @@ pub fn confirm_pending(
     next: &Configuration,
 ) -> Result<(), AllocError>
     ensures out { OnOk result (out.new.items ≡ out.old.items ++ outputs me (flat_map (λ x. answer_to x.0 x.1) (confirms next.now member.old.pending))) }
+    ensures unchanged { OnErr result (out.new.items ≡ out.old.items) }
+    ensures rest { record member.new { pending = set.empty } ≡ record member.old { pending = set.empty } }
     ensures state { OnOk result (member.new ≡ record member.old { pending = set.empty }) }
 {
     let answers = member.confirms(next)?;

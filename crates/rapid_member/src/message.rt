@@ -8,7 +8,7 @@ use rapid_alerts::Batch;
 use rapid_config::{ConfigId, Configuration, Cut};
 use rapid_endpoint::Process;
 use rapid_join::Reply;
-use rapid_paxos::Ballot;
+use rapid_paxos::{Ballot, copy_vote};
 use std::alloc::{AllocError, Global};
 use std::marker::Model;
 
@@ -41,19 +41,6 @@ pub enum Body {
     Probe(ConfigId),
     /// The receiver of a probe is there.
     ProbeAck(ConfigId),
-}
-
-/// An equal vote, which shares its cut, if there is one.
-pub(crate) fn copy_vote(
-    alloc: Global,
-    vote: &Option<(Ballot, Cut)>,
-) -> Result<Option<(Ballot, Cut)>, AllocError>
-    ensures { IfOk result (λ v. v ≡ vote.now) }
-{
-    match vote {
-        Some((ballot, cut)) => Ok(Some((*ballot, cut.try_copy(alloc)?))),
-        None => Ok(None),
-    }
 }
 
 impl Body {

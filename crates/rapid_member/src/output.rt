@@ -1,6 +1,6 @@
 // What goes out of a node.
 
-ghost use Rattle.std.specs.Prelude.{◌≡◌, ◌++◌, ◌∷◌, [], IfOk, OnOk};
+ghost use Rattle.std.specs.Prelude.{◌≡◌, ◌++◌, ◌∷◌, [], IfOk, OnOk, OnErr};
 ghost use Rattle.rapid_model.specs.Process.{endpoint};
 ghost use Rattle.rapid_model.specs.Node.{To as ModelTo, Others as ModelOthers, Says, outputs};
 ghost use Rattle.rapid_member.specs.Bodies.{CanSay, body_of};
@@ -16,7 +16,8 @@ use std::marker::Model;
 pub enum Destination {
     /// To one endpoint.
     To(Endpoint),
-    /// To each other member, by identifier.
+    /// To each other member, by identifier, of the configuration in which the sender is a member *before* the step that
+    /// this goes out in: a step that installs another configuration still speaks to the members of the one it leaves.
     Others,
 }
 
@@ -73,16 +74,17 @@ impl Output {
     }
 }
 
-/// Says something to the other members.
+/// Says something to the other members. Want of memory says nothing.
 pub(crate) fn say(out: &mut Vec<Output>, me: Process, body: Body) -> Result<(), AllocError>
     requires { CanSay me body }
-    ensures { OnOk result (out.new.items ≡ out.old.items ++ outputs me (Says ModelOthers (body_of body) ∷ [])) }
+    ensures said { OnOk result (out.new.items ≡ out.old.items ++ outputs me (Says ModelOthers (body_of body) ∷ [])) }
+    ensures unchanged { OnErr result (out.new.items ≡ out.old.items) }
 {
     out.push(Output::new(Destination::Others, Message::new(me, body)))?;
     Ok(())
 }
 
-/// Says something to an endpoint.
+/// Says something to an endpoint. Want of memory says nothing.
 pub(crate) fn say_to(
     out: &mut Vec<Output>,
     me: Process,
@@ -90,13 +92,14 @@ pub(crate) fn say_to(
     body: Body,
 ) -> Result<(), AllocError>
     requires { CanSay me body }
-    ensures { OnOk result (out.new.items ≡ out.old.items ++ outputs me (Says (ModelTo to) (body_of body) ∷ [])) }
+    ensures said { OnOk result (out.new.items ≡ out.old.items ++ outputs me (Says (ModelTo to) (body_of body) ∷ [])) }
+    ensures unchanged { OnErr result (out.new.items ≡ out.old.items) }
 {
     out.push(Output::new(Destination::To(to), Message::new(me, body)))?;
     Ok(())
 }
 
-/// Says something to the endpoint of a process.
+/// Says something to the endpoint of a process. Want of memory says nothing.
 pub(crate) fn answer(
     out: &mut Vec<Output>,
     me: Process,
@@ -104,7 +107,8 @@ pub(crate) fn answer(
     body: Body,
 ) -> Result<(), AllocError>
     requires { CanSay me body }
-    ensures { OnOk result (out.new.items ≡ out.old.items ++ outputs me (Says (ModelTo (endpoint to.now)) (body_of body) ∷ [])) }
+    ensures said { OnOk result (out.new.items ≡ out.old.items ++ outputs me (Says (ModelTo (endpoint to.now)) (body_of body) ∷ [])) }
+    ensures unchanged { OnErr result (out.new.items ≡ out.old.items) }
 {
     say_to(out, me, to.endpoint(), body)
 }

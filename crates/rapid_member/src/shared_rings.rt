@@ -68,4 +68,8 @@ impl ObserverTable for SharedRings {
     fn observer(&self, ring: u8, subject: &Process) -> Option<Process> {
         self.rings.observer(ring, subject)
     }
+
+    fn member_and_observer(&self, ring: u8, subject: &Process) -> (bool, Option<Process>) {
+        self.rings.member_and_observer(ring, subject)
+    }
 }

@@ -1,3 +1,5 @@
 pub mod Asking
+pub mod Observed
 pub mod Settling
-pub mod Shown
+pub mod Showing
+pub mod Viewing

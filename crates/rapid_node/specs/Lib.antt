@@ -1,3 +1,4 @@
 pub mod Codes
 pub mod Phases
 pub mod Steps
+pub mod Views

@@ -6,7 +6,10 @@ mod event;
 mod fault;
 mod installed;
 mod node;
+mod past;
 mod phase;
+mod shown;
+mod views;
 
 pub use event::Event;
 pub use fault::NodeFault;
@@ -15,3 +18,4 @@ pub use phase::Phase;
 pub use rapid_alerts::Batch;
 pub use rapid_join::{Reply, RingObservers};
 pub use rapid_member::{Body, Destination, Message, Output, Outputs};
+pub use views::Views;

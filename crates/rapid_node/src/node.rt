@@ -1,6 +1,8 @@
 // One node.
 
-ghost use Rattle.std.specs.Prelude.{◌≡◌, ◌<◌, ◌-◌, ◌^◌, ◌++◌, ◌∷◌, [], false, true, length, map, flat_map, IfOk, OnOk, IfErr, OnErr, IfSome, IsTrue, Some, None, Err};
+ghost use Rattle.std.specs.Prelude.{◌≡◌, ◌<◌, ◌-◌, ◌^◌, ◌==◌, ◌++◌, ◌∷◌, [], false, true, length, map, flat_map, IfOk, OnOk, IfErr, OnErr, IfSome, IsTrue, Some, None, Err};
+ghost use Rattle.std.specs.Arc.{arc_value};
+ghost use Rattle.std.specs.List.{find};
 ghost use Rattle.std.specs.Option.{option_map};
 ghost use Rattle.rapid_model.specs.Apply.{apply};
 ghost use Rattle.rapid_model.specs.Configuration.{configuration_id, is_member, stamp};
@@ -12,6 +14,7 @@ ghost use Rattle.rapid_model.specs.Node as model;
 ghost use Rattle.rapid_model.specs.NodeStep as step;
 ghost use Rattle.rapid_model.specs.Tick.{on_tick};
 ghost use Rattle.rapid_model.specs.Receive as receive;
+ghost use Rattle.rapid_model.specs.World.{observed_in};
 ghost use Rattle.rapid_join.specs.Answers.{answer_of};
 ghost use Rattle.rapid_member.specs.Bodies.{CanSay, body_of};
 ghost use Rattle.rapid_member.specs.Members.{IsSameMember};
@@ -20,18 +23,23 @@ ghost use Rattle.rapid_node.specs.Steps.{event_of, Continues, HasOutcome, Stops,
 ghost use Rattle.rapid_node.specs.declared.fault.NodeFault.TheVariants as fault;
 
 use crate::installed::Installed;
+use crate::past::Past;
 use crate::phase::State;
+use crate::shown::Shown;
+use crate::views::{View, Views};
 use crate::{Event, NodeFault, Phase};
 use rapid_alerts::{Alert, Kind};
-use rapid_config::{ConfigError, ConfigId, Configuration, Cut, Stamp};
+use rapid_config::{ConfigId, Configuration, Cut, Stamp};
 use rapid_endpoint::{Endpoint, Process};
 use rapid_join::{Joiner, Reply};
 use rapid_member::{
     Body, Decisions, MemberState, Message, Output, Outputs, confirm_pending, send_joining,
 };
+use rapid_rings::Rings;
 use std::alloc::{AllocError, Global};
 use std::marker::Model;
 use std::mem;
+use std::sync::Arc;
 
 /// How many views a node installs at most.
 const MOST_VIEWS: usize = 65536;
@@ -42,14 +50,12 @@ const MOST_VIEWS: usize = 65536;
 pub struct Node {
     me: Process,
     state: State,
-    // the configuration that the node shows
-    shown: Option<Configuration>,
-    installed: Installed,
-    decisions: Decisions,
+    past: Arc<Past, Global>,
     alloc: Global,
 }
 
 impl Model for Node {
+    ghost use Rattle.std.specs.Arc.{arc_value};
     ghost use Rattle.rapid_model.specs.Node.{Node as ModelNode};
     ghost use Rattle.rapid_node.specs.Codes.{node_code};
 
@@ -59,48 +65,46 @@ impl Model for Node {
 
     ghost use Rattle.rapid_node.specs.Phases.{phase_of, IsState};
 
-    ghost view = { λ n. record { me = n.me; phase = phase_of n.shown n.state; installed = n.installed; decisions = n.decisions } };
+    ghost view = { λ n. record { me = n.me; phase = phase_of (arc_value n.past).shown n.state; installed = (arc_value n.past).installed; decisions = (arc_value n.past).decisions } };
 
-    ghost invariant = { λ n. IsState n.me n.shown n.state };
+    ghost invariant = { λ n. IsState n.me (arc_value n.past).shown n.state };
 }
 
-/// The configuration that a cut makes.
-fn apply_cut(
+/// The member that a member observes on a ring.
+#[tactic(auto, using(crate::proofs::Observed::observed_is))]
+fn subject_on(
     alloc: Global,
-    configuration: &Configuration,
-    cut: &Cut,
-) -> Result<Configuration, AllocError>
-    requires { configuration.now.height < 2 ^ 64 - 1 }
-    ensures { IfOk result (λ next. next ≡ apply configuration.now cut.now) }
+    rings: &Rings,
+    me: &Process,
+    ring: u8,
+) -> Result<Option<Process>, AllocError>
+    ensures { IfOk result (λ subject. subject ≡ option_map (λ x. x.1) (observed_in (Some rings.now) me.now ring)) }
 {
-    match configuration.apply(alloc, cut) {
-        Ok(next) => Ok(next),
-        Err(ConfigError::OutOfMemory) => Err(AllocError),
-        Err(_) => unreachable!(),
-    }
+    let subjects = rings.subjects_of(alloc, me)?;
+    Ok(named(subjects.as_slice(), ring))
+}
+
+/// The process of the first of these pairs that has this ring.
+fn named(subjects: &[(u8, Process)], ring: u8) -> Option<Process>
+    ensures { result ≡ option_map (λ x. x.1) (find (λ x. x.0 == ring) subjects.now) }
+{
+    let found = subjects.iter().find(|subject| subject.0 == ring)?;
+    Some(found.1)
 }
 
 impl Node {
     /// The node of these parts.
-    fn of(
-        alloc: Global,
-        me: Process,
-        state: State,
-        shown: Option<Configuration>,
-        installed: Installed,
-        decisions: Decisions,
-    ) -> Node
-        requires { IsState me shown state }
-        ensures { result ≡ record { me = me; phase = phase_of shown state; installed = installed; decisions = decisions } }
+    fn of(alloc: Global, me: Process, state: State, past: Past) -> Result<Node, AllocError>
+        requires { IsState me past.shown state }
+        ensures { IfOk result (λ node. node ≡ record { me = me; phase = phase_of past.shown state; installed = past.installed; decisions = past.decisions }) }
     {
-        Node {
+        let past = Arc::new(alloc, past)?;
+        Ok(Node {
             me,
             state,
-            shown,
-            installed,
-            decisions,
+            past,
             alloc,
-        }
+        })
     }
 
     /// The node of a founder: a member of this configuration, which has the height 0. The caller sees that the process
@@ -113,22 +117,44 @@ impl Node {
         requires { is_member configuration.now process ≡ true }
         ensures { IfOk result (λ node. node ≡ model.seed_node configuration.now process) }
     {
-        let shown = Some(configuration.try_copy(alloc)?);
+        let mut views = Views::new(alloc, 0);
+        Node::seed_in(alloc, &mut views, configuration, process)
+    }
+
+    /// The node of a founder, as [`Node::seed`] makes it, by views that nodes share.
+    pub fn seed_in(
+        alloc: Global,
+        views: &mut Views,
+        configuration: &Configuration,
+        process: Process,
+    ) -> Result<Node, AllocError>
+        requires { is_member configuration.now process ≡ true }
+        ensures { IfOk result (λ node. node ≡ model.seed_node configuration.now process) }
+    {
+        let view = views.of(configuration)?;
+        let shown = Shown::share_of(view.configuration())?;
         let mut installed = Installed::new(alloc)?;
         installed.push(configuration.stamp())?;
-        let decisions = Decisions::new(alloc)?;
-        let state = State::found(alloc, configuration, process)?;
-        Ok(Node::of(alloc, process, state, shown, installed, decisions))
+        let past = Past {
+            shown,
+            installed,
+            decisions: Decisions::new(alloc)?,
+        };
+        let state = State::found(alloc, &view, process)?;
+        Node::of(alloc, process, state, past)
     }
 
     /// The node of a process that joins by the seed at this endpoint.
     pub fn joiner(alloc: Global, process: Process, seed: Endpoint) -> Result<Node, AllocError>
         ensures { IfOk result (λ node. node ≡ model.joiner_node process seed) }
     {
-        let installed = Installed::new(alloc)?;
-        let decisions = Decisions::new(alloc)?;
+        let past = Past {
+            shown: Shown::nothing(),
+            installed: Installed::new(alloc)?,
+            decisions: Decisions::new(alloc)?,
+        };
         let state = State::Joining(Joiner::new(process, seed));
-        Ok(Node::of(alloc, process, state, None, installed, decisions))
+        Node::of(alloc, process, state, past)
     }
 
     /// The process.
@@ -142,16 +168,53 @@ impl Node {
     pub fn installed(&self) -> &[Stamp]
         ensures { result.now ≡ self.now.installed }
     {
-        self.installed.as_slice()
+        self.past.installed.as_slice()
     }
 
     /// The configuration that it shows: the present one, or the last where it was removed or has halted; none before
     /// the first.
-    #[tactic(auto, using(crate::proofs::Shown::shows))]
+    #[tactic(auto, using(crate::proofs::Showing::shows))]
     pub fn configuration(&self) -> Option<&Configuration>
         ensures { option_map (λ c. c.now) result ≡ model.configuration_of self.now }
     {
-        self.shown.as_ref()
+        self.past.shown.get()
+    }
+
+    /// The configuration that [`Node::configuration`] gives, shared with the node. It fails only where there are too
+    /// many owners.
+    #[tactic(auto, using(crate::proofs::Showing::shows))]
+    pub fn shared_configuration(&self) -> Result<Option<Arc<Configuration, Global>>, AllocError>
+        ensures { IfOk result (λ shared. option_map (λ c. arc_value c) shared ≡ model.configuration_of self.now) }
+    {
+        self.past.shown.share()
+    }
+
+    /// The rings of the configuration that it is a member in; none where it is no member.
+    pub fn rings(&self) -> Option<&Rings>
+        ensures { option_map (λ rings. rings.now) result ≡ model.member_in self.now }
+    {
+        match &self.state {
+            State::Member(member) => Some(&**member.rings()),
+            State::Joining(_) | State::Removed(_) | State::Halted => None,
+        }
+    }
+
+    /// The member that it observes on a ring, from 0; none where there is no such ring, where it observes nobody and
+    /// where it is no member. It costs a search on each ring.
+    pub fn observed(&self, ring: u8) -> Result<Option<Process>, AllocError>
+        ensures { IfOk result (λ subject. subject ≡ option_map (λ x. x.1) (observed_in (model.member_in self.now) self.now.me ring)) }
+    {
+        match self.rings() {
+            Some(rings) => subject_on(self.alloc, rings, &self.me, ring),
+            None => Ok(None),
+        }
+    }
+
+    /// The decisions of the configurations that it left.
+    fn decisions(&self) -> &Decisions
+        ensures { result.now ≡ self.now.decisions }
+    {
+        &self.past.decisions
     }
 
     /// The phase.
@@ -167,7 +230,7 @@ impl Node {
     }
 
     /// Makes the node halt. Nothing else that it shows changes.
-    #[tactic(auto, using(crate::proofs::Shown::shows))]
+    #[tactic(auto, using(crate::proofs::Showing::shows))]
     pub fn halt(&mut self)
         ensures { self.new ≡ model.halt self.old }
     {
@@ -178,15 +241,18 @@ impl Node {
     pub fn try_copy(&self) -> Result<Node, AllocError>
         ensures { IfOk result (λ node. node ≡ self.now) }
     {
-        let shown = copy_shown(self.alloc, &self.shown)?;
-        let installed = self.installed.try_copy()?;
-        let decisions = self.decisions.try_copy()?;
         let state = self.state.try_copy(self.alloc)?;
-        Ok(Node::of(self.alloc, self.me, state, shown, installed, decisions))
+        let past = Arc::try_clone(&self.past)?;
+        Ok(Node {
+            me: self.me,
+            state,
+            past,
+            alloc: self.alloc,
+        })
     }
 
     /// It joins.
-    #[tactic(auto, using(crate::proofs::Shown::halted_shows))]
+    #[tactic(auto, using(crate::proofs::Showing::halted_shows))]
     fn be_joining(&mut self, joiner: Joiner)
         requires me { joiner.process ≡ self.old.me }
         requires shown { self.old.phase ≡ model.Halted None }
@@ -196,17 +262,17 @@ impl Node {
     }
 
     /// It is this member.
-    #[tactic(auto, using(crate::proofs::Shown::halted_shows))]
-    fn be_member(&mut self, member: MemberState)
-        requires me { member.me ≡ self.old.me }
-        requires shown { self.old.phase ≡ model.Halted (Some member.config) }
-        ensures { self.new ≡ record self.old { phase = model.Member member } }
+    #[tactic(auto, using(crate::proofs::Showing::halted_shows))]
+    fn be_member(&mut self, member: Box<MemberState>)
+        requires me { member.value.me ≡ self.old.me }
+        requires shown { self.old.phase ≡ model.Halted (Some member.value.config) }
+        ensures { self.new ≡ record self.old { phase = model.Member member.value } }
     {
         self.state = State::Member(member);
     }
 
     /// It was removed.
-    #[tactic(auto, using(crate::proofs::Shown::halted_shows))]
+    #[tactic(auto, using(crate::proofs::Showing::halted_shows))]
     fn be_removed(&mut self, configuration: Configuration)
         requires { self.old.phase ≡ model.Halted (Some configuration) }
         ensures { self.new ≡ record self.old { phase = model.Removed configuration } }
@@ -214,26 +280,21 @@ impl Node {
         self.state = State::Removed(configuration);
     }
 
-    /// Enters the configuration that comes after a member's by a cut.
-    fn enter(
-        &mut self,
-        before: &MemberState,
-        next: Configuration,
-        cut: Cut,
-    ) -> Result<(), AllocError>
+    /// Enters a view from that of a member, by a cut.
+    fn enter(&mut self, before: &MemberState, view: &View, cut: Cut) -> Result<(), AllocError>
         ensures me { OnOk result (self.new.me ≡ self.old.me) }
-        ensures phase { OnOk result (self.new.phase ≡ step.phase_in next self.old.me) }
-        ensures installed { OnOk result (self.new.installed ≡ self.old.installed ++ stamp next ∷ []) }
+        ensures phase { OnOk result (self.new.phase ≡ step.phase_in view.now self.old.me) }
+        ensures installed { OnOk result (self.new.installed ≡ self.old.installed ++ stamp view.now ∷ []) }
         ensures decisions { OnOk result (self.new.decisions ≡ step.last_64 (self.old.decisions ++ (configuration_id before.now.config, cut) ∷ [])) }
         ensures unchanged { OnErr result (self.new ≡ self.old) }
     {
         let id = before.configuration().id();
-        let decisions = self.decisions.with(self.alloc, id, cut)?;
-        let state = State::enter(self.alloc, before.rings(), &next, self.me)?;
-        self.installed.push(next.stamp())?;
+        let decisions = self.past.decisions.with(self.alloc, id, cut)?;
+        let state = State::enter(self.alloc, view, self.me)?;
+        let stamp = view.configuration().stamp();
+        let shown = Shown::share_of(view.configuration())?;
+        Arc::make_mut(&mut self.past)?.add(stamp, shown, decisions)?;
         self.state = state;
-        self.shown = Some(next);
-        self.decisions = decisions;
         Ok(())
     }
 
@@ -241,44 +302,47 @@ impl Node {
     #[tactic(auto, unfolding(rapid_model::specs::NodeStep::install))]
     fn install(
         &mut self,
+        views: &mut Views,
         out: &mut Vec<Output>,
-        mut member: MemberState,
+        mut member: Box<MemberState>,
         cut: Cut,
     ) -> Result<(), AllocError>
-        requires { member.config.height < 2 ^ 64 - 1 }
-        ensures node { OnOk result (self.new ≡ (step.install self.old.me self.old.installed self.old.decisions member cut).node) }
-        ensures out { OnOk result (out.new.items ≡ out.old.items ++ model.outputs self.old.me (step.install self.old.me self.old.installed self.old.decisions member cut).effects) }
+        requires { member.value.config.height < 2 ^ 64 - 1 }
+        ensures node { OnOk result (self.new ≡ (step.install self.old.me self.old.installed self.old.decisions member.value cut).node) }
+        ensures out { OnOk result (out.new.items ≡ out.old.items ++ model.outputs self.old.me (step.install self.old.me self.old.installed self.old.decisions member.value cut).effects) }
         ensures unchanged { OnErr result (self.new ≡ self.old) }
     {
-        let next = apply_cut(self.alloc, member.configuration(), &cut)?;
-        confirm_pending(self.alloc, out, self.me, &mut member, &next)?;
-        self.enter(&member, next, cut)
+        let view = views.after(&*member, &cut)?;
+        let next = &**view.configuration();
+        confirm_pending(self.alloc, out, self.me, &mut *member, next)?;
+        self.enter(&*member, &view, cut)
     }
 
     /// What the node is after its member's work: that member, or what the decided cut makes of it.
     #[tactic(auto, unfolding(rapid_model::specs::NodeStep::settle))]
     fn settle(
         &mut self,
+        views: &mut Views,
         out: &mut Vec<Output>,
-        member: MemberState,
+        member: Box<MemberState>,
         decided: Option<Cut>,
     ) -> Result<(), NodeFault>
-        requires me { member.me ≡ self.old.me }
-        requires shown { self.old.phase ≡ model.Halted (Some member.config) }
-        ensures ok { OnOk result (Continues self.old.me (step.settle self.old.me self.old.installed self.old.decisions (record { state = member; effects = []; decided = decided })) self.new out.old.items out.new.items) }
-        ensures stop { IfErr result (Stops (step.settle self.old.me self.old.installed self.old.decisions (record { state = member; effects = []; decided = decided }))) }
+        requires me { member.value.me ≡ self.old.me }
+        requires shown { self.old.phase ≡ model.Halted (Some member.value.config) }
+        ensures ok { OnOk result (Continues self.old.me (step.settle self.old.me self.old.installed self.old.decisions (record { state = member.value; effects = []; decided = decided })) self.new out.old.items out.new.items) }
+        ensures stop { IfErr result (Stops (step.settle self.old.me self.old.installed self.old.decisions (record { state = member.value; effects = []; decided = decided }))) }
         ensures unchanged { OnErr result (self.new ≡ self.old) }
     {
         let Some(cut) = decided else {
             self.be_member(member);
             return Ok(());
         };
-        if self.installed.as_slice().len() >= MOST_VIEWS
+        if self.past.installed.as_slice().len() >= MOST_VIEWS
             || member.configuration().height() == u64::MAX
         {
             return Err(NodeFault::HistoryFull);
         }
-        self.install(out, member, cut)?;
+        self.install(views, out, member, cut)?;
         Ok(())
     }
 
@@ -286,50 +350,52 @@ impl Node {
     #[tactic(auto, using(crate::proofs::Settling::settles, crate::proofs::Settling::settles_not))]
     fn member_tick(
         &mut self,
+        views: &mut Views,
         out: &mut Vec<Output>,
-        mut member: MemberState,
+        mut member: Box<MemberState>,
     ) -> Result<(), NodeFault>
-        requires me { member.me ≡ self.old.me }
-        requires shown { self.old.phase ≡ model.Halted (Some member.config) }
-        ensures ok { OnOk result (Continues self.old.me (step.settle self.old.me self.old.installed self.old.decisions (on_tick member)) self.new out.old.items out.new.items) }
-        ensures stop { IfErr result (Stops (step.settle self.old.me self.old.installed self.old.decisions (on_tick member))) }
+        requires me { member.value.me ≡ self.old.me }
+        requires shown { self.old.phase ≡ model.Halted (Some member.value.config) }
+        ensures ok { OnOk result (Continues self.old.me (step.settle self.old.me self.old.installed self.old.decisions (on_tick member.value)) self.new out.old.items out.new.items) }
+        ensures stop { IfErr result (Stops (step.settle self.old.me self.old.installed self.old.decisions (on_tick member.value))) }
         ensures unchanged { OnErr result (self.new ≡ self.old) }
     {
         let decided = member.on_tick(out)?;
-        self.settle(out, member, decided)
+        self.settle(views, out, member, decided)
     }
 
     /// A message at a member.
     #[tactic(auto, using(crate::proofs::Settling::settles, crate::proofs::Settling::settles_not))]
     fn member_receive(
         &mut self,
+        views: &mut Views,
         out: &mut Vec<Output>,
-        mut member: MemberState,
+        mut member: Box<MemberState>,
         message: &Message,
     ) -> Result<(), NodeFault>
-        requires me { member.me ≡ self.old.me }
-        requires shown { self.old.phase ≡ model.Halted (Some member.config) }
-        ensures ok { OnOk result (Continues self.old.me (step.settle self.old.me self.old.installed self.old.decisions (receive.receive_as_member self.old.decisions member message.now.sender message.now.body)) self.new out.old.items out.new.items) }
-        ensures stop { IfErr result (Stops (step.settle self.old.me self.old.installed self.old.decisions (receive.receive_as_member self.old.decisions member message.now.sender message.now.body))) }
+        requires me { member.value.me ≡ self.old.me }
+        requires shown { self.old.phase ≡ model.Halted (Some member.value.config) }
+        ensures ok { OnOk result (Continues self.old.me (step.settle self.old.me self.old.installed self.old.decisions (receive.receive_as_member self.old.decisions member.value message.now.sender message.now.body)) self.new out.old.items out.new.items) }
+        ensures stop { IfErr result (Stops (step.settle self.old.me self.old.installed self.old.decisions (receive.receive_as_member self.old.decisions member.value message.now.sender message.now.body))) }
         ensures unchanged { OnErr result (self.new ≡ self.old) }
     {
         let from = message.sender();
-        let decided = member.receive(out, &self.decisions, &from, message.body())?;
-        self.settle(out, member, decided)
+        let decided = member.receive(out, self.decisions(), &from, message.body())?;
+        self.settle(views, out, member, decided)
     }
 
     /// An edge of a member that went down.
     #[tactic(auto, unfolding(rapid_model::specs::NodeStep::settle))]
     fn member_edge_down(
         &mut self,
-        mut member: MemberState,
+        mut member: Box<MemberState>,
         config: ConfigId,
         ring: u8,
         subject: &Process,
     ) -> Result<(), AllocError>
-        requires me { member.me ≡ self.old.me }
-        requires shown { self.old.phase ≡ model.Halted (Some member.config) }
-        ensures ok { OnOk result (Continues self.old.me (step.step_edge_down self.old (model.Member member) config ring subject.now) self.new [] []) }
+        requires me { member.value.me ≡ self.old.me }
+        requires shown { self.old.phase ≡ model.Halted (Some member.value.config) }
+        ensures ok { OnOk result (Continues self.old.me (step.step_edge_down self.old (model.Member member.value) config ring subject.now) self.new [] []) }
         ensures unchanged { OnErr result (self.new ≡ self.old) }
     {
         member.raise(Alert {
@@ -352,7 +418,7 @@ impl Node {
         ensures unchanged { OnErr result (self.new ≡ self.old) }
     {
         let question = joiner.on_tick();
-        send_joining(out, self.me, &question)?;
+        send_joining(self.alloc, out, self.me, &question)?;
         self.be_joining(joiner);
         Ok(())
     }
@@ -372,7 +438,7 @@ impl Node {
         ensures unchanged { OnErr result (self.new ≡ self.old) }
     {
         let answer = joiner.on_reply(self.alloc, process, reply)?;
-        send_joining(out, self.me, &answer)?;
+        send_joining(self.alloc, out, self.me, &answer)?;
         self.be_joining(joiner);
         Ok(())
     }
@@ -381,6 +447,7 @@ impl Node {
     #[tactic(auto, unfolding(rapid_model::specs::Receive::receive_as_joiner))]
     fn joiner_confirm(
         &mut self,
+        views: &mut Views,
         joiner: Joiner,
         configuration: &Configuration,
     ) -> Result<(), AllocError>
@@ -393,7 +460,7 @@ impl Node {
             self.be_joining(joiner);
             return Ok(());
         }
-        let node = Node::seed(self.alloc, configuration, self.me)?;
+        let node = Node::seed_in(self.alloc, views, configuration, self.me)?;
         *self = node;
         Ok(())
     }
@@ -402,6 +469,7 @@ impl Node {
     #[tactic(auto, using(crate::proofs::Settling::said_nothing), unfolding(rapid_model::specs::Receive::receive_as_joiner))]
     fn joiner_receive(
         &mut self,
+        views: &mut Views,
         out: &mut Vec<Output>,
         joiner: Joiner,
         message: &Message,
@@ -413,7 +481,7 @@ impl Node {
     {
         match message.body() {
             Body::Reply(process, reply) => self.joiner_reply(out, joiner, process, reply),
-            Body::Confirm(configuration) => self.joiner_confirm(joiner, configuration),
+            Body::Confirm(configuration) => self.joiner_confirm(views, joiner, configuration),
             Body::Batch(..)
             | Body::FastVote(..)
             | Body::Prepare(..)
@@ -438,7 +506,9 @@ impl Node {
         match message.body().caught_up_by() {
             Some(id) => {
                 let from = message.sender();
-                self.decisions.catch_up(self.alloc, out, self.me, &from, id)
+                self.past
+                    .decisions
+                    .catch_up(self.alloc, out, self.me, &from, id)
             }
             None => Ok(()),
         }
@@ -461,8 +531,13 @@ impl Node {
     }
 
     /// One step, after which what goes out stands after what stood there before.
-    #[tactic(auto, using(crate::proofs::Settling::said_nothing, crate::proofs::Shown::shows), unfolding(rapid_model::specs::NodeStep::node_step))]
-    fn step_into(&mut self, out: &mut Vec<Output>, event: &Event) -> Result<(), NodeFault>
+    #[tactic(auto, using(crate::proofs::Settling::said_nothing, crate::proofs::Showing::shows), unfolding(rapid_model::specs::NodeStep::node_step))]
+    fn step_into(
+        &mut self,
+        views: &mut Views,
+        out: &mut Vec<Output>,
+        event: &Event,
+    ) -> Result<(), NodeFault>
         ensures step { OnOk result (Continues self.old.me (step.node_step self.old (event_of event.now)) self.new out.old.items out.new.items) }
         ensures fault { IfErr result (IsFault self.old (event_of event.now) self.new) }
         ensures running { OnOk result (model.is_halted self.old ≡ false) }
@@ -471,15 +546,15 @@ impl Node {
             State::Halted => Err(NodeFault::Halted),
             State::Joining(joiner) => match event {
                 Event::Tick => Ok(self.joiner_tick(out, joiner)?),
-                Event::Receive(message) => Ok(self.joiner_receive(out, joiner, message)?),
+                Event::Receive(message) => Ok(self.joiner_receive(views, out, joiner, message)?),
                 Event::EdgeDown(..) => {
                     self.be_joining(joiner);
                     Ok(())
                 }
             },
             State::Member(member) => match event {
-                Event::Tick => self.member_tick(out, member),
-                Event::Receive(message) => self.member_receive(out, member, message),
+                Event::Tick => self.member_tick(views, out, member),
+                Event::Receive(message) => self.member_receive(views, out, member, message),
                 Event::EdgeDown(config, ring, subject) => {
                     Ok(self.member_edge_down(member, *config, *ring, subject)?)
                 }
@@ -494,7 +569,9 @@ impl Node {
         }
     }
 
-    /// One step, and what is to be sent after it, in order.
+    /// One step, and what is to be sent after it, in order. What goes to [`rapid_member::Destination::Others`] goes to
+    /// the other members of the configuration in which the node was a member *before* the step: a driver asks for
+    /// [`Node::configuration`] before it makes the step, since a step that installs leaves it.
     ///
     /// # Errors
     ///
@@ -506,21 +583,23 @@ impl Node {
         ensures fault { IfErr result (IsFault self.old (event_of event.now) self.new) }
         ensures running { OnOk result (model.is_halted self.old ≡ false) }
     {
-        let mut out = Vec::new(self.alloc);
-        self.step_into(&mut out, event)?;
-        Ok(out)
+        let mut views = Views::new(self.alloc, 0);
+        self.step_in(&mut views, event)
     }
-}
 
-/// An equal configuration, if there is one.
-fn copy_shown(
-    alloc: Global,
-    shown: &Option<Configuration>,
-) -> Result<Option<Configuration>, AllocError>
-    ensures { IfOk result (λ copy. copy ≡ shown.now) }
-{
-    match shown {
-        Some(configuration) => Ok(Some(configuration.try_copy(alloc)?)),
-        None => Ok(None),
+    /// One step, as [`Node::step`] makes it, by views that nodes share: what the node enters is looked up there, and kept
+    /// there where it was not.
+    ///
+    /// # Errors
+    ///
+    /// Those of [`Node::step`].
+    pub fn step_in(&mut self, views: &mut Views, event: &Event) -> Result<Outputs, NodeFault>
+        ensures step { IfOk result (λ sent. HasOutcome self.old.me (step.node_step self.old (event_of event.now)) self.new sent.items) }
+        ensures fault { IfErr result (IsFault self.old (event_of event.now) self.new) }
+        ensures running { OnOk result (model.is_halted self.old ≡ false) }
+    {
+        let mut out = Vec::new(self.alloc);
+        self.step_into(views, &mut out, event)?;
+        Ok(out)
     }
 }

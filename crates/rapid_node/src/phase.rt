@@ -1,16 +1,17 @@
 // The phases of a node.
 
-ghost use Rattle.std.specs.Prelude.{◌≡◌, true, IfOk, Some};
-ghost use Rattle.rapid_model.specs.Configuration.{is_member};
+ghost use Rattle.std.specs.Prelude.{◌≡◌, true, IfOk, Option, Some};
+ghost use Rattle.rapid_model.specs.Process.{Process as ModelProcess};
+ghost use Rattle.rapid_model.specs.Configuration.{Configuration as ModelConfiguration, is_member};
 ghost use Rattle.rapid_model.specs.Node.{Member, fresh_member};
 ghost use Rattle.rapid_model.specs.NodeStep.{phase_in};
 ghost use Rattle.rapid_node.specs.Phases.{phase_of, IsState};
 
+use crate::views::View;
 use rapid_config::Configuration;
 use rapid_endpoint::Process;
 use rapid_join::Joiner;
 use rapid_member::MemberState;
-use rapid_rings::Rings;
 use std::alloc::{AllocError, Global};
 use std::sync::Arc;
 
@@ -33,7 +34,7 @@ pub(crate) enum State {
     /// It asks to be a member.
     Joining(Joiner),
     /// It is a member.
-    Member(MemberState),
+    Member(Box<MemberState>),
     /// It was removed; the configuration is the one without it.
     Removed(Configuration),
     /// It has halted.
@@ -41,46 +42,38 @@ pub(crate) enum State {
 }
 
 impl State {
-    /// The state of a founder, a member of this configuration.
-    pub(crate) fn found(
-        alloc: Global,
-        configuration: &Configuration,
-        me: Process,
-    ) -> Result<State, AllocError>
-        requires { is_member configuration.now me ≡ true }
-        ensures phase { IfOk result (λ s. phase_of (Some configuration.now) s ≡ Member (fresh_member configuration.now me)) }
-        ensures state { IfOk result (IsState me (Some configuration.now)) }
+    /// The state of a founder, a member of the configuration of this view.
+    pub(crate) fn found(alloc: Global, view: &View, me: Process) -> Result<State, AllocError>
+        requires { is_member view.now me ≡ true }
+        ensures phase { IfOk result (λ s. phase_of (Some view.now) s ≡ Member (fresh_member view.now me)) }
+        ensures state { IfOk result (IsState me (Some view.now)) }
     {
-        let rings = Arc::new(alloc, Rings::new(alloc, configuration)?)?;
-        let member = MemberState::new(alloc, configuration, rings, me)?;
-        Ok(State::Member(member))
+        let rings = Arc::try_clone(view.rings())?;
+        let member = MemberState::new(alloc, &**view.configuration(), rings, me)?;
+        let boxed = Box::new(alloc, member)?;
+        Ok(State::Member(boxed))
     }
 
-    /// The state of a process in a configuration that comes after that of these rings.
-    pub(crate) fn enter(
-        alloc: Global,
-        before: &Rings,
-        next: &Configuration,
-        me: Process,
-    ) -> Result<State, AllocError>
-        ensures phase { IfOk result (λ s. phase_of (Some next.now) s ≡ phase_in next.now me) }
-        ensures state { IfOk result (IsState me (Some next.now)) }
+    /// The state of a process that enters a view.
+    pub(crate) fn enter(alloc: Global, view: &View, me: Process) -> Result<State, AllocError>
+        ensures phase { IfOk result (λ s. phase_of (Some view.now) s ≡ phase_in view.now me) }
+        ensures state { IfOk result (IsState me (Some view.now)) }
     {
-        if !next.is_member(&me) {
-            return Ok(State::Removed(next.try_copy(alloc)?));
+        if view.configuration().is_member(&me) {
+            State::found(alloc, view, me)
+        } else {
+            Ok(State::Removed(view.configuration().try_copy(alloc)?))
         }
-        let rings = Arc::new(alloc, before.next(alloc, next)?)?;
-        let member = MemberState::new(alloc, next, rings, me)?;
-        Ok(State::Member(member))
     }
 
-    /// An equal state.
+    /// A state of the same process in an equal phase.
     pub(crate) fn try_copy(&self, alloc: Global) -> Result<State, AllocError>
-        ensures { IfOk result (λ s. s ≡ self.now) }
+        ensures phase { (shown : Option ModelConfiguration) → IfOk result (λ s. phase_of shown s ≡ phase_of shown self.now) }
+        ensures state { (me : ModelProcess) → (shown : Option ModelConfiguration) → IsState me shown self.now → IfOk result (IsState me shown) }
     {
         match self {
-            State::Joining(joiner) => Ok(State::Joining(joiner.copy())),
-            State::Member(member) => Ok(State::Member(member.try_copy()?)),
+            State::Joining(joiner) => Ok(State::Joining(joiner.try_copy()?)),
+            State::Member(member) => Ok(State::Member(Box::new(alloc, member.try_copy()?)?)),
             State::Removed(configuration) => Ok(State::Removed(configuration.try_copy(alloc)?)),
             State::Halted => Ok(State::Halted),
         }

@@ -30,3 +30,5 @@ mod probes;
 mod recovery;
 #[cfg(test)]
 mod said;
+#[cfg(test)]
+mod shared;

@@ -15,20 +15,20 @@ use super::MemberState;
 use crate::Body;
 use crate::decisions::Decisions;
 use crate::joining::say_answer;
-use crate::message::copy_vote;
 use crate::output::{Output, answer};
 use rapid_config::{ConfigId, Cut};
 use rapid_endpoint::Process;
 use rapid_join::HostAnswer;
-use rapid_paxos::{Ballot, Promise};
+use rapid_paxos::{Ballot, Promise, copy_vote};
 use std::alloc::AllocError;
+use std::sync::Arc;
 
 impl MemberState {
     /// Whether a ballot's position is the sender's.
     fn is_from_coordinator(&self, from: &Process, ballot: Ballot) -> bool
         ensures { result ≡ option_eq (◌==◌) (position_of self.now.config from.now) (Some ballot.position) }
     {
-        match self.configuration.position(from) {
+        match self.configuration().position(from) {
             Some(place) => place == ballot.position(),
             None => false,
         }
@@ -46,11 +46,11 @@ impl MemberState {
         ensures state { OnOk result (self.new ≡ (receive.take self.old from.now (body_of body.now)).state) }
         ensures out { OnOk result (out.new.items ≡ out.old.items ++ outputs self.old.me (receive.take self.old from.now (body_of body.now)).effects) }
         ensures decided { IfOk result (λ d. d ≡ (receive.take self.old from.now (body_of body.now)).decided) }
-        ensures same { OnOk result (IsSameMember self.old self.new) }
+        ensures same { IsSameMember self.old self.new }
     {
         match body {
             Body::Batch(_, batch) => self.take_batch(out, batch.alerts()),
-            Body::FastVote(_, cut) => match self.configuration.position(from) {
+            Body::FastVote(_, cut) => match self.configuration().position(from) {
                 Some(place) => self.take_vote(place, cut),
                 None => Ok(None),
             },
@@ -61,7 +61,7 @@ impl MemberState {
                     Ok(None)
                 }
             }
-            Body::Promise(_, ballot, vote) => match self.configuration.position(from) {
+            Body::Promise(_, ballot, vote) => match self.configuration().position(from) {
                 Some(place) => {
                     let vote = copy_vote(self.alloc, vote)?;
                     let promise = Promise {
@@ -79,7 +79,7 @@ impl MemberState {
                     Ok(None)
                 }
             }
-            Body::Accepted(_, ballot, cut) => match self.configuration.position(from) {
+            Body::Accepted(_, ballot, cut) => match self.configuration().position(from) {
                 Some(place) => self.take_accepted(place, *ballot, cut),
                 None => Ok(None),
             },
@@ -106,14 +106,14 @@ impl MemberState {
         ensures state { OnOk result (self.new ≡ (receive.take_or_catch_up decisions.now self.old from.now (body_of body.now)).state) }
         ensures out { OnOk result (out.new.items ≡ out.old.items ++ outputs self.old.me (receive.take_or_catch_up decisions.now self.old from.now (body_of body.now)).effects) }
         ensures decided { IfOk result (λ d. d ≡ (receive.take_or_catch_up decisions.now self.old from.now (body_of body.now)).decided) }
-        ensures same { OnOk result (IsSameMember self.old self.new) }
+        ensures same { IsSameMember self.old self.new }
     {
         match body.caught_up_by() {
             Some(id) => {
-                if id == self.configuration.id() {
+                if id == self.configuration().id() {
                     self.take(out, from, body)
                 } else {
-                    decisions.catch_up(self.alloc, out, self.me, from, id)?;
+                    decisions.catch_up(self.alloc, out, self.me(), from, id)?;
                     Ok(None)
                 }
             }
@@ -132,9 +132,9 @@ impl MemberState {
         requires { AnswersObservers answered.now }
         ensures state { OnOk result (self.new ≡ receive.raise_join self.old joiner.now ring (host_answer_of answered.now)) }
         ensures out { OnOk result (out.new.items ≡ out.old.items ++ outputs self.old.me (receive.answer_to joiner.now (host_answer_of answered.now))) }
-        ensures same { OnOk result (IsSameMember self.old self.new) }
+        ensures same { IsSameMember self.old self.new }
     {
-        say_answer(self.alloc, out, self.me, joiner, answered)?;
+        say_answer(self.alloc, out, self.me(), joiner, answered)?;
         match answered {
             HostAnswer::Nothing => Ok(()),
             HostAnswer::Reply(_) => Ok(()),
@@ -144,13 +144,13 @@ impl MemberState {
     }
 
     /// A joiner's first question.
-    #[tactic(auto, using(crate::proofs::Hosts::pre_join_keeps, crate::proofs::Hosts::member_at))]
+    #[tactic(auto, using(crate::proofs::Hosts::pre_join_keeps))]
     fn pre_join(&mut self, out: &mut Vec<Output>, joiner: &Process) -> Result<(), AllocError>
         ensures state { OnOk result (self.new ≡ (receive.host_work self.old joiner.now 0 (host.pre_join self.old.config self.old.pending joiner.now)).state) }
         ensures out { OnOk result (out.new.items ≡ out.old.items ++ outputs self.old.me (receive.host_work self.old joiner.now 0 (host.pre_join self.old.config self.old.pending joiner.now)).effects) }
-        ensures same { OnOk result (IsSameMember self.old self.new) }
+        ensures same { IsSameMember self.old self.new }
     {
-        let answered = self.host.pre_join(joiner)?;
+        let answered = self.first_answer(joiner)?;
         self.answer_joiner(out, joiner, 0, &answered)
     }
 
@@ -165,14 +165,17 @@ impl MemberState {
     ) -> Result<(), AllocError>
         ensures state { OnOk result (self.new ≡ (receive.host_work self.old joiner.now ring (host.join_request self.old.config self.old.me self.old.pending joiner.now id ring)).state) }
         ensures out { OnOk result (out.new.items ≡ out.old.items ++ outputs self.old.me (receive.host_work self.old joiner.now ring (host.join_request self.old.config self.old.me self.old.pending joiner.now id ring)).effects) }
-        ensures same { OnOk result (IsSameMember self.old self.new) }
+        ensures same { IsSameMember self.old self.new }
     {
-        let answered = self.host.join_request(joiner, id, ring)?;
+        let rest = Arc::make_mut(&mut self.rest)?;
+        let waiting = Arc::make_mut(&mut rest.waiting)?;
+        let answered = waiting.host.join_request(joiner, id, ring)?;
         self.answer_joiner(out, joiner, ring, &answered)
     }
 
     /// A message at a member from a process, where these are the decisions of its node, and the cut that was decided, if
-    /// any. On an error the member is of no further use.
+    /// any. On an error the member is of no further use, but for who it is and where, and nothing that was added to the
+    /// outputs is to be sent.
     #[tactic(auto, unfolding(rapid_model::specs::Receive::receive_as_member))]
     pub fn receive(
         &mut self,
@@ -185,7 +188,7 @@ impl MemberState {
         ensures state { OnOk result (self.new ≡ (receive.receive_as_member decisions.now self.old from.now (body_of body.now)).state) }
         ensures out { OnOk result (out.new.items ≡ out.old.items ++ outputs self.old.me (receive.receive_as_member decisions.now self.old from.now (body_of body.now)).effects) }
         ensures decided { IfOk result (λ d. d ≡ (receive.receive_as_member decisions.now self.old from.now (body_of body.now)).decided) }
-        ensures same { OnOk result (IsSameMember self.old self.new) }
+        ensures same { IsSameMember self.old self.new }
     {
         match body {
             Body::PreJoin => {
@@ -197,15 +200,15 @@ impl MemberState {
                 Ok(None)
             }
             Body::Decision(id, _) => {
-                if *id == self.configuration.id() {
+                if *id == self.configuration().id() {
                     self.take(out, from, body)
                 } else {
                     Ok(None)
                 }
             }
             Body::Probe(_) => {
-                let own = self.configuration.id();
-                answer(out, self.me, from, Body::ProbeAck(own))?;
+                let own = self.configuration().id();
+                answer(out, self.me(), from, Body::ProbeAck(own))?;
                 self.take_or_catch_up(out, decisions, from, body)
             }
             Body::Batch(..)

@@ -21,6 +21,7 @@ use rapid_config::Cut;
 use rapid_endpoint::Process;
 use rapid_rings::ObserverTable;
 use std::alloc::AllocError;
+use std::sync::Arc;
 
 /// At which age an unstable process is echoed.
 const ECHO: u8 = 40;
@@ -33,17 +34,17 @@ impl MemberState {
     pub(super) fn alert_on(&self, process: &Process, ring: u8) -> Alert
         ensures { alert_of result ≡ member.alert_on self.now process.now ring }
     {
-        let kind = if self.rings.is_member(process) {
+        let kind = if self.context.rings.is_member(process) {
             Kind::Remove
         } else {
             Kind::Join
         };
         Alert {
-            observer: self.me,
+            observer: self.me(),
             subject: *process,
             ring,
             kind,
-            config: self.configuration.id(),
+            config: self.configuration().id(),
         }
     }
 
@@ -51,7 +52,7 @@ impl MemberState {
     fn observes(&self, ring: u8, process: &Process) -> bool
         ensures { result ≡ observes (observers_of self.now.config) self.now.me ring process.now }
     {
-        self.rings.observer(ring, process) == Some(self.me)
+        self.context.rings.observer(ring, process) == Some(self.me())
     }
 
     /// One tick more, up to the greatest number.
@@ -65,7 +66,7 @@ impl MemberState {
     fn push_echoes(&self, alerts: &mut Vec<Alert>, process: &Process) -> Result<(), AllocError>
         ensures { OnOk result (map alert_of alerts.new.items ≡ map alert_of alerts.old.items ++ tick.echoes self.now process.now) }
     {
-        for ring in 0..self.rings.params().k() {
+        for ring in 0..self.context.rings.params().k() {
             self.push_echo(alerts, process, ring)?;
         }
         Ok(())
@@ -101,7 +102,7 @@ impl MemberState {
     fn push_due(&self, alerts: &mut Vec<Alert>, process: &Process) -> Result<(), AllocError>
         ensures { OnOk result (map alert_of alerts.new.items ≡ map alert_of alerts.old.items ++ flat_map (tick.echoes self.now) (filter (λ p. tick.age_of self.now.ages p == 40) (process.now ∷ []))) }
     {
-        if self.ages.of(process) == ECHO {
+        if self.rest.waiting.ages.of(process) == ECHO {
             self.push_echoes(alerts, process)?;
         }
         Ok(())
@@ -110,7 +111,7 @@ impl MemberState {
     /// Raises these alerts.
     fn raise_all(&mut self, alerts: &[Alert]) -> Result<(), AllocError>
         ensures state { OnOk result (self.new ≡ tick.raise_all self.old (map alert_of alerts.now)) }
-        ensures same { OnOk result (IsSameMember self.old self.new) }
+        ensures same { IsSameMember self.old self.new }
     {
         for alert in alerts {
             self.raise(*alert)?;
@@ -121,16 +122,18 @@ impl MemberState {
     /// These processes, which are unstable, grow older.
     fn grow(&mut self, unstable: &[Process]) -> Result<(), AllocError>
         ensures state { OnOk result (self.new ≡ record self.old { ages = tick.next_ages self.old.ages unstable.now }) }
-        ensures same { OnOk result (IsSameMember self.old self.new) }
+        ensures same { IsSameMember self.old self.new }
     {
-        self.ages = self.ages.next(unstable)?;
-        Ok(())
+        if unstable.is_empty() && self.is_calm() {
+            return Ok(());
+        }
+        self.next_ages(unstable)
     }
 
     /// Those of these processes that have the age are echoed.
     fn echo(&mut self, unstable: &[Process]) -> Result<(), AllocError>
         ensures state { OnOk result (self.new ≡ tick.echo self.old unstable.now) }
-        ensures same { OnOk result (IsSameMember self.old self.new) }
+        ensures same { IsSameMember self.old self.new }
     {
         let echoes = self.echoes(unstable)?;
         self.raise_all(echoes.as_slice())
@@ -140,9 +143,9 @@ impl MemberState {
     #[tactic(auto, unfolding(rapid_model::specs::Tick::aged, rapid_model::specs::Tick::unstable_now))]
     fn age(&mut self) -> Result<(), AllocError>
         ensures state { OnOk result (self.new ≡ tick.aged self.old) }
-        ensures same { OnOk result (IsSameMember self.old self.new) }
+        ensures same { IsSameMember self.old self.new }
     {
-        let unstable = self.detector.unstable()?;
+        let unstable = self.unstable()?;
         self.grow(unstable.as_slice())?;
         self.echo(unstable.as_slice())
     }
@@ -153,20 +156,25 @@ impl MemberState {
         ensures state { OnOk result (self.new ≡ (tick.repeats self.old).state) }
         ensures out { OnOk result (out.new.items ≡ out.old.items ++ outputs self.old.me (tick.repeats self.old).effects) }
         ensures decided { (tick.repeats self.old).decided ≡ None }
-        ensures same { OnOk result (IsSameMember self.old self.new) }
+        ensures same { IsSameMember self.old self.new }
     {
         if self.tick % AGAIN != 0 {
             return Ok(());
         }
-        self.outbox.resend();
+        let rest = Arc::make_mut(&mut self.rest)?;
+        Arc::make_mut(&mut rest.raised)?.resend();
         if !self.voted {
             return Ok(());
         }
-        let Some(cut) = &self.proposal else {
+        let Some(cut) = &self.rest.ballots.proposal else {
             return Ok(());
         };
-        let id = self.configuration.id();
-        say(out, self.me, Body::FastVote(id, cut.try_copy(self.alloc)?))
+        let id = self.configuration().id();
+        say(
+            out,
+            self.me(),
+            Body::FastVote(id, cut.try_copy(self.alloc)?),
+        )
     }
 
     /// The batch of alerts that are not flushed, if there are any, all of which are the member's for its configuration.
@@ -174,9 +182,13 @@ impl MemberState {
         ensures state { OnOk result (self.new ≡ record self.old { outbox = outbox.flush self.old.outbox }) }
         ensures batch { IfOk result (λ b. b ≡ batch_of (outbox.unflushed self.old.outbox)) }
         ensures own { IfOk result (λ b. IfSome b (λ xs. All (IsFrom self.old.me (configuration_id self.old.config)) xs)) }
+        ensures same { IsSameMember self.old self.new }
     {
-        let _ = self.outbox.raised();
-        self.outbox.flush()
+        if !self.rest.raised.waits() {
+            return Ok(None);
+        }
+        let rest = Arc::make_mut(&mut self.rest)?;
+        Arc::make_mut(&mut rest.raised)?.flush()
     }
 
     /// The alerts that are not flushed, if there are any, go out as a batch, which is taken.
@@ -185,7 +197,7 @@ impl MemberState {
         ensures state { OnOk result (self.new ≡ (tick.sends_batch self.old).state) }
         ensures out { OnOk result (out.new.items ≡ out.old.items ++ outputs self.old.me (tick.sends_batch self.old).effects) }
         ensures decided { IfOk result (λ d. d ≡ (tick.sends_batch self.old).decided) }
-        ensures same { OnOk result (IsSameMember self.old self.new) }
+        ensures same { IsSameMember self.old self.new }
     {
         let Some(batch) = self.flush()? else {
             return Ok(None);
@@ -203,11 +215,11 @@ impl MemberState {
         ensures state { OnOk result (self.new ≡ (says_batch self.old batch.now).state) }
         ensures out { OnOk result (out.new.items ≡ out.old.items ++ outputs self.old.me (says_batch self.old batch.now).effects) }
         ensures decided { IfOk result (λ d. d ≡ (says_batch self.old batch.now).decided) }
-        ensures same { OnOk result (IsSameMember self.old self.new) }
+        ensures same { IsSameMember self.old self.new }
     {
-        let id = self.configuration.id();
+        let id = self.configuration().id();
         let said = batch.try_copy(self.alloc)?;
-        say(out, self.me, Body::Batch(id, said))?;
+        say(out, self.me(), Body::Batch(id, said))?;
         self.take_batch(out, batch.alerts())
     }
 
@@ -215,7 +227,7 @@ impl MemberState {
     fn is_due(&self) -> bool
         ensures { result ≡ tick.is_due self.now self.now.first_vote }
     {
-        let patience = 20 + 4 * self.place as u64;
+        let patience = 20 + 4 * self.place() as u64;
         match self.first_vote {
             Some(first) => first < self.tick && (self.tick - first) % patience == 0,
             None => false,
@@ -223,23 +235,22 @@ impl MemberState {
     }
 
     /// Begins a ballot, where one is due: the Prepare goes out and is taken.
-    #[tactic(auto, using(crate::proofs::Ballots::next_is_classic), unfolding(rapid_model::specs::Tick::recovers))]
+    #[tactic(auto, unfolding(rapid_model::specs::Tick::recovers))]
     fn recover(&mut self, out: &mut Vec<Output>) -> Result<Option<Cut>, AllocError>
         ensures state { OnOk result (self.new ≡ (tick.recovers self.old).state) }
         ensures out { OnOk result (out.new.items ≡ out.old.items ++ outputs self.old.me (tick.recovers self.old).effects) }
         ensures decided { IfOk result (λ d. d ≡ (tick.recovers self.old).decided) }
-        ensures same { OnOk result (IsSameMember self.old self.new) }
+        ensures same { IsSameMember self.old self.new }
     {
         if !self.is_due() {
             return Ok(None);
         }
-        let Ok(ballot) = self.coordinator.begin(self.acceptor.rnd()) else {
+        let Some(ballot) = self.begin()? else {
             return Ok(None);
         };
-        let _ = ballot.round();
-        let id = self.configuration.id();
-        say(out, self.me, Body::Prepare(id, ballot))?;
-        let me = self.me;
+        let id = self.configuration().id();
+        say(out, self.me(), Body::Prepare(id, ballot))?;
+        let me = self.me();
         self.take_prepare(out, &me, ballot)
     }
 
@@ -249,7 +260,7 @@ impl MemberState {
         ensures state { OnOk result (self.new ≡ (tick.quiet_tick self.old).state) }
         ensures out { OnOk result (out.new.items ≡ out.old.items ++ outputs self.old.me (tick.quiet_tick self.old).effects) }
         ensures decided { OnOk result ((tick.quiet_tick self.old).decided ≡ None) }
-        ensures same { OnOk result (IsSameMember self.old self.new) }
+        ensures same { IsSameMember self.old self.new }
     {
         self.move_clock();
         self.age()?;
@@ -262,20 +273,21 @@ impl MemberState {
         ensures state { OnOk result (self.new ≡ (tick.batch_tick self.old).state) }
         ensures out { OnOk result (out.new.items ≡ out.old.items ++ outputs self.old.me (tick.batch_tick self.old).effects) }
         ensures decided { IfOk result (λ d. d ≡ (tick.batch_tick self.old).decided) }
-        ensures same { OnOk result (IsSameMember self.old self.new) }
+        ensures same { IsSameMember self.old self.new }
     {
         self.quiet_tick(out)?;
         self.send_batch(out)
     }
 
     /// A tick: votes and alerts go out again where they are due, then the batch, and last a ballot is begun where one is
-    /// due. The result is the cut that was decided, if any. On an error the member is of no further use.
+    /// due. The result is the cut that was decided, if any. On an error the member is of no further use, but for who it is
+    /// and where, and nothing that was added to the outputs is to be sent.
     #[tactic(auto, unfolding(rapid_model::specs::Tick::on_tick))]
     pub fn on_tick(&mut self, out: &mut Vec<Output>) -> Result<Option<Cut>, AllocError>
         ensures state { OnOk result (self.new ≡ (tick.on_tick self.old).state) }
         ensures out { OnOk result (out.new.items ≡ out.old.items ++ outputs self.old.me (tick.on_tick self.old).effects) }
         ensures decided { IfOk result (λ d. d ≡ (tick.on_tick self.old).decided) }
-        ensures same { OnOk result (IsSameMember self.old self.new) }
+        ensures same { IsSameMember self.old self.new }
     {
         match self.batch_tick(out)? {
             Some(cut) => Ok(Some(cut)),

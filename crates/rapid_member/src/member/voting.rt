@@ -15,8 +15,9 @@ use rapid_alerts::{Alert, RaiseError};
 use rapid_config::Cut;
 use rapid_endpoint::Process;
 use rapid_fast::HearError;
-use rapid_paxos::{AcceptorError, Ballot, Promise};
+use rapid_paxos::{AcceptError, Ballot, Promise};
 use std::alloc::AllocError;
+use std::sync::Arc;
 
 impl MemberState {
     /// Raises an alert, which goes out with the batch of the next tick. A refused one is ignored. Want of memory leaves
@@ -25,9 +26,11 @@ impl MemberState {
     pub fn raise(&mut self, alert: Alert) -> Result<(), AllocError>
         ensures state { OnOk result (self.new ≡ member.raise_alert self.old (alert_of alert)) }
         ensures unchanged { OnErr result (self.new ≡ self.old) }
-        ensures same { OnOk result (IsSameMember self.old self.new) }
+        ensures same { IsSameMember self.old self.new }
     {
-        match self.outbox.raise(alert) {
+        let rest = Arc::make_mut(&mut self.rest)?;
+        let raised = Arc::make_mut(&mut rest.raised)?;
+        match raised.raise(alert) {
             Ok(_) => Ok(()),
             Err(RaiseError::OutOfMemory) => Err(AllocError),
             Err(RaiseError::WrongObserver) => Ok(()),
@@ -51,10 +54,11 @@ impl MemberState {
         requires { place < length self.old.config.members }
         ensures state { OnOk result (self.new ≡ (member.take_vote self.old place cut.now).state) }
         ensures decided { IfOk result (λ d. d ≡ (member.take_vote self.old place cut.now).decided) }
-        ensures same { OnOk result (IsSameMember self.old self.new) }
+        ensures same { IsSameMember self.old self.new }
     {
         self.see_vote();
-        match self.fast.hear(place, cut) {
+        let votes = Arc::make_mut(&mut self.votes)?;
+        match votes.round.hear(place, cut) {
             Ok(decided) => Ok(decided),
             Err(HearError::OutOfMemory) => Err(AllocError),
             Err(HearError::NotMember) => unreachable!(),
@@ -71,9 +75,11 @@ impl MemberState {
         requires { place < length self.old.config.members }
         ensures state { OnOk result (self.new ≡ (member.take_accepted self.old place ballot cut.now).state) }
         ensures decided { IfOk result (λ d. d ≡ (member.take_accepted self.old place ballot cut.now).decided) }
-        ensures same { OnOk result (IsSameMember self.old self.new) }
+        ensures same { IsSameMember self.old self.new }
     {
-        self.learner.hear(place, ballot, cut)
+        let rest = Arc::make_mut(&mut self.rest)?;
+        let ballots = Arc::make_mut(&mut rest.ballots)?;
+        ballots.learner.hear(place, ballot, cut)
     }
 
     /// Takes an Accept: where it is accepted, the notice goes out and is taken.
@@ -88,21 +94,23 @@ impl MemberState {
         ensures state { OnOk result (self.new ≡ (member.take_accept self.old ballot cut.now).state) }
         ensures out { OnOk result (out.new.items ≡ out.old.items ++ outputs self.old.me (member.take_accept self.old ballot cut.now).effects) }
         ensures decided { IfOk result (λ d. d ≡ (member.take_accept self.old ballot cut.now).decided) }
-        ensures same { OnOk result (IsSameMember self.old self.new) }
+        ensures same { IsSameMember self.old self.new }
     {
-        match self.acceptor.accept(ballot, cut) {
+        let rest = Arc::make_mut(&mut self.rest)?;
+        let ballots = Arc::make_mut(&mut rest.ballots)?;
+        match ballots.acceptor.accept(ballot, cut) {
             Ok(()) => {}
-            Err(AcceptorError::OutOfMemory) => return Err(AllocError),
-            Err(AcceptorError::Promised(_)) => return Ok(None),
-            Err(AcceptorError::AlreadyVoted) => return Ok(None),
+            Err(AcceptError::OutOfMemory) => return Err(AllocError),
+            Err(AcceptError::Promised(_)) => return Ok(None),
+            Err(AcceptError::AlreadyVoted) => return Ok(None),
         }
-        let id = self.configuration.id();
+        let id = self.configuration().id();
         say(
             out,
-            self.me,
+            self.me(),
             Body::Accepted(id, ballot, cut.try_copy(self.alloc)?),
         )?;
-        let place = self.place;
+        let place = self.place();
         self.take_accepted(place, ballot, cut)
     }
 
@@ -118,12 +126,12 @@ impl MemberState {
         ensures state { OnOk result (self.new ≡ (member.send_accept self.old ballot (Some cut.now)).state) }
         ensures out { OnOk result (out.new.items ≡ out.old.items ++ outputs self.old.me (member.send_accept self.old ballot (Some cut.now)).effects) }
         ensures decided { IfOk result (λ d. d ≡ (member.send_accept self.old ballot (Some cut.now)).decided) }
-        ensures same { OnOk result (IsSameMember self.old self.new) }
+        ensures same { IsSameMember self.old self.new }
     {
-        let id = self.configuration.id();
+        let id = self.configuration().id();
         say(
             out,
-            self.me,
+            self.me(),
             Body::Accept(id, ballot, cut.try_copy(self.alloc)?),
         )?;
         self.take_accept(out, ballot, cut)
@@ -142,12 +150,9 @@ impl MemberState {
         ensures state { OnOk result (self.new ≡ (member.take_promise self.old place promise.now.ballot (last_of promise.now.vote)).state) }
         ensures out { OnOk result (out.new.items ≡ out.old.items ++ outputs self.old.me (member.take_promise self.old place promise.now.ballot (last_of promise.now.vote)).effects) }
         ensures decided { IfOk result (λ d. d ≡ (member.take_promise self.old place promise.now.ballot (last_of promise.now.vote)).decided) }
-        ensures same { OnOk result (IsSameMember self.old self.new) }
+        ensures same { IsSameMember self.old self.new }
     {
-        let accept = self
-            .coordinator
-            .hear_promise(place, promise, self.proposal.as_ref())?;
-        match accept {
+        match self.hear_promise(place, promise)? {
             Some(accept) => self.send_accept(out, promise.ballot, &accept.cut),
             None => Ok(None),
         }
@@ -165,22 +170,19 @@ impl MemberState {
         ensures state { OnOk result (self.new ≡ (member.take_prepare self.old from.now ballot).state) }
         ensures out { OnOk result (out.new.items ≡ out.old.items ++ outputs self.old.me (member.take_prepare self.old from.now ballot).effects) }
         ensures decided { IfOk result (λ d. d ≡ (member.take_prepare self.old from.now ballot).decided) }
-        ensures same { OnOk result (IsSameMember self.old self.new) }
+        ensures same { IsSameMember self.old self.new }
     {
-        let promise = match self.acceptor.promise(ballot) {
-            Ok(promise) => promise,
-            Err(AcceptorError::OutOfMemory) => return Err(AllocError),
-            Err(AcceptorError::Promised(_)) => return Ok(None),
-            Err(AcceptorError::AlreadyVoted) => unreachable!(),
+        let Some(promise) = self.promise_at(ballot)? else {
+            return Ok(None);
         };
-        if *from == self.me {
-            let place = self.place;
+        if *from == self.me() {
+            let place = self.place();
             return self.take_promise(out, place, &promise);
         }
-        let id = self.configuration.id();
+        let id = self.configuration().id();
         answer(
             out,
-            self.me,
+            self.me(),
             from,
             Body::Promise(id, promise.ballot, promise.vote),
         )?;
@@ -193,19 +195,25 @@ impl MemberState {
         ensures state { OnOk result (self.new ≡ (member.cast_vote self.old cut.now).state) }
         ensures out { OnOk result (out.new.items ≡ out.old.items ++ outputs self.old.me (member.cast_vote self.old cut.now).effects) }
         ensures decided { IfOk result (λ d. d ≡ (member.cast_vote self.old cut.now).decided) }
-        ensures same { OnOk result (IsSameMember self.old self.new) }
+        ensures same { IsSameMember self.old self.new }
     {
-        match self.acceptor.fast_vote(cut) {
+        let rest = Arc::make_mut(&mut self.rest)?;
+        let ballots = Arc::make_mut(&mut rest.ballots)?;
+        match ballots.acceptor.fast_vote(cut) {
             Ok(()) => {}
-            Err(AcceptorError::OutOfMemory) => return Err(AllocError),
-            Err(AcceptorError::Promised(_)) => return Ok(None),
-            Err(AcceptorError::AlreadyVoted) => return Ok(None),
+            Err(AcceptError::OutOfMemory) => return Err(AllocError),
+            Err(AcceptError::Promised(_)) => return Ok(None),
+            Err(AcceptError::AlreadyVoted) => return Ok(None),
         }
         self.voted = true;
         self.see_vote();
-        let id = self.configuration.id();
-        say(out, self.me, Body::FastVote(id, cut.try_copy(self.alloc)?))?;
-        let place = self.place;
+        let id = self.configuration().id();
+        say(
+            out,
+            self.me(),
+            Body::FastVote(id, cut.try_copy(self.alloc)?),
+        )?;
+        let place = self.place();
         self.take_vote(place, cut)
     }
 
@@ -215,9 +223,9 @@ impl MemberState {
         ensures state { OnOk result (self.new ≡ (member.propose self.old (Some cut.now)).state) }
         ensures out { OnOk result (out.new.items ≡ out.old.items ++ outputs self.old.me (member.propose self.old (Some cut.now)).effects) }
         ensures decided { IfOk result (λ d. d ≡ (member.propose self.old (Some cut.now)).decided) }
-        ensures same { OnOk result (IsSameMember self.old self.new) }
+        ensures same { IsSameMember self.old self.new }
     {
-        self.proposal = Some(cut.try_copy(self.alloc)?);
+        self.keep_proposal(cut)?;
         self.cast_vote(out, cut)
     }
 
@@ -231,9 +239,9 @@ impl MemberState {
         ensures state { OnOk result (self.new ≡ (member.take_batch self.old (map alert_of alerts.now)).state) }
         ensures out { OnOk result (out.new.items ≡ out.old.items ++ outputs self.old.me (member.take_batch self.old (map alert_of alerts.now)).effects) }
         ensures decided { IfOk result (λ d. d ≡ (member.take_batch self.old (map alert_of alerts.now)).decided) }
-        ensures same { OnOk result (IsSameMember self.old self.new) }
+        ensures same { IsSameMember self.old self.new }
     {
-        match self.detector.batch(alerts)? {
+        match self.detect(alerts)? {
             Some(cut) => self.propose(out, &cut),
             None => Ok(None),
         }

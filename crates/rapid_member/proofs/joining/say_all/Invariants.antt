@@ -6,5 +6,5 @@ use Rattle.rapid_member.proofs.joining.say_all.Given as goal
 
 abbrev pub invariant-loop-joiner : goal.invariant-loop-joiner
 invariant-loop-joiner l =
-    l.out.items ++ outputs l.me (flat_map (λ x. answer_to x.0 x.1) (map answered_of (drop l.joiner-index l.answers)))
-    ≡ l.fn.out.items ++ outputs l.me (flat_map (λ x. answer_to x.0 x.1) (map answered_of l.answers))
+    l.said.items ++ outputs l.me (flat_map (λ x. answer_to x.0 x.1) (map answered_of (drop l.joiner-index l.answers)))
+    ≡ outputs l.me (flat_map (λ x. answer_to x.0 x.1) (map answered_of l.answers))

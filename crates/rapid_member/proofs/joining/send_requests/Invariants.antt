@@ -5,5 +5,5 @@ use Rattle.rapid_member.proofs.joining.send_requests.Given as goal
 
 abbrev pub invariant-loop-request : goal.invariant-loop-request
 invariant-loop-request l =
-    l.out.items ++ outputs l.me (map (λ x. Says (To x.0) x.1) (map request_of (drop l.request-index l.requests)))
-    ≡ l.fn.out.items ++ outputs l.me (map (λ x. Says (To x.0) x.1) (map request_of l.requests))
+    l.said.items ++ outputs l.me (map (λ x. Says (To x.0) x.1) (map request_of (drop l.request-index l.requests)))
+    ≡ outputs l.me (map (λ x. Says (To x.0) x.1) (map request_of l.requests))

@@ -1,36 +1,38 @@
-use Rattle.std.proofs.Common.{◌++◌, ap, ◌∙◌}
+use Rattle.std.proofs.Common.{◌≡◌, ◌++◌, ap, ◌∙◌}
 use Rattle.std.proofs.lemmas.Result.{on_ok_weaker, IfErr-weaker}
 use Rattle.rapid_model.specs.Process.{Process}
 use Rattle.rapid_model.specs.Message as message
-use Rattle.rapid_model.specs.Node.{Node, Decisions, outputs}
+use Rattle.rapid_model.specs.Node.{Decisions, MemberState, outputs}
 use Rattle.rapid_model.specs.Member.{Work}
 use Rattle.rapid_model.specs.Receive.{receive_as_member}
 use Rattle.rapid_member.specs.Bodies.{body_of}
 use Rattle.rapid_node.proofs.Settling.{settles, stops_more}
 use Rattle.rapid_node.proofs.node.Node.member_receive.Goals as goal
 
+-- the work that was done is that of the definitions
+same : (c : goal.After-settle) →
+    receive_as_member c.decisions.result.now c.deref_mut.result.now c.sender-from.result (body_of c.body.result.now)
+    ≡ receive_as_member c.args.self.now.decisions c.args.member.value c.args.message.now.sender c.args.message.now.body
+same c =
+    ap (λ (s : MemberState). receive_as_member c.decisions.result.now s c.sender-from.result (body_of c.body.result.now)) c.deref_mut.ensures.value
+    ∙ ap (λ (ds : Decisions). receive_as_member ds c.args.member.value c.sender-from.result (body_of c.body.result.now)) c.decisions.ensures
+    ∙ ap (λ (p : Process). receive_as_member c.args.self.now.decisions c.args.member.value p (body_of c.body.result.now)) c.sender-from.ensures
+    ∙ ap (λ (b : message.Body). receive_as_member c.args.self.now.decisions c.args.member.value c.args.message.now.sender b) c.body.ensures.value
+
 pub returns-clause-ok : goal.returns-clause-ok
 returns-clause-ok c =
-    let same =
-    ap (λ (ds : Decisions). receive_as_member ds c.args.member c.sender-from.result (body_of c.body.result.now)) (ap (λ (n : Node). n.decisions) c.self.view_is)
-    ∙ ap (λ (p : Process). receive_as_member c.args.self.now.decisions c.args.member p (body_of c.body.result.now)) c.sender-from.ensures
-    ∙ ap (λ (b : message.Body). receive_as_member c.args.self.now.decisions c.args.member c.args.message.now.sender b) c.body.ensures.value in
-    let work = receive_as_member c.args.self.now.decisions c.args.member c.args.message.now.sender c.args.message.now.body in
+    let work = receive_as_member c.args.self.now.decisions c.args.member.value c.args.message.now.sender c.args.message.now.body in
     on_ok_weaker c.settle.result
     (settles _ _ _ work _ _ _ _ _ _
-    (c.in_ok-decided.ensures.state ∙ ap (λ (w : Work). w.state) same)
-    (c.in_ok-decided.ensures.decided ∙ ap (λ (w : Work). w.decided) same)
-    (c.in_ok-decided.ensures.out ∙ ap (λ (w : Work). c.args.out.now.items ++ outputs c.args.member.me w.effects) same
-    ∙ ap (λ (p : Process). c.args.out.now.items ++ outputs p work.effects) c.requires.me))
+    (c.in_ok-decided.ensures.state ∙ ap (λ (w : Work). w.state) (same c))
+    (c.in_ok-decided.ensures.decided ∙ ap (λ (w : Work). w.decided) (same c))
+    (c.in_ok-decided.ensures.out ∙ ap (λ (w : Work). c.args.out.now.items ++ outputs c.deref_mut.result.now.me w.effects) (same c)
+    ∙ ap (λ (p : Process). c.args.out.now.items ++ outputs p work.effects) (ap (λ (s : MemberState). s.me) c.deref_mut.ensures.value ∙ c.requires.me)))
     c.settle.ensures.ok
 
 pub returns-clause-stop : goal.returns-clause-stop
 returns-clause-stop c =
-    let same =
-    ap (λ (ds : Decisions). receive_as_member ds c.args.member c.sender-from.result (body_of c.body.result.now)) (ap (λ (n : Node). n.decisions) c.self.view_is)
-    ∙ ap (λ (p : Process). receive_as_member c.args.self.now.decisions c.args.member p (body_of c.body.result.now)) c.sender-from.ensures
-    ∙ ap (λ (b : message.Body). receive_as_member c.args.self.now.decisions c.args.member c.args.message.now.sender b) c.body.ensures.value in
-    let work = receive_as_member c.args.self.now.decisions c.args.member c.args.message.now.sender c.args.message.now.body in
+    let work = receive_as_member c.args.self.now.decisions c.args.member.value c.args.message.now.sender c.args.message.now.body in
     IfErr-weaker c.settle.result _ _
-    (stops_more _ _ _ work _ _ (c.in_ok-decided.ensures.state ∙ ap (λ (w : Work). w.state) same) (c.in_ok-decided.ensures.decided ∙ ap (λ (w : Work). w.decided) same))
+    (stops_more _ _ _ work _ _ (c.in_ok-decided.ensures.state ∙ ap (λ (w : Work). w.state) (same c)) (c.in_ok-decided.ensures.decided ∙ ap (λ (w : Work). w.decided) (same c)))
     c.settle.ensures.stop

@@ -1,5 +1,6 @@
 -- What a node shows.
-use Rattle.std.proofs.Common.{◌≡◌, sym, refl, ap, Option, Some}
+use Rattle.std.proofs.Common.{◌≡◌, sym, refl, ap, Option, Some, Box}
+use Rattle.std.specs.declared.alloc.Global.{Global}
 use Rattle.rapid_model.specs.Process.{Process}
 use Rattle.rapid_model.specs.Configuration.{Configuration}
 use Rattle.rapid_model.specs.Node as model
@@ -23,6 +24,6 @@ halted_shows shown c (Removed d) e = cc
 halted_shows shown c Halted e = cc
 
 -- a member as it enters a configuration is a state in which the node shows that configuration
-pub enters : (c : Configuration) (me : Process) (s : MemberState) → s ≡ fresh_member c me → IsState me (Some c) (Member s)
+pub enters : (c : Configuration) (me : Process) (s : Box MemberState Global) → s.value ≡ fresh_member c me → IsState me (Some c) (Member s)
 unfolding fresh_member
 enters c me s e = (ap (λ (m : MemberState). Some m.config) (sym e), ap (λ (m : MemberState). m.me) e)

@@ -1,5 +1,0 @@
-use Rattle.rapid_node.proofs.Shown.{enters}
-use Rattle.rapid_node.proofs.phase.State.enter.Goals as goal
-
-pub returns-clause-state : goal.returns-clause-state
-returns-clause-state c = enters c.args.next.now c.args.me c.in_ok-member.member c.in_ok-member.ensures
