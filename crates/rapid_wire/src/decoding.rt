@@ -11,7 +11,7 @@ use crate::encoding::VERSION;
 use crate::kinds::read_body;
 use crate::reading::{PROCESS_BYTES, process_in, read_front};
 use crate::told::tell_message;
-use rapid_node::Message;
+use rapid_member::Message;
 use std::alloc::Global;
 
 /// Each byte is below 256. It does nothing: what it ensures is for proofs.

@@ -15,7 +15,7 @@ use crate::reading::{
 };
 use rapid_config::{ConfigError, ConfigId, Configuration, Cut};
 use rapid_endpoint::Process;
-use rapid_node::Body;
+use rapid_member::Body;
 use rapid_paxos::Ballot;
 use std::alloc::Global;
 

@@ -10,8 +10,6 @@ mod feed;
 mod kinds;
 mod numbers;
 mod reading;
-#[cfg(test)]
-mod tests;
 mod told;
 mod writing;
 

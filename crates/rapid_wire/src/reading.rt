@@ -13,10 +13,10 @@ ghost use Rattle.rapid_wire.specs.Reading.{both, all_of, many, front_at, byte_at
 
 use crate::WireFault;
 use crate::numbers::number_in;
-use rapid_alerts::{Alert, BatchError, Kind};
+use rapid_alerts::{Alert, Batch, BatchError, Kind};
 use rapid_config::{ConfigError, ConfigId, Cut};
 use rapid_endpoint::Process;
-use rapid_node::{Batch, Reply, RingObservers};
+use rapid_join::{Reply, RingObservers};
 use rapid_paxos::Ballot;
 use std::alloc::{AllocError, Global};
 

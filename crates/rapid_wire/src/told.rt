@@ -9,10 +9,11 @@ ghost use Rattle.rapid_paxos.specs.Reported.{last_of};
 ghost use Rattle.rapid_join.specs.Answers.{NamesObservers, answer_of};
 ghost use Rattle.rapid_member.specs.Bodies.{CanSay, body_of};
 
-use rapid_alerts::Alert;
+use rapid_alerts::{Alert, Batch};
 use rapid_config::Cut;
 use rapid_endpoint::Process;
-use rapid_node::{Batch, Body, Message, Reply};
+use rapid_join::Reply;
+use rapid_member::{Body, Message};
 use rapid_paxos::Ballot;
 
 /// Each value is a process.

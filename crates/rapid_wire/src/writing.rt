@@ -12,10 +12,11 @@ ghost use Rattle.rapid_join.specs.Answers.{answer_of};
 ghost use Rattle.rapid_member.specs.Bodies.{body_of};
 
 use crate::numbers::two_bytes;
-use rapid_alerts::{Alert, Kind};
+use rapid_alerts::{Alert, Batch, Kind};
 use rapid_config::{ConfigId, Cut};
 use rapid_endpoint::Process;
-use rapid_node::{Batch, Body, Reply};
+use rapid_join::Reply;
+use rapid_member::Body;
 use rapid_paxos::Ballot;
 use std::alloc::{AllocError, Global};
 

@@ -1,7 +1,9 @@
 // Worked frames, and what is refused.
-use crate::{Feed, WireFault, encode};
-use rapid_endpoint::{Endpoint, Process, ProcessId};
-use rapid_node::{Body, Message, Reply};
+
+use crate::numbered::process;
+use rapid_join::Reply;
+use rapid_member::{Body, Message};
+use rapid_wire::{Feed, WireFault, encode};
 use std::alloc::Global;
 use std::process::Abort;
 use std::test::Fail;
@@ -24,8 +26,8 @@ const THREE: [u8; 22] = [
     0, 0, 0, 0, 0, 0, 0, 0, 0, 0, 0, 0, 0, 0, 0, 3, 0x7f, 0, 0, 1, 0, 3,
 ];
 
-/// The frame in which the process with the number 1 tells the process with the number 2 that its endpoint
-/// is in use.
+/// The frame in which the process with the number 1 tells the process with the number 2 that its
+/// endpoint is in use.
 const IN_USE: [u8; 51] = [
     0, 0, 0, 0x2f, 1, 9, 0, 0, 0, 0, 0, 0, 0, 0, 0, 0, 0, 0, 0, 0, 0, 1, 0x7f, 0, 0, 1, 0, 1, 0, 0,
     0, 0, 0, 0, 0, 0, 0, 0, 0, 0, 0, 0, 0, 2, 0x7f, 0, 0, 1, 0, 2, 2,
@@ -34,7 +36,8 @@ const IN_USE: [u8; 51] = [
 /// The identifier of a configuration.
 const ID: [u8; 32] = [7; 32];
 
-/// The bytes of a configuration in front of its members, with the parameters 3, 3 and 1, at height 0.
+/// The bytes of a configuration in front of its members, with the parameters 3, 3 and 1, at height
+/// 0.
 const HEAD: [u8; 47] = [
     0x52, 0x50, 0x43, 0x31, 0, 0, 0, 0, 0, 0, 0, 0, 0, 0, 0, 0, 0, 0, 0, 0, 0, 0, 0, 0, 0, 0, 0, 0,
     0, 0, 0, 0, 0, 0, 0, 0, 0, 0, 0, 0, 0, 0, 0, 0, 3, 3, 1,
@@ -54,18 +57,13 @@ fn frame(alloc: Global, kind: u8, parts: &[&[u8]]) -> Result<Vec<u8>, Fail> {
     Ok(frame)
 }
 
-/// The process with a number.
-fn process(number: u8) -> Process {
-    let id = ProcessId::new([0, 0, 0, 0, 0, 0, 0, 0, 0, 0, 0, 0, 0, 0, 0, number]);
-    Process::new(id, Endpoint::new([127, 0, 0, 1], u16::from(number)))
-}
-
 /// Whether the process with the number 2 asks to join.
 fn asks_to_join(message: &Message) -> bool {
     message.sender() == process(2) && matches!(message.body(), Body::PreJoin)
 }
 
-/// Whether the process with the number 1 tells the process with the number 2 that its endpoint is in use.
+/// Whether the process with the number 1 tells the process with the number 2 that its endpoint is
+/// in use.
 fn tells_in_use(message: &Message) -> bool {
     match message.body() {
         Body::Reply(joiner, Reply::EndpointInUse) => {
@@ -309,5 +307,35 @@ fn messages_come_in_the_order_of_their_bytes(rt: HostRuntime) -> Result<(), Fail
     assert!(rt; first.as_ref().is_some_and(asks_to_join));
     assert!(rt; second.as_ref().is_some_and(tells_in_use));
     assert!(rt; feed.next()?.is_none());
+    Ok(())
+}
+
+/// The first message of a feed, asked for again where a growth is refused.
+fn came(feed: &mut Feed) -> Result<Option<Message>, WireFault> {
+    match feed.next() {
+        Err(WireFault::OutOfMemory) => feed.next(),
+        answer => answer,
+    }
+}
+
+/// Where some growth is refused the feed is as it was: the piece is fed again, and the message
+/// comes when it is asked for again.
+#[test]
+fn want_of_memory_leaves_the_feed_as_it_was(rt: HostRuntime) -> Result<(), Fail> {
+    let cases: [(u8, &[&[u8]]); 4] = [
+        (1, &[&ID, &[0, 1], &[3, 1], &TWO]),
+        (2, &[&ID, &[0, 2], &TWO, &THREE]),
+        (9, &[&TWO, &[1], &ID, &[2], &ONE, &ONE]),
+        (11, &[&HEAD, &[0, 2], &ONE, &TWO]),
+    ];
+    for (kind, parts) in cases {
+        let bytes = frame(rt.alloc(), kind, parts)?;
+        let mut feed = Feed::new(rt.alloc());
+        if feed.feed(&bytes).is_err() {
+            feed.feed(&bytes)?;
+        }
+        let message = came(&mut feed)?.ok_or("a message")?;
+        assert!(rt; writes(rt.alloc(), &message, &bytes)?, "kind {kind}");
+    }
     Ok(())
 }

@@ -1,0 +1,8 @@
+//! Tests of frames. The crate has nothing else, so that the functions below it are not proved a
+//! second time for their tests.
+#![tactic(auto)]
+
+#[cfg(test)]
+mod frames;
+#[cfg(test)]
+mod numbered;
