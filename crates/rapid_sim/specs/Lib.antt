@@ -1,0 +1,10 @@
+pub mod Commands
+pub mod Definitions
+pub mod Losing
+pub mod Progress
+pub mod Replies
+pub mod Runs
+pub mod Settling
+pub mod Simulators
+pub mod TooLong
+pub mod Wants

@@ -1,0 +1,17 @@
+-- Refusals as the definitions see them.
+use Rattle.rapid_model.specs.Refusal as faults
+use Rattle.rapid_model.specs.SimText as text
+use Rattle.rapid_sim.specs.declared.view.Refusal.{Refusal}
+use Rattle.rapid_sim.specs.declared.view.Refusal.TheVariants.{BadLine, NoParams, BadParams, IdentifierUsed, EndpointBusy, NoSuchNode, NoSuchPacket, NotObserved, EventsFull}
+
+-- A refusal.
+abbrev pub refusal_of : Refusal → text.SimRefusal
+refusal_of BadLine = text.BadLine
+refusal_of NoParams = text.NoParams
+refusal_of BadParams = text.BadParams
+refusal_of IdentifierUsed = text.ByWorld faults.IdentifierUsed
+refusal_of EndpointBusy = text.ByWorld faults.EndpointBusy
+refusal_of NoSuchNode = text.ByWorld faults.NoSuchNode
+refusal_of NoSuchPacket = text.ByWorld faults.NoSuchPacket
+refusal_of NotObserved = text.ByWorld faults.NotObserved
+refusal_of EventsFull = text.ByWorld faults.EventsFull

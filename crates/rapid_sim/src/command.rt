@@ -1,0 +1,283 @@
+// The commands of `sim`, and the lines that spell them.
+
+ghost use Rattle.std.specs.Prelude.{◌≡◌, ◌<◌, ◌≤◌, false, length, bytes_eq, codes, IfOk, IfSome};
+ghost use Rattle.std.specs.Option.{option_map, option_and_then};
+ghost use Rattle.rapid_model.specs.Lines.{words};
+ghost use Rattle.rapid_model.specs.Configuration.{founding};
+ghost use Rattle.rapid_model.specs.DetectLine.{marks_in};
+ghost use Rattle.rapid_model.specs.SimLine as model;
+ghost use Rattle.rapid_model.specs.SimLine.{number_from_1, identifier_named, endpoint_named, result_named, count_in, identifier_in, packet_in, all_named, found_in, start_in, probe_in, tick_in, command_named};
+ghost use Rattle.rapid_model.specs.SimText.{asked};
+ghost use Rattle.rapid_sim.specs.Commands.{command_of, asked_of, IsFoundingBy, HasFounding, IsPlain, IsFromOne, IsReady, AsksReady};
+
+use rapid_config::{ConfigError, Configuration, Params};
+use rapid_endpoint::{Endpoint, Process, ProcessId};
+use rapid_text::{byte, is_plain, number, one_word, process, split_word, three_words};
+use rapid_world::WorldEvent;
+use std::alloc::{AllocError, Global};
+
+/// What a command asks for.
+#[derive(Debug, Drop)]
+pub(crate) enum Command {
+    /// The numbers K, H and L, which may be out of order.
+    Parameters(u8, u8, u8),
+    /// The founding configuration of these founders.
+    Found(Configuration),
+    /// An event of the world, so many times, from 1.
+    Events(WorldEvent, u64),
+    /// That all that run lose the member of this identifier.
+    Lose(ProcessId),
+    /// That a packet, from 1, is delivered.
+    Deliver(u64),
+    /// That a packet, from 1, is settled.
+    Drop(u64),
+    /// That packets are delivered as long as there are any.
+    Flow,
+    /// How many packets were sent.
+    Packets,
+}
+
+/// What a line asks for.
+#[derive(Debug, Drop)]
+pub(crate) enum Asked {
+    /// Nothing: it is passed over.
+    Nothing,
+    /// Nothing that is known.
+    Unknown,
+    /// A command.
+    Taken(Command),
+}
+
+/// The number from 1 to a limit that a word spells.
+fn number_from_1(word: &[u8], limit: u64) -> Option<u64>
+    ensures value { result ≡ number_from_1 limit word.now }
+    ensures from_1 { IfSome result (λ n. 1 ≤ n) }
+{
+    match number(word, limit)? {
+        0 => None,
+        found => Some(found),
+    }
+}
+
+/// The identifier that a word names, by a number from 1 to 65,535.
+fn identifier(word: &[u8]) -> Option<ProcessId>
+    ensures { result ≡ identifier_named word.now }
+{
+    let found = number_from_1(word, 65535)?;
+    Some(ProcessId::new(u128::from(found).to_be_bytes()))
+}
+
+/// The endpoint at 127.0.0.1 that a word names, by a port from 0 to 65,535.
+fn endpoint(word: &[u8]) -> Option<Endpoint>
+    ensures { result ≡ endpoint_named word.now }
+{
+    let port = number(word, 65535)?;
+    Some(Endpoint::new([127, 0, 0, 1], port as u16))
+}
+
+/// The result of a probe that a word names: whether it was answered.
+fn probe_result(word: &[u8]) -> Option<bool>
+    ensures { result ≡ result_named word.now }
+{
+    if word == b"ok".as_slice() {
+        Some(true)
+    } else if word == b"fail".as_slice() {
+        Some(false)
+    } else {
+        None
+    }
+}
+
+/// How often an event happens, by the words of a line: from 1 to 1,000 times, once where there are none.
+fn count(line: &[u8]) -> Option<u64>
+    ensures { result ≡ count_in (words line.now) }
+{
+    match split_word(line) {
+        None => Some(1),
+        Some(_) => number_from_1(one_word(line)?, 1000),
+    }
+}
+
+/// The numbers K, H and L that the words of a line spell.
+fn parameters(line: &[u8]) -> Option<Command>
+    ensures named { option_map command_of result ≡ option_map model.Parameters (marks_in (words line.now)) }
+    ensures plain { IfSome result IsPlain }
+{
+    let (k, h, l) = three_words(line)?;
+    Some(Command::Parameters(byte(k)?, byte(h)?, byte(l)?))
+}
+
+/// The processes that the words of a line name, where each word names one.
+fn all_named(alloc: Global, line: &[u8]) -> Result<Option<Vec<Process>>, AllocError>
+    ensures { IfOk result (λ found. option_map (λ v. v.items) found ≡ all_named (words line.now)) }
+{
+    let mut found = Vec::new(alloc);
+    let mut rest = line;
+    while let Some((word, others)) = split_word(rest) {
+        let Some(named) = process(word) else {
+            return Ok(None);
+        };
+        found.push(named)?;
+        rest = others;
+    }
+    Ok(Some(found))
+}
+
+/// The founding configuration of processes, where they can be its members.
+fn founding_by(
+    alloc: Global,
+    params: Params,
+    founders: &[Process],
+) -> Result<Option<Configuration>, AllocError>
+    requires { 0 < length founders.now }
+    ensures { IfOk result (IsFoundingBy params founders.now) }
+{
+    match Configuration::seed(alloc, params, founders) {
+        Ok(configuration) => Ok(Some(configuration)),
+        Err(ConfigError::OutOfMemory) => Err(AllocError),
+        Err(_) => Ok(None),
+    }
+}
+
+/// The founding that the words of a line name: one founder or more, ascending.
+fn found(alloc: Global, params: Params, line: &[u8]) -> Result<Option<Command>, AllocError>
+    ensures named { IfOk result (λ c. option_map command_of c ≡ found_in (words line.now)) }
+    ensures ready { IfOk result (λ c. IfSome c (IsReady params)) }
+{
+    let Some(founders) = all_named(alloc, line)? else {
+        return Ok(None);
+    };
+    if founders.is_empty() {
+        return Ok(None);
+    }
+    match founding_by(alloc, params, founders.as_slice())? {
+        Some(configuration) => Ok(Some(Command::Found(configuration))),
+        None => Ok(None),
+    }
+}
+
+/// The start that the words of a line name: a process, its port and the port of its seed.
+fn start(line: &[u8]) -> Option<Command>
+    ensures named { option_map command_of result ≡ start_in (words line.now) }
+    ensures plain { IfSome result IsPlain }
+{
+    let (id, place, seed) = three_words(line)?;
+    let process = Process::new(identifier(id)?, endpoint(place)?);
+    Some(Command::Events(WorldEvent::Start(process, endpoint(seed)?), 1))
+}
+
+/// The probe that the words of a line name: a node, a ring, a result, and perhaps how often.
+fn probe(line: &[u8]) -> Option<Command>
+    ensures named { option_map command_of result ≡ probe_in (words line.now) }
+    ensures plain { IfSome result IsPlain }
+{
+    let (id, rest) = split_word(line)?;
+    let (ring, rest) = split_word(rest)?;
+    let (outcome, rest) = split_word(rest)?;
+    let event = WorldEvent::Probe(identifier(id)?, byte(ring)?, probe_result(outcome)?);
+    Some(Command::Events(event, count(rest)?))
+}
+
+/// The ticks that the words of a line name: a node, and perhaps how often.
+fn tick(line: &[u8]) -> Option<Command>
+    ensures named { option_map command_of result ≡ tick_in (words line.now) }
+    ensures plain { IfSome result IsPlain }
+{
+    let (id, rest) = split_word(line)?;
+    let event = WorldEvent::Tick(identifier(id)?);
+    Some(Command::Events(event, count(rest)?))
+}
+
+/// The identifier that the word of a line names.
+fn one_identifier(line: &[u8]) -> Option<ProcessId>
+    ensures { result ≡ identifier_in (words line.now) }
+{
+    identifier(one_word(line)?)
+}
+
+/// The packet that the word of a line names, by its number from 1.
+fn one_packet(line: &[u8]) -> Option<u64>
+    ensures value { result ≡ packet_in (words line.now) }
+    ensures from_1 { IfSome result (λ n. 1 ≤ n) }
+{
+    number_from_1(one_word(line)?, u64::MAX)
+}
+
+/// A command, where no words follow its name.
+fn alone(command: Command, line: &[u8]) -> Option<Command>
+    ensures { option_map command_of result ≡ model.alone (command_of command) (words line.now) }
+{
+    match split_word(line) {
+        Some(_) => None,
+        None => Some(command),
+    }
+}
+
+/// The command of a name and the words after it, but for a founding.
+fn plain_command(name: &[u8], rest: &[u8]) -> Option<Command>
+    requires { bytes_eq name.now (codes "found") ≡ false }
+    ensures named { option_map command_of result ≡ command_named name.now (words rest.now) }
+    ensures plain { IfSome result IsPlain }
+{
+    if name == b"params".as_slice() {
+        parameters(rest)
+    } else if name == b"start".as_slice() {
+        start(rest)
+    } else if name == b"probe".as_slice() {
+        probe(rest)
+    } else if name == b"lose".as_slice() {
+        Some(Command::Lose(one_identifier(rest)?))
+    } else if name == b"tick".as_slice() {
+        tick(rest)
+    } else if name == b"deliver".as_slice() {
+        Some(Command::Deliver(one_packet(rest)?))
+    } else if name == b"drop".as_slice() {
+        Some(Command::Drop(one_packet(rest)?))
+    } else if name == b"flow".as_slice() {
+        alone(Command::Flow, rest)
+    } else if name == b"crash".as_slice() {
+        Some(Command::Events(WorldEvent::Crash(one_identifier(rest)?), 1))
+    } else if name == b"packets".as_slice() {
+        alone(Command::Packets, rest)
+    } else {
+        None
+    }
+}
+
+/// The command of a name and the words after it.
+fn command_by(
+    alloc: Global,
+    params: Params,
+    name: &[u8],
+    rest: &[u8],
+) -> Result<Option<Command>, AllocError>
+    ensures named { IfOk result (λ c. option_map command_of c ≡ command_named name.now (words rest.now)) }
+    ensures ready { IfOk result (λ c. IfSome c (IsReady params)) }
+{
+    if name == b"found".as_slice() {
+        found(alloc, params, rest)
+    } else {
+        Ok(plain_command(name, rest))
+    }
+}
+
+/// What a line asks for. A founding has these parameters.
+#[tactic(auto, unfolding(rapid_model::specs::SimText::asked))]
+pub(crate) fn read_line(alloc: Global, params: Params, line: &[u8]) -> Result<Asked, AllocError>
+    ensures named { IfOk result (λ a. asked_of a ≡ asked line.now) }
+    ensures ready { IfOk result (AsksReady params) }
+{
+    if !is_plain(line) {
+        return Ok(Asked::Unknown);
+    }
+    if let [b'#', ..] = line {
+        return Ok(Asked::Nothing);
+    }
+    let Some((name, rest)) = split_word(line) else {
+        return Ok(Asked::Nothing);
+    };
+    match command_by(alloc, params, name, rest)? {
+        Some(command) => Ok(Asked::Taken(command)),
+        None => Ok(Asked::Unknown),
+    }
+}

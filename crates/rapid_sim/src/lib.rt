@@ -1,0 +1,10 @@
+//! `sim`: a simulated cluster is driven by lines, and what its nodes report is written.
+#![tactic(auto)]
+
+mod command;
+mod settled;
+mod sim;
+mod simulator;
+mod view;
+
+pub use sim::run_sim;

@@ -1,0 +1,289 @@
+// A run of `sim`.
+
+ghost use Rattle.std.specs.Prelude.{◌≡◌, ◌≤◌, ◌<◌, ◌++◌, ℕ, List, length, false, None, IfOk, IfSome, OnOk, OnErr};
+ghost use Rattle.std.specs.Io.KnownBytes.{Appends};
+ghost use Rattle.rapid_model.specs.Configuration.{Params as ModelParams, founding};
+ghost use Rattle.rapid_model.specs.Reading.{members_fault};
+ghost use Rattle.rapid_model.specs.SimLine as line;
+ghost use Rattle.rapid_model.specs.SimText as model;
+ghost use Rattle.rapid_text.specs.Underway.{AppendsFront};
+ghost use Rattle.rapid_sim.specs.Commands.{command_of, asked_of, HasFounding, IsFromOne, IsPreparation, IsReady, AsksReady};
+ghost use Rattle.rapid_sim.specs.Progress.{IsAnswered, IsAnsweredExactly};
+ghost use Rattle.rapid_sim.specs.Replies.{refusal_of};
+ghost use Rattle.rapid_sim.specs.Simulators.{simulation_of, phase_state, phase_wants, state_of, wants_in, HasParams};
+ghost use Rattle.rapid_sim.specs.Wants.{SimPrints};
+
+use crate::command::{Asked, Command, read_line};
+use crate::settled::Settled;
+use crate::simulator::Simulator;
+use crate::view::{Refusal, refused_line, write_founding, write_packets};
+use rapid_config::{Configuration, Params};
+use rapid_text::{Engine, RunFault};
+use rapid_world::World;
+use std::alloc::{AllocError, Global};
+use std::io::{Read, Write};
+
+/// How far a run has come.
+#[derive(Drop)]
+pub(crate) enum Phase {
+    /// Neither parameters nor founders were taken.
+    Blank,
+    /// Parameters were taken.
+    Prepared(Params),
+    /// Founders were taken too.
+    Underway(Simulator),
+}
+
+/// A run of `sim`.
+#[derive(Drop)]
+pub struct SimRun {
+    alloc: Global,
+    phase: Phase,
+}
+
+/// The world of founders, in which nothing happened yet.
+fn begin(alloc: Global, configuration: &Configuration) -> Result<Simulator, AllocError>
+    requires members { members_fault configuration.now.members ≡ None }
+    requires some { 0 < length configuration.now.members }
+    requires founding { configuration.now ≡ founding configuration.now.params configuration.now.members }
+    ensures state { IfOk result (λ s. simulation_of s ≡ model.begun configuration.now.params configuration.now.members) }
+    ensures met { IfOk result (λ s. s.met ≡ 0) }
+{
+    let world = World::new(alloc, configuration.params(), configuration.members())?;
+    Ok(Simulator {
+        world,
+        settled: Settled::new(alloc),
+        met: 0,
+    })
+}
+
+#[tactic(auto, unfolding(rapid_model::specs::SimText::after, rapid_model::specs::SimText::printed))]
+impl Simulator {
+    /// Settles a packet that was sent.
+    fn drop_packet(&mut self, packet: u64, output: &mut Vec<u8>) -> Result<(), AllocError>
+        requires { 1 ≤ packet }
+        ensures exactly { OnOk result (IsAnsweredExactly (model.Underway (simulation_of self.old)) (model.Underway (simulation_of self.new)) (model.Command (line.Drop packet)) output.old.items output.new.items) }
+        ensures met { self.new.met ≡ self.old.met }
+    {
+        if packet > self.world.packets() {
+            return output.extend_from_slice(refused_line(Refusal::BadLine));
+        }
+        self.settled.settle(packet)
+    }
+
+    /// Tells how many packets were sent.
+    fn tell_packets(&self, output: &mut Vec<u8>) -> Result<(), AllocError>
+        ensures { OnOk result (IsAnsweredExactly (model.Underway (simulation_of self.now)) (model.Underway (simulation_of self.now)) (model.Command line.Packets) output.old.items output.new.items) }
+    {
+        write_packets(self.world.packets(), output)
+    }
+
+    /// Refuses parameters or founders, which were taken before.
+    fn refuse(&self, command: &Command, output: &mut Vec<u8>) -> Result<(), AllocError>
+        requires { IsPreparation command.now }
+        ensures { OnOk result (IsAnsweredExactly (model.Underway (simulation_of self.now)) (model.Underway (simulation_of self.now)) (model.Command (command_of command.now)) output.old.items output.new.items) }
+    {
+        output.extend_from_slice(refused_line(Refusal::BadLine))
+    }
+
+    /// Does what a command asks for, or refuses it, and appends what that prints.
+    fn obey(
+        &mut self,
+        alloc: Global,
+        command: &Command,
+        output: &mut Vec<u8>,
+    ) -> Result<(), AllocError>
+        requires { IsFromOne command.now }
+        ensures { OnOk result (IsAnswered (model.Underway (simulation_of self.old)) (model.Underway (simulation_of self.new)) (model.Command (command_of command.now)) output.old.items output.new.items self.old.met self.new.met) }
+    {
+        match command {
+            Command::Parameters(_, _, _) | Command::Found(_) => self.refuse(command, output),
+            Command::Events(event, count) => self.repeat(event, *count, output),
+            Command::Lose(id) => self.lose(alloc, id, output),
+            Command::Deliver(packet) => self.deliver(*packet, output),
+            Command::Drop(packet) => self.drop_packet(*packet, output),
+            Command::Flow => self.flow(output),
+            Command::Packets => self.tell_packets(output),
+        }
+    }
+}
+
+#[tactic(auto, unfolding(rapid_model::specs::SimText::after, rapid_model::specs::SimText::printed))]
+impl SimRun {
+    /// A run that has taken nothing.
+    fn new(alloc: Global) -> SimRun
+        ensures state { state_of result ≡ model.Blank }
+        ensures met { wants_in result ≡ 0 }
+    {
+        SimRun {
+            alloc,
+            phase: Phase::Blank,
+        }
+    }
+
+    /// How often want of memory was met.
+    fn met(&self) -> u64
+        ensures { result ≡ wants_in self.now }
+    {
+        match &self.phase {
+            Phase::Underway(simulator) => simulator.met,
+            Phase::Blank | Phase::Prepared(_) => 0,
+        }
+    }
+
+    /// The parameters of a founding that would be taken now.
+    fn params(&self) -> Result<Params, AllocError>
+        ensures { IfOk result (HasParams self.now.phase) }
+    {
+        match &self.phase {
+            Phase::Prepared(params) => Ok(*params),
+            Phase::Blank | Phase::Underway(_) => Params::new(1, 1, 1).map_err(|_| AllocError),
+        }
+    }
+
+    /// Takes the numbers K, H and L, where nothing was taken yet.
+    fn take_params(&mut self, k: u8, h: u8, l: u8, output: &mut Vec<u8>) -> Result<(), AllocError>
+        requires { state_of self.old ≡ model.Blank }
+        ensures taken { OnOk result (IsAnsweredExactly model.Blank (state_of self.new) (model.Command (line.Parameters (record { k = k; h = h; l = l }))) output.old.items output.new.items) }
+        ensures met { wants_in self.new ≡ 0 }
+    {
+        match Params::new(k, h, l) {
+            Ok(params) => {
+                self.phase = Phase::Prepared(params);
+                Ok(())
+            }
+            Err(_) => output.extend_from_slice(refused_line(Refusal::BadParams)),
+        }
+    }
+
+    /// Takes founders.
+    fn take_founders(
+        &mut self,
+        configuration: &Configuration,
+        output: &mut Vec<u8>,
+    ) -> Result<(), AllocError>
+        requires members { members_fault configuration.now.members ≡ None }
+        requires some { 0 < length configuration.now.members }
+        requires founding { configuration.now ≡ founding configuration.now.params configuration.now.members }
+        ensures taken { OnOk result (IsAnsweredExactly (model.Prepared configuration.now.params) (state_of self.new) (model.Command (line.Found configuration.now.members)) output.old.items output.new.items) }
+        ensures met { OnOk result (wants_in self.new ≡ 0) }
+    {
+        self.phase = Phase::Underway(begin(self.alloc, configuration)?);
+        write_founding(configuration, output)
+    }
+    /// Does what a command asks for where nothing was taken yet, or refuses it.
+    fn blank(&mut self, command: &Command, output: &mut Vec<u8>) -> Result<(), AllocError>
+        requires { state_of self.old ≡ model.Blank }
+        ensures exactly { OnOk result (IsAnsweredExactly model.Blank (state_of self.new) (model.Command (command_of command.now)) output.old.items output.new.items) }
+        ensures met { OnOk result (wants_in self.new ≡ 0) }
+    {
+        match command {
+            Command::Parameters(k, h, l) => self.take_params(*k, *h, *l, output),
+            Command::Drop(_) => output.extend_from_slice(refused_line(Refusal::BadLine)),
+            Command::Found(_)
+            | Command::Events(_, _)
+            | Command::Lose(_)
+            | Command::Deliver(_)
+            | Command::Flow
+            | Command::Packets => output.extend_from_slice(refused_line(Refusal::NoParams)),
+        }
+    }
+
+    /// Does what a command asks for where parameters were taken, or refuses it.
+    fn prepared(
+        &mut self,
+        params: Params,
+        command: &Command,
+        output: &mut Vec<u8>,
+    ) -> Result<(), AllocError>
+        requires state { state_of self.old ≡ model.Prepared params }
+        requires ready { IsReady params command.now }
+        ensures exactly { OnOk result (IsAnsweredExactly (model.Prepared params) (state_of self.new) (model.Command (command_of command.now)) output.old.items output.new.items) }
+        ensures met { OnOk result (wants_in self.new ≡ 0) }
+    {
+        match command {
+            Command::Found(configuration) => self.take_founders(configuration, output),
+            Command::Parameters(_, _, _) | Command::Drop(_) => {
+                output.extend_from_slice(refused_line(Refusal::BadLine))
+            }
+            Command::Events(_, _)
+            | Command::Lose(_)
+            | Command::Deliver(_)
+            | Command::Flow
+            | Command::Packets => output.extend_from_slice(refused_line(Refusal::NoParams)),
+        }
+    }
+
+    /// Does what a command asks for, or refuses it, and appends what that prints.
+    fn obey(&mut self, command: &Command, output: &mut Vec<u8>) -> Result<(), AllocError>
+        requires { (params : ModelParams) × HasParams self.old.phase params × IsReady params command.now }
+        ensures { OnOk result (IsAnswered (state_of self.old) (state_of self.new) (model.Command (command_of command.now)) output.old.items output.new.items (wants_in self.old) (wants_in self.new)) }
+    {
+        match &mut self.phase {
+            Phase::Underway(simulator) => simulator.obey(self.alloc, command, output),
+            Phase::Prepared(params) => {
+                let params = *params;
+                self.prepared(params, command, output)
+            }
+            Phase::Blank => self.blank(command, output),
+        }
+    }
+
+    /// Does what a line asks for, and appends what that prints.
+    fn respond(&mut self, asked: &Asked, output: &mut Vec<u8>) -> Result<(), AllocError>
+        requires { (params : ModelParams) × HasParams self.old.phase params × AsksReady params asked.now }
+        ensures { OnOk result (IsAnswered (state_of self.old) (state_of self.new) (asked_of asked.now) output.old.items output.new.items (wants_in self.old) (wants_in self.new)) }
+    {
+        match asked {
+            Asked::Nothing => Ok(()),
+            Asked::Unknown => output.extend_from_slice(refused_line(Refusal::BadLine)),
+            Asked::Taken(command) => self.obey(command, output),
+        }
+    }
+}
+
+impl Engine for SimRun {
+    ghost use Rattle.rapid_sim.specs.Simulators.{RunPrints, wants_in};
+    ghost use Rattle.rapid_sim.specs.Runs.{run_ends, run_too_long, run_speaks};
+
+    ghost prints = { RunPrints };
+
+    ghost met = { wants_in };
+
+    fn answer(&mut self, line: &[u8], output: &mut Vec<u8>) -> Result<(), AllocError> {
+        let asked = read_line(self.alloc, self.params()?, line)?;
+        let mut text = Vec::new(self.alloc);
+        self.respond(&asked, &mut text)?;
+        output.extend_from_slice(text.as_slice())
+    }
+
+    ghost ends = { run_ends };
+
+    ghost too_long = { run_too_long };
+
+    ghost speaks = { run_speaks };
+}
+
+/// Reads lines, drives a simulated cluster by them, and writes what they print, and nothing else.
+/// Answers how often want of memory was met: the world's own, for which an event was refused as
+/// `refused OutOfMemory`, and that of nodes, which halted. Where it was never met, what was written
+/// is what the input prints; else it is what the input may print where want of memory is met so
+/// often. After a fault a beginning of such a text is written: `Read` where the input could not be
+/// read, `Write` where the output could not be written, `OutOfMemory` where there was no memory to
+/// read and answer lines.
+pub fn run_sim<R: Read, W: Write>(
+    alloc: Global,
+    reader: &mut R,
+    writer: &mut W,
+) -> Result<u64, RunFault>
+    ensures written { IfOk result (λ met. IfSome (R.remaining reader.old) (λ input.
+        (text : List ℕ) × SimPrints input text met × Appends (W.contents writer.old) (W.contents writer.new) text)) }
+    ensures exact { IfOk result (λ met. met ≡ 0 → IfSome (R.remaining reader.old) (λ input.
+        Appends (W.contents writer.old) (W.contents writer.new) (model.sim_text input))) }
+    ensures begun { OnErr result (IfSome (R.remaining reader.old) (λ input.
+        (text : List ℕ) × (met : ℕ) × SimPrints input text met × AppendsFront (W.contents writer.old) (W.contents writer.new) text)) }
+{
+    let mut run = SimRun::new(alloc);
+    rapid_text::run(alloc, &mut run, reader, writer)?;
+    Ok(run.met())
+}

@@ -1,0 +1,135 @@
+-- Steps of a world, read off what they do to the peer at a place.
+use Rattle.std.proofs.Common.{◌≡◌, ℕ, Bool, true, false, cond, List, [], ◌∷◌, ◌++◌, map, length, drop, slice_get, slice_set, refl, sym, ap, subst, ◌∙◌, Option, Some, None}
+use Rattle.std.specs.Prelude.{IsTrue}
+use Rattle.std.specs.List.{list_any}
+use Rattle.rapid_model.specs.Process.{identifier}
+use Rattle.rapid_model.specs.Configuration.{Configuration, AreMembers}
+use Rattle.rapid_model.specs.Edge.{probed}
+use Rattle.rapid_model.specs.Node.{Node, Event, Effect, Outcome, configuration_of, has_installed}
+use Rattle.rapid_model.specs.NodeStep.{node_step}
+use Rattle.rapid_model.specs.NodeReports.{installed_report}
+use Rattle.rapid_model.specs.World.{World, Peer, Packet, Act, Did, Installed, HasHalted, WorldEvent, MarkedEvent, Entry}
+use Rattle.rapid_model.specs.WorldStep.{world_step, hands, halted, settled, moved, entry, install_acts, with_edge, edge_on}
+use Rattle.rapid_model.specs.Run.{run, founded, WorldReport, ReportInstalled, report_of_act, reports_of}
+use Rattle.rapid_model.specs.StoredWorld.{StoredWorld, StoresEvent, world_of, event_refusal, with_event, is_halt}
+use Rattle.rapid_safety.proofs.Histories.{Lived}
+use Rattle.rapid_safety.proofs.Lived.{lived_run}
+use Rattle.rapid_world.specs.Handed.{Handed, stopped, went_on, stepped, handed, told}
+use Rattle.rapid_world.specs.Worlds.{IsRunOf}
+use Rattle.rapid_world.specs.Does.{Does}
+
+-- ---- one event more
+
+run_more : (es : List MarkedEvent) (m : MarkedEvent) (w : World) → run (es ++ m ∷ []) w ≡ world_step (run es w) m
+run_more [] m w = refl
+run_more (e ∷ es) m w = run_more es m (world_step w e)
+
+pub one_more : (s : StoredWorld) (m : MarkedEvent) → world_of (with_event s m) ≡ world_step (world_of s) m
+unfolding world_of
+one_more s m = run_more s.events m (founded s.founding)
+
+pub lives : (s : StoredWorld) → AreMembers s.founding.members → Lived (world_of s)
+unfolding world_of
+lives s are = lived_run s.founding s.events are
+
+-- ---- what a step does, stored
+
+pub done_run : (s : StoredWorld) (e : WorldEvent) (i : ℕ) (p : Peer) (f : Bool → Handed) (ps : List Peer) (packets : List Packet) (h : Bool) → Does s e i p f → IsRunOf s ps packets →
+    IsRunOf (with_event s (record { event = e; halts = h })) (slice_set ps i (f h).peer) (packets ++ (f h).packets)
+done_run s e i p f ps packets h does old =
+    record {
+      params = old.params;
+      members = old.members;
+      peers = ap (λ (l : List Peer). slice_set l i (f h).peer) old.peers ∙ sym (does.peers h) ∙ sym (ap (λ (w : World). w.peers) (one_more s _));
+      packets = ap (λ (l : List Packet). l ++ (f h).packets) old.packets ∙ sym (does.packets h) ∙ sym (ap (λ (w : World). w.packets) (one_more s _));
+    }
+
+pub done_stored : (s : StoredWorld) (e : WorldEvent) (i : ℕ) (p : Peer) (f : Bool → Handed) (h : Bool) (reports : List WorldReport) → Does s e i p f → reports ≡ (f h).reports →
+    (h ≡ true → IsTrue (list_any is_halt (f h).reports)) → StoresEvent s (with_event s (record { event = e; halts = h })) e reports
+done_stored s e i p f h reports does told marks =
+    record {
+      halts = h;
+      not_refused = does.not_refused;
+      stored = refl;
+      reported = told ∙ sym (does.reports h);
+      marked = λ t. subst (λ (r : List WorldReport). IsTrue (list_any is_halt r)) (sym told) (marks t);
+    }
+
+pub handed_marks : (p : Peer) (e : Event) (h : Bool) → h ≡ true → IsTrue (list_any is_halt (handed p e h).reports)
+unfolding handed
+handed_marks p e true t = refl
+handed_marks p e false t = cc
+
+pub told_marks : (p : Peer) (k : ℕ) (ok : Bool) (e : Event) (h : Bool) → ((probed (edge_on p.edges k) ok).is_down ≡ false → h ≡ false) → h ≡ true → IsTrue (list_any is_halt (told p k ok e h).reports)
+unfolding told
+told_marks p k ok e h quiet t = by (probed (edge_on p.edges k) ok).is_down refl
+  where
+    by : (b : Bool) → (probed (edge_on p.edges k) ok).is_down ≡ b →
+        IsTrue (list_any is_halt (cond b (handed (with_edge p k (probed (edge_on p.edges k) ok)) e h) (record { peer = with_edge p k (probed (edge_on p.edges k) ok); packets = []; reports = [] })).reports)
+    by true d = handed_marks (with_edge p k (probed (edge_on p.edges k) ok)) e h t
+    by false d = let no : true ≡ false = sym t ∙ quiet d in absurd (differ no)
+      where
+        differ : true ≡ false → ⊥
+        differ z = cc
+
+-- ---- what the definitions' step does to the peer
+
+behind : {A : Type 0} (xs ys : List A) → drop (length xs) (xs ++ ys) ≡ ys
+behind [] ys = refl
+behind (x ∷ xs) ys = behind xs ys
+
+nil_end : {A : Type 0} (xs : List A) → xs ++ [] ≡ xs
+nil_end [] = refl
+nil_end (x ∷ xs) = ap (λ l. x ∷ l) (nil_end xs)
+
+did_quiet : (n : Node) (es : List Effect) (acts : List Act) → reports_of (map (entry n) (map Did es ++ acts)) ≡ reports_of (map (entry n) acts)
+did_quiet n [] acts = refl
+did_quiet n (x ∷ es) acts = did_quiet n es acts
+
+both : (b : Bool) (rs : List WorldReport) → rs ≡ cond b rs rs
+both true rs = refl
+both false rs = refl
+
+installs : (n new : Node) (c : Option Configuration) → reports_of (map (entry n) (install_acts n new c)) ≡ cond (has_installed n new) (installed_report n c) []
+installs n new None = both (has_installed n new) []
+installs n new (Some c) = by (has_installed n new)
+  where
+    by : (b : Bool) → reports_of (map (entry n) (cond b (Installed c ∷ []) [])) ≡ cond b (ReportInstalled (identifier n.me) c ∷ []) []
+    by true = refl
+    by false = refl
+
+pub new_acts : (log : List Entry) (n : Node) (a : Act) (acts : List Act) → report_of_act n.me a ≡ [] →
+    reports_of (drop (length log) (log ++ map (entry n) (a ∷ acts))) ≡ reports_of (map (entry n) acts)
+new_acts log n a acts quiet = ap reports_of (behind log (map (entry n) (a ∷ acts))) ∙ ap (λ r. r ++ reports_of (map (entry n) acts)) quiet
+
+-- what is read off a world, where the peer at a place was replaced
+pub record Read (w v : World) (i : ℕ) (d : Handed) : Type 0 where
+  pub peers : v.peers ≡ slice_set w.peers i d.peer
+  pub packets : v.packets ≡ w.packets ++ d.packets
+  pub reports : reports_of (drop (length w.log) v.log) ≡ d.reports
+
+reads_halted : (w : World) (i : ℕ) (p : Peer) (a : Act) → report_of_act p.node.me a ≡ [] → Read w (halted w i p (a ∷ [])) i (stopped p)
+reads_halted w i p a quiet = record { peers = refl; packets = sym (nil_end w.packets); reports = new_acts w.log p.node a (HasHalted ∷ []) quiet }
+
+reads_moved : (w : World) (i : ℕ) (p : Peer) (a : Act) (o : Outcome) → report_of_act p.node.me a ≡ [] → Read w (moved w i p (a ∷ []) o) i (went_on p o)
+reads_moved w i p a o quiet =
+    record {
+      peers = refl;
+      packets = refl;
+      reports = new_acts w.log p.node a (map Did o.effects ++ install_acts p.node o.node (configuration_of o.node)) quiet
+          ∙ did_quiet p.node o.effects (install_acts p.node o.node (configuration_of o.node)) ∙ installs p.node o.node (configuration_of o.node);
+    }
+
+pub reads_hands : (w : World) (i : ℕ) (p : Peer) (a : Act) (e : Event) (h : Bool) → report_of_act p.node.me a ≡ [] → Read w (hands w i p (a ∷ []) e h) i (handed p e h)
+unfolding hands handed
+reads_hands w i p a e true quiet = reads_halted w i p a quiet
+reads_hands w i p a e false quiet = by (node_step p.node e)
+  where
+    by : (o : Option Outcome) → Read w (settled w i p (a ∷ []) o) i (stepped p o)
+    by None = reads_halted w i p a quiet
+    by (Some o) = reads_moved w i p a o quiet
+
+-- the same for a step that is one of these
+pub does_read : (s : StoredWorld) (e : WorldEvent) (i : ℕ) (p : Peer) (f : Bool → Handed) → slice_get (world_of s).peers i ≡ Some p → event_refusal s e ≡ None →
+    ((h : Bool) → Read (world_of s) (world_step (world_of s) (record { event = e; halts = h })) i (f h)) → Does s e i p f
+does_read s e i p f at taken reads = record { at = at; not_refused = taken; peers = λ h. (reads h).peers; packets = λ h. (reads h).packets; reports = λ h. (reads h).reports }

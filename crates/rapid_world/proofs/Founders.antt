@@ -1,0 +1,27 @@
+-- The founding of a world.
+use Rattle.std.proofs.Common.{◌≡◌, ℕ, zero, suc, ◌<◌, Bool, true, false, ◌||◌, List, [], ◌∷◌, arith, map, length, get_or, refl, ap, subst}
+use Rattle.std.specs.List.{list_any}
+use Rattle.rapid_model.proofs.Orders.{same_bytes_decides}
+use Rattle.rapid_model.specs.Process.{Process, is_in, same_bytes}
+use Rattle.rapid_model.specs.Configuration.{Configuration, IsConfiguration, is_member}
+use Rattle.rapid_model.specs.Node.{seed_node}
+use Rattle.rapid_model.specs.World.{Peer}
+use Rattle.rapid_model.specs.WorldStep.{added}
+use Rattle.rapid_model.specs.StoredWorld.{new_world, world_of}
+use Rattle.rapid_world.specs.Worlds.{IsRunOf}
+
+or_right : (x y : Bool) → y ≡ true → (x || y) ≡ true
+or_right true y e = refl
+or_right false y e = e
+
+stands_in : (ms : List Process) (i : ℕ) (p : Process) → i < length ms → p ≡ get_or ms i p → is_in ms p ≡ true
+stands_in [] i p l e = absurd (omega arith)
+stands_in (m ∷ ms) zero p l e = ap (λ b. b || list_any (same_bytes p) ms) ((same_bytes_decides p m).1 e)
+stands_in (m ∷ ms) (suc i) p l e = or_right (same_bytes p m) _ (stands_in ms i p (omega arith) e)
+
+pub is_there : (c : Configuration) (ms : List Process) (i : ℕ) (p : Process) → ms ≡ c.members → i < length ms → p ≡ get_or ms i p → is_member c p ≡ true
+is_there c ms i p same l read = subst (λ (l : List Process). is_in l p ≡ true) same (stands_in ms i p l read)
+
+pub founded_run : (c : Configuration) (ps : List Peer) → IsConfiguration c → ps ≡ map (λ p. added (seed_node c p)) c.members → IsRunOf (new_world c) ps []
+unfolding world_of
+founded_run c ps is e = record { params = is.params; members = is.members; peers = e; packets = refl }

@@ -1,0 +1,94 @@
+-- A world with an event more.
+use Rattle.std.proofs.Common.{◌≡◌, ℕ, ◌<◌, Bool, true, false, List, [], ◌∷◌, ◌++◌, map, length, slice_get, slice_set, get_or, refl, sym, ap, subst, ◌∙◌, Option, Some, None}
+use Rattle.std.specs.Prelude.{IsTrue, is_some}
+use Rattle.std.specs.List.{list_any}
+use Rattle.std.specs.Option.{option_map, option_to_list}
+use Rattle.std.proofs.lemmas.List.{map_push, set-get_or}
+use Rattle.std.proofs.lemmas.Option.{slice_get_within, get_or_from_slice_get}
+use Rattle.rapid_model.specs.Configuration.{Configuration}
+use Rattle.rapid_model.specs.Process.{identifier, endpoint}
+use Rattle.rapid_model.specs.Node.{joiner_node}
+use Rattle.rapid_model.specs.World.{Peer, Packet, MarkedEvent, Start, has_identifier, running_at}
+use Rattle.rapid_model.specs.WorldStep.{added}
+use Rattle.rapid_model.specs.Run.{WorldReport}
+use Rattle.rapid_model.specs.StoredWorld.{StoredWorld, StoresEvent, with_event, world_of, is_halt}
+use Rattle.rapid_world.specs.declared.event.WorldEvent.{WorldEvent}
+use Rattle.rapid_world.specs.declared.report.Report.{Report}
+use Rattle.rapid_world.specs.Events.{event_of, marked_of, report_of}
+use Rattle.rapid_world.specs.Handed.{Handed}
+use Rattle.rapid_world.specs.Worlds.{IsRunOf}
+use Rattle.rapid_world.specs.Does.{Does}
+use Rattle.rapid_world.proofs.Doing.{done_run, done_stored}
+use Rattle.rapid_world.proofs.Cases.{Open, start_run, start_stored}
+
+-- the stored world of these parts
+abbrev pub stored_of : Configuration → List (WorldEvent × Bool) → StoredWorld
+stored_of founding events = record { founding = founding; events = map marked_of events }
+
+pub same_room : (founding : Configuration) (events reserved : List (WorldEvent × Bool)) (now : StoredWorld) → stored_of founding events ≡ now → reserved ≡ events → stored_of founding reserved ≡ now
+same_room founding events reserved now v same = ap (stored_of founding) same ∙ v
+
+pub one_event : (founding : Configuration) (events reserved pushed : List (WorldEvent × Bool)) (x : WorldEvent × Bool) (now : StoredWorld) → stored_of founding events ≡ now → reserved ≡ events → pushed ≡ reserved ++ x ∷ [] →
+    stored_of founding pushed ≡ with_event now (marked_of x)
+one_event founding events reserved pushed x now v same push =
+    ap (stored_of founding) (push ∙ ap (λ (l : List (WorldEvent × Bool)). l ++ x ∷ []) same)
+    ∙ ap (λ (l : List MarkedEvent). record { founding = founding; events = l }) (map_push marked_of events x)
+    ∙ ap (λ s. with_event s (marked_of x)) v
+
+-- what was read at the place is the peer there
+pub read_there : (s : StoredWorld) (ps : List Peer) (i : ℕ) (p x : Peer) → ps ≡ (world_of s).peers → slice_get (world_of s).peers i ≡ Some p → x ≡ get_or ps i x → x ≡ p
+read_there s ps i p x same at read = read ∙ get_or_from_slice_get ps i p x (ap (λ (l : List Peer). slice_get l i) same ∙ at)
+
+pub there_within : (s : StoredWorld) (ps : List Peer) (i : ℕ) (p : Peer) → ps ≡ (world_of s).peers → slice_get (world_of s).peers i ≡ Some p → i < length ps
+there_within s ps i p same at = slice_get_within ps i p (ap (λ (l : List Peer). slice_get l i) same ∙ at)
+
+pub put_back : (ps : List Peer) (i : ℕ) (x y : Peer) → x ≡ get_or ps i x → y ≡ x → slice_set ps i y ≡ ps
+put_back ps i x y read same = ap (slice_set ps i) (same ∙ read) ∙ set-get_or ps i x
+
+pub given_run : (now : StoredWorld) (founding : Configuration) (events reserved pushed : List (WorldEvent × Bool)) (x : WorldEvent × Bool) (ps : List Peer) (packets after : List Packet) (i : ℕ) (p new : Peer) (f : Bool → Handed) →
+    stored_of founding events ≡ now → reserved ≡ events → pushed ≡ reserved ++ x ∷ [] → IsRunOf (stored_of founding events) ps packets → Does now (event_of x.0) i p f →
+    new ≡ (f x.1).peer → after ≡ packets ++ (f x.1).packets → IsRunOf (stored_of founding pushed) (slice_set ps i new) after
+given_run now founding events reserved pushed x ps packets after i p new f v same push old does peer sent =
+    let done = done_run now (event_of x.0) i p f ps packets (x.1) does (subst (λ s. IsRunOf s ps packets) v old) in
+    subst (λ s. IsRunOf s (slice_set ps i new) after) (sym (one_event founding events reserved pushed x now v same push))
+    (subst (λ l. IsRunOf (with_event now (marked_of x)) (slice_set ps i new) l) (sym sent)
+    (subst (λ q. IsRunOf (with_event now (marked_of x)) (slice_set ps i q) (packets ++ (f x.1).packets)) (sym peer) done))
+
+pub given_stored : (now : StoredWorld) (founding : Configuration) (events reserved pushed : List (WorldEvent × Bool)) (x : WorldEvent × Bool) (i : ℕ) (p : Peer) (f : Bool → Handed) (reports : List WorldReport) →
+    stored_of founding events ≡ now → reserved ≡ events → pushed ≡ reserved ++ x ∷ [] → Does now (event_of x.0) i p f → reports ≡ (f x.1).reports → (x.1 ≡ true → IsTrue (list_any is_halt (f x.1).reports)) →
+    StoresEvent now (stored_of founding pushed) (event_of x.0) reports
+given_stored now founding events reserved pushed x i p f reports v same push does told marks =
+    subst (λ t. StoresEvent now t (event_of x.0) reports) (sym (one_event founding events reserved pushed x now v same push))
+    (done_stored now (event_of x.0) i p f (x.1) reports does told marks)
+
+-- the reports with the one more, of none
+pub one_report : (before after : List Report) (o : Option Report) → after ≡ before ++ option_to_list o → before ≡ [] → map report_of after ≡ option_to_list (option_map report_of o)
+one_report before after o e none = ap (map report_of) (e ∙ ap (λ (l : List Report). l ++ option_to_list o) none) ∙ by o
+  where
+    by : (o : Option Report) → map report_of ([] ++ option_to_list o) ≡ option_to_list (option_map report_of o)
+    by None = refl
+    by (Some r) = refl
+
+pub no_reports : (rs : List Report) → rs ≡ [] → map report_of rs ≡ []
+no_reports rs e = ap (map report_of) e
+
+pub nothing_more : (ps : List Packet) → ps ≡ ps ++ []
+nothing_more [] = refl
+nothing_more (p ∷ ps) = ap (λ l. p ∷ l) (nothing_more ps)
+
+-- a start
+pub joined_run : (now : StoredWorld) (founding : Configuration) (events reserved pushed : List (WorldEvent × Bool)) (me : List ℕ) (seed : List ℕ) (x : WorldEvent × Bool) (ps : List Peer) (packets : List Packet) (q : Peer) →
+    stored_of founding events ≡ now → reserved ≡ events → pushed ≡ reserved ++ x ∷ [] → marked_of x ≡ record { event = Start me seed; halts = false } → IsRunOf (stored_of founding events) ps packets → Open now →
+    list_any (has_identifier (identifier me)) (world_of now).peers ≡ false → is_some (running_at (world_of now) (endpoint me)) ≡ false → q ≡ added (joiner_node me seed) →
+    IsRunOf (stored_of founding pushed) (ps ++ q ∷ []) packets
+joined_run now founding events reserved pushed me seed x ps packets q v same push is old space fresh free joins =
+    subst (λ s. IsRunOf s (ps ++ q ∷ []) packets) (sym (one_event founding events reserved pushed x now v same push ∙ ap (with_event now) is))
+    (start_run now me seed ps packets q space fresh free joins (subst (λ s. IsRunOf s ps packets) v old))
+
+pub joined_stored : (now : StoredWorld) (founding : Configuration) (events reserved pushed : List (WorldEvent × Bool)) (me : List ℕ) (seed : List ℕ) (x : WorldEvent × Bool) (reports : List WorldReport) →
+    stored_of founding events ≡ now → reserved ≡ events → pushed ≡ reserved ++ x ∷ [] → marked_of x ≡ record { event = Start me seed; halts = false } → Open now →
+    list_any (has_identifier (identifier me)) (world_of now).peers ≡ false → is_some (running_at (world_of now) (endpoint me)) ≡ false → reports ≡ [] →
+    StoresEvent now (stored_of founding pushed) (Start me seed) reports
+joined_stored now founding events reserved pushed me seed x reports v same push is space fresh free none =
+    subst (λ t. StoresEvent now t (Start me seed) reports) (sym (one_event founding events reserved pushed x now v same push ∙ ap (with_event now) is))
+    (subst (λ (r : List WorldReport). StoresEvent now (with_event now (record { event = Start me seed; halts = false })) (Start me seed) r) (sym none) (start_stored now me seed space fresh free))

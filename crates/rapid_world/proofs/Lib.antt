@@ -1,0 +1,13 @@
+pub mod Others
+pub mod Packets
+pub mod Mails
+pub mod Taking
+pub mod Probing
+pub mod Keeping
+pub mod Doing
+pub mod Cases
+pub mod Holding
+pub mod Giving
+pub mod Running
+pub mod Founders
+pub mod Ids

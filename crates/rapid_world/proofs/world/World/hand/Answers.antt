@@ -1,0 +1,5 @@
+use Rattle.std.proofs.Common.{inl}
+use Rattle.rapid_world.proofs.world.World.hand.Goals as goal
+
+pub returns-in-Err-clause-refused : goal.returns-in-Err-clause-refused
+returns-in-Err-clause-refused c = inl c.requires.does.not_refused

@@ -1,0 +1,67 @@
+-- What becomes of a peer whose node takes an event.
+use Rattle.std.specs.Prelude.{◌≡◌, ℕ, Bool, true, false, List, [], ◌∷◌, flat_map, if◌then◌else◌, Option, Some, None}
+use Rattle.rapid_model.specs.Process.{identifier}
+use Rattle.rapid_model.specs.Node.{Node, Event, Outcome, outputs, configuration_of, member_in, has_installed, halt}
+use Rattle.rapid_model.specs.NodeStep.{node_step}
+use Rattle.rapid_model.specs.Packets.{other_members, packets_of}
+use Rattle.rapid_model.specs.World.{Peer, Packet}
+use Rattle.rapid_model.specs.Edge.{probed}
+use Rattle.rapid_model.specs.WorldStep.{edges_after, edge_on, with_edge}
+use Rattle.rapid_model.specs.Run.{WorldReport, ReportHalted}
+use Rattle.rapid_model.specs.NodeReports.{installed_report}
+use Rattle.rapid_node.specs.declared.fault.NodeFault.{NodeFault}
+use Rattle.rapid_node.specs.declared.fault.NodeFault.TheVariants as fault
+
+-- A peer after its node took an event, what it sent, and what it reports.
+pub record Handed : Type 0 where
+  pub peer : Peer
+  pub packets : List Packet
+  pub reports : List WorldReport
+
+-- Its node halts, and says nothing.
+abbrev pub stopped : Peer → Handed
+stopped p = record { peer = record p { node = halt p.node }; packets = []; reports = ReportHalted (identifier p.node.me) ∷ [] }
+
+-- Its node makes a step.
+abbrev pub went_on : Peer → Outcome → Handed
+went_on p o =
+    record {
+      peer = record p { node = o.node; edges = edges_after p o.node };
+      packets = flat_map (packets_of (other_members (member_in p.node) p.node.me)) (outputs p.node.me o.effects);
+      reports = if has_installed p.node o.node then installed_report p.node (configuration_of o.node) else [];
+    }
+
+-- Its node makes a step, if there is one to make.
+abbrev pub stepped : Peer → Option Outcome → Handed
+stepped p None = stopped p
+stepped p (Some o) = went_on p o
+
+-- Its node takes an event, unless it halts for want of memory.
+unfoldable pub handed : Peer → Event → Bool → Handed
+handed p e halts = if halts then stopped p else stepped p (node_step p.node e)
+
+-- A node keeps its process, and unless it installs something it goes on to show, and to be a member in, the same configuration.
+pub record Keeps (old new : Node) : Type 0 where
+  pub me : new.me ≡ old.me
+  pub shown : has_installed old new ≡ false → configuration_of new ≡ configuration_of old
+  pub member : has_installed old new ≡ false → member_in new ≡ member_in old
+
+-- So it does when it takes an event.
+abbrev pub KeepsAt : Node → Event → Type 0
+KeepsAt n e = (o : Outcome) → node_step n e ≡ Some o → Keeps n o.node
+
+-- The fault is want of memory.
+abbrev pub wants_memory : NodeFault → Bool
+wants_memory fault.Halted = false
+wants_memory fault.OutOfMemory = true
+wants_memory fault.HistoryFull = false
+
+-- A peer with a further result of a probe on a ring; where the edge is down its node is told.
+unfoldable pub told : Peer → ℕ → Bool → Event → Bool → Handed
+told p k ok down halts =
+    if (probed (edge_on p.edges k) ok).is_down then handed (with_edge p k (probed (edge_on p.edges k) ok)) down halts
+    else record { peer = with_edge p k (probed (edge_on p.edges k) ok); packets = []; reports = [] }
+
+-- A peer that crashes.
+abbrev pub crash_of : Peer → Bool → Handed
+crash_of p halts = record { peer = record p { crashed = true }; packets = []; reports = [] }

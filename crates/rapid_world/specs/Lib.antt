@@ -1,0 +1,9 @@
+pub mod Codes
+pub mod Does
+pub mod Events
+pub mod Handed
+pub mod Ready
+pub mod Recipients
+pub mod Sent
+pub mod Windows
+pub mod Worlds

@@ -1,0 +1,27 @@
+-- What was sent, by steps.
+use Rattle.std.specs.Prelude.{◌≡◌, ℕ, ◌+◌, ◌-◌, ◌==◌, List, [], ◌∷◌, length, flat_map, slice_get, if◌then◌else◌, Option, None}
+use Rattle.rapid_model.specs.World.{Packet}
+
+-- What was sent in one step.
+pub record Sent : Type 0 where
+  -- how many packets were sent before it
+  pub first : ℕ
+  pub packets : List Packet
+
+-- The packets of these steps, in order.
+abbrev pub all_packets : List Sent → List Packet
+all_packets ss = flat_map (λ s. s.packets) ss
+
+-- After n packets these steps follow, each of which begins where the one before ends; so many were sent in the end.
+abbrev pub AreNumbered : ℕ → List Sent → ℕ → Type 0
+AreNumbered n [] total = total ≡ n
+AreNumbered n (s ∷ ss) total = (s.first ≡ n) × AreNumbered (n + length s.packets) ss total
+
+-- What a box of packets holds, and for how many further steps it has the room.
+pub record Mailbox : Type 0 where
+  pub packets : List Packet
+  pub room : ℕ
+
+-- The packet of a number, from 1.
+abbrev pub numbered_packet : List Packet → ℕ → Option Packet
+numbered_packet ps k = if k == 0 then None else slice_get ps (k - 1)

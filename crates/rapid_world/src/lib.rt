@@ -1,0 +1,24 @@
+//! A world of many nodes and the packets between them: a deterministic simulator of a whole cluster, on whose every run the
+//! agreement of the service (Rapid, USENIX ATC 2018) holds by contract.
+#![tactic(auto)]
+
+mod error;
+mod event;
+mod founding;
+mod handing;
+mod lookups;
+mod mail;
+mod peer;
+mod recipients;
+mod report;
+mod sending;
+mod steps;
+mod taken;
+mod views;
+mod windows;
+mod world;
+
+pub use error::WorldError;
+pub use event::WorldEvent;
+pub use report::Report;
+pub use world::World;

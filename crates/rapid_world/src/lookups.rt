@@ -1,0 +1,105 @@
+// Nodes by their identifiers and endpoints.
+
+ghost use Rattle.std.specs.Prelude.{◌≡◌, ◌&&◌, ◌++◌, position, map, filter, flat_map, IfOk, OnOk};
+ghost use Rattle.std.specs.List.{list_any, find};
+ghost use Rattle.std.specs.Option.{option_map};
+ghost use Rattle.rapid_model.specs.InOrder.{in_order};
+ghost use Rattle.rapid_model.specs.Process.{bytes_cmp, identifier};
+ghost use Rattle.rapid_model.specs.World.{is_running, has_identifier, has_endpoint};
+ghost use Rattle.rapid_world.specs.Worlds.{running_id};
+
+use crate::peer::Peer;
+use rapid_endpoint::{Endpoint, ProcessId};
+use rapid_node::Node;
+use std::alloc::{AllocError, Global};
+
+/// Whether the peer has the identifier.
+pub(crate) fn is_under(peer: &Peer, id: &ProcessId) -> bool
+    ensures { result ≡ has_identifier id.now peer.now }
+{
+    *id == peer.node().process().id()
+}
+
+/// Whether the peer runs under the identifier.
+fn runs_under(peer: &Peer, id: &ProcessId) -> bool
+    ensures { result ≡ (is_running peer.now && has_identifier id.now peer.now) }
+{
+    peer.is_running() && is_under(peer, id)
+}
+
+/// Whether the peer runs at the endpoint.
+fn runs_at(peer: &Peer, endpoint: &Endpoint) -> bool
+    ensures { result ≡ (is_running peer.now && has_endpoint endpoint.now peer.now) }
+{
+    peer.is_running() && *endpoint == peer.node().process().endpoint()
+}
+
+/// Whether a peer has the identifier.
+pub(crate) fn is_used(peers: &[Peer], id: &ProcessId) -> bool
+    ensures { result ≡ list_any (has_identifier id.now) peers.now }
+{
+    peers.iter().any(|peer| is_under(peer, id))
+}
+
+/// The place of the peer that runs under the identifier.
+pub(crate) fn place_under(peers: &[Peer], id: &ProcessId) -> Option<usize>
+    ensures { result ≡ position (λ p. is_running p && has_identifier id.now p) peers.now }
+{
+    peers.iter().position(|peer| runs_under(peer, id))
+}
+
+/// The place of the peer that runs at the endpoint.
+pub(crate) fn place_at(peers: &[Peer], endpoint: &Endpoint) -> Option<usize>
+    ensures { result ≡ position (λ p. is_running p && has_endpoint endpoint.now p) peers.now }
+{
+    peers.iter().position(|peer| runs_at(peer, endpoint))
+}
+
+/// The node of the first peer that has the identifier.
+pub(crate) fn find_under<'a>(peers: &'a [Peer], id: &ProcessId) -> Option<&'a Node>
+    ensures { option_map (λ n. n.now) result ≡ option_map (λ p. p.node) (find (has_identifier id.now) peers.now) }
+{
+    match peers.iter().find(|peer| is_under(peer, id)) {
+        Some(peer) => Some(peer.node()),
+        None => None,
+    }
+}
+
+/// Appends the identifier of the peer, where it runs.
+fn push_running(ids: &mut Vec<ProcessId>, peer: &Peer) -> Result<(), AllocError>
+    ensures { OnOk result (ids.new.items ≡ ids.old.items ++ running_id peer.now) }
+{
+    if peer.is_running() {
+        ids.push(peer.node().process().id())?;
+    }
+    Ok(())
+}
+
+/// Appends the identifiers of the peers that run, in the order in which they started.
+fn push_all_running(ids: &mut Vec<ProcessId>, peers: &[Peer]) -> Result<(), AllocError>
+    ensures { OnOk result (ids.new.items ≡ ids.old.items ++ flat_map running_id peers.now) }
+{
+    for peer in peers {
+        push_running(ids, peer)?;
+    }
+    Ok(())
+}
+
+/// The same identifiers ascending, each once.
+fn ascending(mut ids: Vec<ProcessId>) -> Vec<ProcessId>
+    ensures { result.items ≡ in_order bytes_cmp ids.items }
+{
+    ids.sort_unstable();
+    ids.dedup();
+    ids
+}
+
+/// The identifiers of the peers that run, ascending.
+#[tactic(auto, using(crate::proofs::Ids::ids_of_running))]
+pub(crate) fn running_ids(alloc: Global, peers: &[Peer]) -> Result<Vec<ProcessId>, AllocError>
+    ensures { IfOk result (λ ids. ids.items ≡ in_order bytes_cmp (map (λ p. identifier p.node.me) (filter is_running peers.now))) }
+{
+    let mut ids = Vec::new(alloc);
+    push_all_running(&mut ids, peers)?;
+    Ok(ascending(ids))
+}

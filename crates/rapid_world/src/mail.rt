@@ -1,0 +1,108 @@
+// All packets that were ever sent.
+
+ghost use Rattle.std.specs.Prelude.{◌≡◌, ◌<◌, ◌-◌, ◌++◌, length, OnOk, vec_len, vec_capacity, nat_lt, ℕ, ◌∷◌, []};
+ghost use Rattle.std.specs.Option.{option_map};
+ghost use Rattle.rapid_model.specs.Packets.{packet_to};
+ghost use Rattle.rapid_world.specs.Sent.{AreNumbered, all_packets, numbered_packet};
+
+use crate::sending::Sending;
+use rapid_endpoint::Endpoint;
+use rapid_node::Message;
+use std::alloc::{AllocError, Global};
+use std::marker::Model;
+
+/// All packets that were ever sent, by the steps in which they were. They are numbered from 1 in the order sent.
+#[derive(Debug, Drop)]
+pub(crate) struct Mail {
+    sendings: Vec<Sending>,
+    // how many packets there are
+    sent: u64,
+}
+
+impl Model for Mail {
+    ghost use Rattle.std.specs.Prelude.{◌-◌, vec_len, vec_capacity};
+    ghost use Rattle.rapid_world.specs.Sent.{Mailbox, all_packets, AreNumbered};
+
+    ghost Value = { Mailbox };
+
+    ghost view = { λ m. record { packets = all_packets m.sendings.items; room = vec_capacity m.sendings - vec_len m.sendings } };
+
+    ghost invariant = { λ m. AreNumbered 0 m.sendings.items m.sent };
+}
+
+/// Puts an element behind the others, for which there is room.
+pub(crate) fn push_within<T: Drop>(elements: &mut Vec<T>, element: T)
+    requires { vec_len elements.old < vec_capacity elements.old }
+    ensures { elements.new.items ≡ elements.old.items ++ element ∷ [] }
+{
+    match elements.push(element) {
+        Ok(()) => {}
+        Err(_) => unreachable!(),
+    }
+}
+
+/// Whether fewer packets were sent before the step than up to one with this number.
+fn is_before(sending: &Sending, number: u64) -> bool
+    ensures { result ≡ nat_lt sending.now.first number }
+{
+    sending.first() < number
+}
+
+impl Mail {
+    /// No packets.
+    pub(crate) fn new(alloc: Global) -> Mail
+        ensures { result.packets ≡ [] }
+    {
+        Mail {
+            sendings: Vec::new(alloc),
+            sent: 0,
+        }
+    }
+
+    /// How many packets were sent.
+    #[tactic(auto, using(crate::proofs::Mails::sent_are))]
+    pub(crate) fn sent(&self) -> u64
+        ensures { result ≡ length self.now.packets }
+    {
+        self.sent
+    }
+
+    /// Makes room for what one further step sends.
+    pub(crate) fn reserve(&mut self) -> Result<(), AllocError>
+        ensures packets { self.new.packets ≡ self.old.packets }
+        ensures room { OnOk result (0 < self.new.room) }
+    {
+        self.sendings.reserve(1)
+    }
+
+    /// Puts what one step sent behind the others.
+    #[tactic(auto, using(crate::proofs::Mails::posted, crate::proofs::Mails::numbered))]
+    pub(crate) fn post(&mut self, sending: Sending)
+        requires room { 0 < self.old.room }
+        requires next { sending.first ≡ length self.old.packets }
+        ensures { self.new.packets ≡ self.old.packets ++ sending.packets }
+    {
+        self.sent = sending.end();
+        push_within(&mut self.sendings, sending);
+    }
+
+    /// The packet with a number: where it goes, and its message.
+    pub(crate) fn packet(&self, number: u64) -> Option<(Endpoint, &Message)>
+        ensures { option_map (λ x. packet_to x.1.now x.0) result ≡ numbered_packet self.now.packets number }
+    {
+        find_numbered(self.sendings.as_slice(), number)
+    }
+}
+
+/// The packet with a number, in steps that are numbered from 1.
+fn find_numbered(sendings: &[Sending], number: u64) -> Option<(Endpoint, &Message)>
+    requires { (total : ℕ) × AreNumbered 0 sendings.now total }
+    ensures { option_map (λ x. packet_to x.1.now x.0) result ≡ numbered_packet (all_packets sendings.now) number }
+{
+    let after = sendings.partition_point(|sending| is_before(sending, number));
+    let Some(last) = after.checked_sub(1) else {
+        return None;
+    };
+    let sending = &sendings[last];
+    sending.packet(number - 1 - sending.first())
+}

@@ -1,0 +1,132 @@
+// What a node sent in one step.
+
+ghost use Rattle.std.specs.Prelude.{◌≡◌, ℕ, flat_map, length, slice_get, ◌+◌, IfSome};
+ghost use Rattle.std.specs.Option.{option_map};
+ghost use Rattle.rapid_model.specs.Packets.{packets_of, packet_to};
+
+use crate::recipients::Recipients;
+use rapid_endpoint::Endpoint;
+use rapid_node::{Destination, Message, Output, Outputs};
+use std::marker::Model;
+
+/// What a node sent in one step, as the step gave it out: a message to many is kept once.
+#[derive(Debug, Drop)]
+pub(crate) struct Sending {
+    // how many packets were sent before
+    first: u64,
+    // how many these are
+    count: u64,
+    recipients: Recipients,
+    outputs: Outputs,
+}
+
+impl Model for Sending {
+    ghost use Rattle.std.specs.Prelude.{◌≡◌, ◌+◌, ◌<◌, ◌^◌, flat_map, length};
+    ghost use Rattle.rapid_model.specs.Packets.{packets_of};
+    ghost use Rattle.rapid_world.specs.Sent.{Sent};
+
+    ghost Value = { Sent };
+
+    ghost view = { λ s. record { first = s.first; packets = flat_map (packets_of s.recipients) s.outputs.items } };
+
+    ghost invariant = { λ s. (s.count ≡ length (flat_map (packets_of s.recipients) s.outputs.items)) × (s.first + s.count < 2 ^ 64) };
+}
+
+/// How many packets an output makes.
+#[tactic(auto, using(crate::proofs::Packets::count_of))]
+fn count_of(output: &Output, recipients: &Recipients) -> u64
+    ensures { result ≡ length (packets_of recipients.now output.now) }
+{
+    match output.to() {
+        Destination::To(_) => 1,
+        Destination::Others => recipients.len() as u64,
+    }
+}
+
+/// How many packets these outputs make; none where they are too many for a number.
+#[tactic(auto, using(crate::proofs::Packets::count_more))]
+fn count_all(outputs: &[Output], recipients: &Recipients) -> Option<u64>
+    ensures { IfSome result (λ count. count ≡ length (flat_map (packets_of recipients.now) outputs.now)) }
+{
+    let mut count: u64 = 0;
+    for output in outputs {
+        count = count.checked_add(count_of(output, recipients))?;
+    }
+    Some(count)
+}
+
+/// The packet of an output at a place among those that it makes: where it goes, and its message.
+#[tactic(auto, using(crate::proofs::Packets::to_others, crate::proofs::Packets::to_one))]
+fn packet_at<'a>(
+    output: &'a Output,
+    recipients: &Recipients,
+    place: u64,
+) -> Option<(Endpoint, &'a Message)>
+    ensures { option_map (λ x. packet_to x.1.now x.0) result ≡ slice_get (packets_of recipients.now output.now) place }
+{
+    match output.to() {
+        Destination::To(endpoint) if place == 0 => Some((endpoint, output.message())),
+        Destination::To(_) => None,
+        Destination::Others => match recipients.get(place as usize) {
+            Some(recipient) => Some((recipient.endpoint(), output.message())),
+            None => None,
+        },
+    }
+}
+
+/// The packet at a place among those that these outputs make.
+#[tactic(auto, using(crate::proofs::Packets::passes, crate::proofs::Packets::stops, crate::proofs::Packets::none_left))]
+fn find_packet<'a>(
+    outputs: &'a [Output],
+    recipients: &Recipients,
+    place: u64,
+) -> Option<(Endpoint, &'a Message)>
+    ensures { option_map (λ x. packet_to x.1.now x.0) result ≡ slice_get (flat_map (packets_of recipients.now) outputs.now) place }
+{
+    let mut rest = place;
+    for output in outputs {
+        let count = count_of(output, recipients);
+        if rest < count {
+            return packet_at(output, recipients, rest);
+        }
+        rest -= count;
+    }
+    None
+}
+
+impl Sending {
+    /// What was sent in a step, after so many packets; none where there are too many for a number.
+    pub(crate) fn new(first: u64, recipients: Recipients, outputs: Outputs) -> Option<Sending>
+        ensures { IfSome result (λ s. s ≡ record { first = first; packets = flat_map (packets_of recipients) outputs.items }) }
+    {
+        let count = count_all(outputs.as_slice(), &recipients)?;
+        first.checked_add(count)?;
+        Some(Sending {
+            first,
+            count,
+            recipients,
+            outputs,
+        })
+    }
+
+    /// How many packets were sent before.
+    pub(crate) fn first(&self) -> u64
+        ensures { result ≡ self.now.first }
+    {
+        self.first
+    }
+
+    /// How many packets were sent with these.
+    pub(crate) fn end(&self) -> u64
+        ensures { result ≡ self.now.first + length self.now.packets }
+    {
+        self.first + self.count
+    }
+
+    /// The packet at a place among these: where it goes, and its message.
+    pub(crate) fn packet(&self, place: u64) -> Option<(Endpoint, &Message)>
+        ensures { option_map (λ x. packet_to x.1.now x.0) result ≡ slice_get self.now.packets place }
+    {
+        find_packet(self.outputs.as_slice(), &self.recipients, place)
+    }
+}

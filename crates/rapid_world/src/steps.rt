@@ -1,0 +1,260 @@
+// The steps of a world, by event.
+
+ghost use Rattle.std.specs.Prelude.{◌≡◌, ◌++◌, ◌∷◌, [], ℕ, suc, List, if◌then◌else◌, true, false, is_some, nat_lt, map, length, IfOk, IfErr, OnErr, Some, None};
+ghost use Rattle.std.specs.Option.{option_map};
+ghost use Rattle.rapid_model.specs.Agreement.{NoCollision};
+ghost use Rattle.rapid_model.specs.Node.{EdgeDown, Receive};
+ghost use Rattle.rapid_model.specs.Packets.{packet_to};
+ghost use Rattle.rapid_model.specs.RunHolds.{RunHolds};
+ghost use Rattle.rapid_model.specs.StoredWorld.{StoredWorld, StoresEvent, RunsTo, world_of, accepted, event_refusal};
+ghost use Rattle.rapid_model.specs.World as model;
+ghost use Rattle.rapid_model.specs.World.{Peer};
+ghost use Rattle.rapid_node.specs.Steps.{event_of as taken_of};
+ghost use Rattle.rapid_world.specs.Does.{Hands, Probes};
+ghost use Rattle.rapid_world.specs.Events.{event_of, report_of, Refuses};
+
+use crate::lookups::{is_used, place_at, place_under};
+use crate::report::Report;
+use crate::{World, WorldError, WorldEvent};
+use rapid_config::ConfigId;
+use rapid_endpoint::{Endpoint, Process, ProcessId};
+use rapid_node::{Event, Message};
+use std::alloc::AllocError;
+use std::mem;
+
+/// How many events a world accepts at most.
+const MOST_EVENTS: usize = 1_000_000;
+
+impl World {
+    /// The place of the node that runs under an identifier.
+    pub(crate) fn running_under(&self, id: &ProcessId) -> Option<usize>
+        ensures { result ≡ model.running_under (world_of self.now) id.now }
+    {
+        place_under(self.peers(), id)
+    }
+
+    /// The place of the node that runs at an endpoint.
+    pub(crate) fn running_at(&self, endpoint: Endpoint) -> Option<usize>
+        ensures { result ≡ model.running_at (world_of self.now) endpoint }
+    {
+        place_at(self.peers(), &endpoint)
+    }
+
+    /// The node at a place takes another event by this one.
+    fn hand(
+        &mut self,
+        event: WorldEvent,
+        place: usize,
+        taken: &Event,
+    ) -> Result<Vec<Report>, WorldError>
+        requires { Hands self.old (event_of event) place (taken_of taken.now) }
+        ensures stored { IfOk result (λ reports. StoresEvent self.old self.new (event_of event) (map report_of reports.items)) }
+        ensures refused { IfErr result (Refuses (event_refusal self.old (event_of event))) }
+        ensures unchanged { OnErr result (self.new ≡ self.old) }
+    {
+        match self.give(event, place, taken) {
+            Ok(reports) => Ok(reports),
+            Err(AllocError) => Err(WorldError::OutOfMemory),
+        }
+    }
+
+    /// The clock of a node ticks.
+    fn tick(&mut self, id: ProcessId) -> Result<Vec<Report>, WorldError>
+        requires { nat_lt (accepted self.old) 1000000 ≡ true }
+        ensures stored { IfOk result (λ reports. StoresEvent self.old self.new (model.Tick id) (map report_of reports.items)) }
+        ensures refused { IfErr result (Refuses (event_refusal self.old (model.Tick id))) }
+        ensures unchanged { OnErr result (self.new ≡ self.old) }
+    {
+        self.tell();
+        match self.running_under(&id) {
+            Some(place) => self.hand(WorldEvent::Tick(id), place, &Event::Tick),
+            None => Err(WorldError::NoSuchNode),
+        }
+    }
+
+    /// The packet with a number: where it goes, and its message.
+    pub(crate) fn letter(&self, number: u64) -> Option<(Endpoint, &Message)>
+        ensures { option_map (λ x. packet_to x.1.now x.0) result ≡ model.packet (world_of self.now) number }
+    {
+        self.mail().packet(number)
+    }
+
+    /// The place of the node to which a packet comes, and its message.
+    fn arrival(&self, number: u64) -> Result<(usize, Message), WorldError>
+        requires { nat_lt (accepted self.now) 1000000 ≡ true }
+        ensures hands { IfOk result (λ x. Hands self.now (model.Deliver number) x.0 (Receive x.1)) }
+        ensures refused { IfErr result (Refuses (event_refusal self.now (model.Deliver number))) }
+    {
+        self.tell();
+        match self.letter(number) {
+            Some(letter) => match self.running_at(letter.0) {
+                Some(place) => match letter.1.try_copy(self.alloc()) {
+                    Ok(copy) => Ok((place, copy)),
+                    Err(AllocError) => Err(WorldError::OutOfMemory),
+                },
+                None => Err(WorldError::NoSuchNode),
+            },
+            None => Err(WorldError::NoSuchPacket),
+        }
+    }
+
+    /// A packet comes to the node at its endpoint.
+    fn deliver(&mut self, number: u64) -> Result<Vec<Report>, WorldError>
+        requires { nat_lt (accepted self.old) 1000000 ≡ true }
+        ensures stored { IfOk result (λ reports. StoresEvent self.old self.new (model.Deliver number) (map report_of reports.items)) }
+        ensures refused { IfErr result (Refuses (event_refusal self.old (model.Deliver number))) }
+        ensures unchanged { OnErr result (self.new ≡ self.old) }
+    {
+        match self.arrival(number) {
+            Ok((place, message)) => {
+                self.hand(WorldEvent::Deliver(number), place, &Event::Receive(message))
+            }
+            Err(error) => Err(error),
+        }
+    }
+
+    /// A node crashes.
+    fn crash(&mut self, id: ProcessId) -> Result<Vec<Report>, WorldError>
+        requires { nat_lt (accepted self.old) 1000000 ≡ true }
+        ensures stored { IfOk result (λ reports. StoresEvent self.old self.new (model.Crash id) (map report_of reports.items)) }
+        ensures refused { IfErr result (Refuses (event_refusal self.old (model.Crash id))) }
+        ensures unchanged { OnErr result (self.new ≡ self.old) }
+    {
+        match self.running_under(&id) {
+            Some(place) => match self.crash_at(WorldEvent::Crash(id), place) {
+                Ok(reports) => Ok(reports),
+                Err(AllocError) => Err(WorldError::OutOfMemory),
+            },
+            None => Err(WorldError::NoSuchNode),
+        }
+    }
+
+    /// A process starts to join by the seed at an endpoint.
+    fn start(&mut self, process: Process, seed: Endpoint) -> Result<Vec<Report>, WorldError>
+        requires { nat_lt (accepted self.old) 1000000 ≡ true }
+        ensures stored { IfOk result (λ reports. StoresEvent self.old self.new (model.Start process seed) (map report_of reports.items)) }
+        ensures refused { IfErr result (Refuses (event_refusal self.old (model.Start process seed))) }
+        ensures unchanged { OnErr result (self.new ≡ self.old) }
+    {
+        if is_used(self.peers(), &process.id()) {
+            return Err(WorldError::IdentifierUsed);
+        }
+        if self.running_at(process.endpoint()).is_some() {
+            return Err(WorldError::EndpointBusy);
+        }
+        match self.join(process, seed) {
+            Ok(reports) => Ok(reports),
+            Err(AllocError) => Err(WorldError::OutOfMemory),
+        }
+    }
+
+    /// The place of the node that runs under an identifier, and its edge on a ring: the identifier of the configuration, and
+    /// the member that it observes.
+    fn edge(
+        &self,
+        id: &ProcessId,
+        ring: u8,
+        ok: bool,
+    ) -> Result<(usize, ConfigId, Process), WorldError>
+        requires { nat_lt (accepted self.now) 1000000 ≡ true }
+        ensures probes { IfOk result (λ x. (p : Peer) × Probes self.now (model.Probe id.now ring ok) x.0 p ring ok (EdgeDown x.1 ring x.2)) }
+        ensures refused { IfErr result (Refuses (event_refusal self.now (model.Probe id.now ring ok))) }
+    {
+        self.tell();
+        match self.running_under(id) {
+            Some(place) => match self.peers()[place].observed(ring) {
+                Ok(Some((config, subject))) => Ok((place, config, subject)),
+                Ok(None) => Err(WorldError::NotObserved),
+                Err(AllocError) => Err(WorldError::OutOfMemory),
+            },
+            None => Err(WorldError::NoSuchNode),
+        }
+    }
+
+    /// A node has a result of a probe of whom it observes on a ring.
+    fn probe(&mut self, id: ProcessId, ring: u8, ok: bool) -> Result<Vec<Report>, WorldError>
+        requires { nat_lt (accepted self.old) 1000000 ≡ true }
+        ensures stored { IfOk result (λ reports. StoresEvent self.old self.new (model.Probe id ring ok) (map report_of reports.items)) }
+        ensures refused { IfErr result (Refuses (event_refusal self.old (model.Probe id ring ok))) }
+        ensures unchanged { OnErr result (self.new ≡ self.old) }
+    {
+        match self.edge(&id, ring, ok) {
+            Ok((place, config, subject)) => {
+                let event = WorldEvent::Probe(id, ring, ok);
+                match self.probe_at(event, place, ring, ok, config, subject) {
+                    Ok(reports) => Ok(reports),
+                    Err(AllocError) => Err(WorldError::OutOfMemory),
+                }
+            }
+            Err(error) => Err(error),
+        }
+    }
+
+    /// One step by an event, and what it reports. A node that halts in it, for want of memory or room for a further view, is no
+    /// error: the event is accepted.
+    ///
+    /// # Errors
+    ///
+    /// `EventsFull` where 1,000,000 events were accepted, which is tested first. At a start `IdentifierUsed` where a node
+    /// ever had the identifier, then `EndpointBusy` where one runs at the endpoint. `NoSuchNode` where none runs under the
+    /// identifier, or at the endpoint of the packet; before the latter `NoSuchPacket` where none with the number was sent.
+    /// `NotObserved` where the node observes nobody on the ring. `OutOfMemory` where the world itself has no memory for the
+    /// event, or to see whom the node observes. Each leaves the world as it was.
+    pub fn step(&mut self, event: &WorldEvent) -> Result<Vec<Report>, WorldError>
+        ensures stored { IfOk result (λ reports. StoresEvent self.old self.new (event_of event.now) (map report_of reports.items)) }
+        ensures refused { IfErr result (Refuses (event_refusal self.old (event_of event.now))) }
+        ensures unchanged { OnErr result (self.new ≡ self.old) }
+        ensures holds { NoCollision (world_of self.new) → RunHolds (world_of self.new) }
+    {
+        let result = self.accept(event);
+        self.tell();
+        result
+    }
+
+    /// One step by an event.
+    #[tactic(auto, using(crate::proofs::Cases::full))]
+    fn accept(&mut self, event: &WorldEvent) -> Result<Vec<Report>, WorldError>
+        ensures stored { IfOk result (λ reports. StoresEvent self.old self.new (event_of event.now) (map report_of reports.items)) }
+        ensures refused { IfErr result (Refuses (event_refusal self.old (event_of event.now))) }
+        ensures unchanged { OnErr result (self.new ≡ self.old) }
+    {
+        if self.accepted() >= MOST_EVENTS {
+            return Err(WorldError::EventsFull);
+        }
+        match *event {
+            WorldEvent::Start(process, seed) => self.start(process, seed),
+            WorldEvent::Probe(id, ring, ok) => self.probe(id, ring, ok),
+            WorldEvent::Tick(id) => self.tick(id),
+            WorldEvent::Deliver(number) => self.deliver(number),
+            WorldEvent::Crash(id) => self.crash(id),
+        }
+    }
+
+    /// Steps by an event, and says whether it was accepted.
+    fn try_step(&mut self, event: &WorldEvent) -> bool
+        ensures { (s : StoredWorld) (es : List model.WorldEvent) (n : ℕ) → RunsTo s es n self.old → RunsTo s (es ++ event_of event.now ∷ []) (if result then suc n else n) self.new }
+    {
+        match self.step(event) {
+            Ok(reports) => {
+                mem::drop(reports);
+                true
+            }
+            Err(_) => false,
+        }
+    }
+
+    /// Steps by these events in order, and says how many were accepted. The others are passed over: each changes nothing.
+    pub fn run(&mut self, events: &[WorldEvent]) -> usize
+        ensures run { RunsTo self.old (map event_of events.now) result self.new }
+        ensures holds { NoCollision (world_of self.new) → RunHolds (world_of self.new) }
+    {
+        let mut accepted = 0;
+        for event in events {
+            if self.try_step(event) {
+                accepted += 1;
+            }
+        }
+        self.tell();
+        accepted
+    }
+}

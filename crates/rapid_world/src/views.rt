@@ -1,0 +1,72 @@
+// What a world shows.
+
+ghost use Rattle.std.specs.Prelude.{◌≡◌, length, slice_get, IfOk};
+ghost use Rattle.std.specs.List.{find};
+ghost use Rattle.std.specs.Option.{option_map};
+ghost use Rattle.rapid_model.specs.StoredWorld.{world_of};
+ghost use Rattle.rapid_model.specs.World as model;
+ghost use Rattle.rapid_world.specs.Events.{marked_of};
+ghost use Rattle.rapid_world.specs.Worlds.{observed_by};
+
+use crate::lookups::{find_under, running_ids};
+use crate::{World, WorldEvent};
+use rapid_endpoint::{Process, ProcessId};
+use rapid_node::Node;
+use std::alloc::AllocError;
+
+impl World {
+    /// An event that it accepted, from 0 in order, and whether its node halted in it for want of memory.
+    pub fn event(&self, i: usize) -> Option<(WorldEvent, bool)>
+        ensures { option_map marked_of result ≡ slice_get self.now.events i }
+    {
+        event_at(self.events(), i)
+    }
+
+    /// The node of a founder, or of a process that was started, as it stands or as it ended.
+    pub fn node(&self, id: &ProcessId) -> Option<&Node>
+        ensures { option_map (λ node. node.now) result ≡ model.node_of (world_of self.now) id.now }
+    {
+        find_under(self.peers(), id)
+    }
+
+    /// The identifiers of all nodes that run, ascending: they were not made to crash, and have not halted.
+    pub fn running(&self) -> Result<Vec<ProcessId>, AllocError>
+        ensures { IfOk result (λ ids. ids.items ≡ model.running (world_of self.now)) }
+    {
+        running_ids(self.alloc(), self.peers())
+    }
+
+    /// How many packets were sent so far.
+    pub fn packets(&self) -> u64
+        ensures { result ≡ length (world_of self.now).packets }
+    {
+        self.mail().sent()
+    }
+
+    /// Whether the packet with this number, from 1, was sent, and a node runs at its endpoint.
+    pub fn can_deliver(&self, packet: u64) -> bool
+        ensures { result ≡ model.can_deliver (world_of self.now) packet }
+    {
+        match self.letter(packet) {
+            Some(letter) => self.running_at(letter.0).is_some(),
+            None => false,
+        }
+    }
+
+    /// The member that a node observes on a ring, from 0; none where no node runs under the identifier, or it observes nobody.
+    pub fn observed(&self, id: &ProcessId, ring: u8) -> Result<Option<Process>, AllocError>
+        ensures { IfOk result (λ subject. subject ≡ observed_by (world_of self.now) id.now ring) }
+    {
+        match self.running_under(id) {
+            Some(place) => self.peers()[place].node().observed(ring),
+            None => Ok(None),
+        }
+    }
+}
+
+/// An event with its mark.
+fn event_at(events: &[(WorldEvent, bool)], i: usize) -> Option<(WorldEvent, bool)>
+    ensures { result ≡ slice_get events.now i }
+{
+    events.get(i).copied()
+}

@@ -1,0 +1,227 @@
+// A world of many nodes.
+
+ghost use Rattle.std.specs.Prelude.{◌≡◌, ◌≤◌, ◌<◌, ◌++◌, [], ℕ, vec_len, vec_capacity, true, false, is_some, nat_lt, length, map, slice_get, IfOk, IfErr, IfSome, OnErr, List, Bool, Option, Some, None};
+ghost use Rattle.std.specs.List.{list_any};
+ghost use Rattle.std.specs.Option.{option_map, option_to_list};
+ghost use Rattle.rapid_model.specs.Agreement.{NoCollision};
+ghost use Rattle.rapid_model.specs.Configuration.{AreParams, AreMembers, configuration_id};
+ghost use Rattle.rapid_model.specs.Process.{Process as ModelProcess, identifier, endpoint};
+ghost use Rattle.rapid_model.specs.Packets.{packet_to};
+ghost use Rattle.rapid_model.specs.RunHolds.{RunHolds};
+ghost use Rattle.rapid_model.specs.StoredWorld.{StoresEvent, new_world, world_of, accepted, event_refusal};
+ghost use Rattle.rapid_model.specs.World as model;
+ghost use Rattle.rapid_world.specs.Events.{event_of, marked_of, report_of, Refuses};
+ghost use Rattle.rapid_node.specs.Steps.{event_of as taken_of};
+ghost use Rattle.rapid_model.specs.Node.{EdgeDown};
+ghost use Rattle.rapid_model.specs.World.{Peer as ModelPeer};
+ghost use Rattle.rapid_world.specs.Does.{Does, Hands, Probes};
+ghost use Rattle.rapid_world.specs.Handed.{crash_of};
+ghost use Rattle.rapid_world.specs.Worlds.{IsRunOf};
+
+use crate::handing::{hand, probe};
+use crate::lookups::{is_used, place_at, place_under};
+use crate::mail::{Mail, push_within};
+use crate::peer::Peer;
+use crate::report::Report;
+use crate::{WorldError, WorldEvent};
+use rapid_config::{ConfigId, Configuration};
+use rapid_endpoint::{Endpoint, Process, ProcessId};
+use rapid_node::{Event, Message};
+use rapid_safety::runs_hold;
+use std::alloc::{AllocError, Global};
+use std::marker::Model;
+
+/// How many events a world accepts at most.
+const MOST_EVENTS: usize = 1_000_000;
+
+/// A world of many nodes and the packets between them, which runs by events. Its value is how it was founded and the events
+/// that it accepted, each with the mark whether its node halted in it for want of memory.
+#[derive(Drop)]
+pub struct World {
+    founding: Configuration,
+    // all events that it accepted, with their marks
+    events: Vec<(WorldEvent, bool)>,
+    // all that ever started, in order
+    peers: Vec<Peer>,
+    mail: Mail,
+    alloc: Global,
+}
+
+impl Model for World {
+    ghost use Rattle.std.specs.Prelude.{map};
+    ghost use Rattle.rapid_model.specs.StoredWorld.{StoredWorld};
+    ghost use Rattle.rapid_world.specs.Codes.{stored_code};
+
+    ghost Value = { StoredWorld };
+
+    ghost coded = { stored_code };
+
+    ghost use Rattle.rapid_world.specs.Events.{marked_of};
+    ghost use Rattle.rapid_world.specs.Worlds.{IsRunOf};
+
+    ghost view = { λ w. record { founding = w.founding; events = map marked_of w.events.items } };
+
+    ghost invariant = { λ w. IsRunOf (record { founding = w.founding; events = map marked_of w.events.items }) w.peers.items w.mail.packets };
+}
+
+impl World {
+    /// The world of these parts.
+    pub(crate) fn of(alloc: Global, founding: Configuration, peers: Vec<Peer>) -> World
+        requires { IsRunOf (new_world founding) peers.items [] }
+        ensures { result ≡ new_world founding }
+    {
+        World {
+            founding,
+            events: Vec::new(alloc),
+            peers,
+            mail: Mail::new(alloc),
+            alloc,
+        }
+    }
+
+    /// What is promised of each world: its founders can be founders, and where no two different configurations that nodes
+    /// installed share an identifier, all that holds of runs holds of its run. It does nothing: what it ensures is for proofs.
+    #[tactic(auto, using(crate::proofs::Holding::run_holds))]
+    pub fn tell(&self)
+        ensures params { AreParams self.now.founding.params }
+        ensures members { AreMembers self.now.founding.members }
+        ensures holds { NoCollision (world_of self.now) → RunHolds (world_of self.now) }
+    {
+        let _ = &self.founding;
+        runs_hold();
+    }
+
+    /// All that ever started, in order.
+    pub(crate) fn peers(&self) -> &[Peer]
+        ensures { result.now ≡ (world_of self.now).peers }
+    {
+        self.peers.as_slice()
+    }
+
+    /// All packets.
+    pub(crate) fn mail(&self) -> &Mail
+        ensures { result.now.packets ≡ (world_of self.now).packets }
+    {
+        &self.mail
+    }
+
+    /// The events that it accepted, with their marks.
+    pub(crate) fn events(&self) -> &[(WorldEvent, bool)]
+        ensures { map marked_of result.now ≡ self.now.events }
+    {
+        self.events.as_slice()
+    }
+
+    /// How it was founded.
+    pub fn founding(&self) -> &Configuration
+        ensures { result.now ≡ self.now.founding }
+    {
+        &self.founding
+    }
+
+    /// Where it takes memory from.
+    pub(crate) fn alloc(&self) -> Global {
+        self.alloc
+    }
+
+    /// How many events it accepted.
+    pub fn accepted(&self) -> usize
+        ensures { result ≡ accepted self.now }
+    {
+        self.events.len()
+    }
+
+    /// The node at a place takes another event by this one, which is stored with its mark.
+    pub(crate) fn give(
+        &mut self,
+        event: WorldEvent,
+        place: usize,
+        taken: &Event,
+    ) -> Result<Vec<Report>, AllocError>
+        requires { Hands self.old (event_of event) place (taken_of taken.now) }
+        ensures stored { IfOk result (λ reports. StoresEvent self.old self.new (event_of event) (map report_of reports.items)) }
+        ensures unchanged { OnErr result (self.new ≡ self.old) }
+    {
+        self.events.reserve(1)?;
+        let reports = Vec::with_capacity(self.alloc, 1)?;
+        let told = hand(self.alloc, &mut self.peers[place], &mut self.mail, taken)?;
+        push_within(&mut self.events, (event, told.halts));
+        Ok(with_report(reports, told.report))
+    }
+
+    /// The node at a place crashes by this event, which is stored.
+    pub(crate) fn crash_at(
+        &mut self,
+        event: WorldEvent,
+        place: usize,
+    ) -> Result<Vec<Report>, AllocError>
+        requires { (p : ModelPeer) × Does self.old (event_of event) place p (crash_of p) }
+        ensures stored { IfOk result (λ reports. StoresEvent self.old self.new (event_of event) (map report_of reports.items)) }
+        ensures unchanged { OnErr result (self.new ≡ self.old) }
+    {
+        self.events.reserve(1)?;
+        self.peers[place].crash();
+        push_within(&mut self.events, (event, false));
+        Ok(Vec::new(self.alloc))
+    }
+
+    /// The process starts to join by the seed at an endpoint, and this event is stored.
+    pub(crate) fn join(
+        &mut self,
+        process: Process,
+        seed: Endpoint,
+    ) -> Result<Vec<Report>, AllocError>
+        requires open { nat_lt (accepted self.old) 1000000 ≡ true }
+        requires unused { list_any (model.has_identifier (identifier process)) (world_of self.old).peers ≡ false }
+        requires free { is_some (model.running_at (world_of self.old) (endpoint process)) ≡ false }
+        ensures stored { IfOk result (λ reports. StoresEvent self.old self.new (model.Start process seed) (map report_of reports.items)) }
+        ensures unchanged { OnErr result (self.new ≡ self.old) }
+    {
+        self.events.reserve(1)?;
+        self.peers.reserve(1)?;
+        let peer = Peer::joiner(self.alloc, process, seed)?;
+        push_within(&mut self.peers, peer);
+        push_within(&mut self.events, (WorldEvent::Start(process, seed), false));
+        Ok(Vec::new(self.alloc))
+    }
+
+    /// The node at a place has a result of a probe of its edge to a process by this event, which is stored with its mark.
+    pub(crate) fn probe_at(
+        &mut self,
+        event: WorldEvent,
+        place: usize,
+        ring: u8,
+        ok: bool,
+        config: ConfigId,
+        subject: Process,
+    ) -> Result<Vec<Report>, AllocError>
+        requires { (p : ModelPeer) × Probes self.old (event_of event) place p ring ok (EdgeDown config ring subject) }
+        ensures stored { IfOk result (λ reports. StoresEvent self.old self.new (event_of event) (map report_of reports.items)) }
+        ensures unchanged { OnErr result (self.new ≡ self.old) }
+    {
+        self.events.reserve(1)?;
+        let reports = Vec::with_capacity(self.alloc, 1)?;
+        let told = probe(
+            self.alloc,
+            &mut self.peers[place],
+            &mut self.mail,
+            ring,
+            ok,
+            config,
+            subject,
+        )?;
+        push_within(&mut self.events, (event, told.halts));
+        Ok(with_report(reports, told.report))
+    }
+}
+
+/// The reports with one more, if there is one.
+fn with_report(mut reports: Vec<Report>, report: Option<Report>) -> Vec<Report>
+    requires { vec_len reports < vec_capacity reports }
+    ensures { result.items ≡ reports.items ++ option_to_list report }
+{
+    if let Some(report) = report {
+        push_within(&mut reports, report);
+    }
+    reports
+}
