@@ -1,4 +1,1 @@
-pub mod Endings
-pub mod Spelling
-pub mod Splitting
-pub mod Streams
+pub mod Fronts

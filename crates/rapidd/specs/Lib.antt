@@ -1,9 +1,2 @@
-pub mod Commands
-pub mod Endings
-pub mod Front
-pub mod Phases
-pub mod Replies
-pub mod Spelled
+pub mod Jobs
 pub mod Statuses
-pub mod Underway
-pub mod TooLong

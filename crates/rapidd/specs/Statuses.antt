@@ -1,7 +1,7 @@
 -- The statuses of the program.
 use Rattle.std.specs.Prelude.{ℕ, Result, Ok, Err}
-use Rattle.rapidd.specs.declared.fault.RunFault.{RunFault}
-use Rattle.rapidd.specs.declared.fault.RunFault.TheVariants.{Read, Write, OutOfMemory}
+use Rattle.rapid_text.specs.declared.fault.RunFault.{RunFault}
+use Rattle.rapid_text.specs.declared.fault.RunFault.TheVariants.{Read, Write, OutOfMemory}
 
 -- The status of a run over an input: 0 at its end, 1 where standard input or output failed, 3 for want of memory.
 abbrev pub run_status : Result (Unit {0}) RunFault → ℕ

@@ -1,15 +1,8 @@
-//! The program of the membership service: `rapidd detect` reads who observes whom and alerts, and
-//! prints the cuts that they make (Rapid, USENIX ATC 2018).
+//! The program of the membership service (Rapid, USENIX ATC 2018): `rapidd detect` reads who observes
+//! whom and alerts, and prints the cuts that they make; `rapidd sim` drives a simulated cluster, and
+//! prints its views.
 #![tactic(auto)]
 
-mod command;
-mod detect;
-mod engine;
-mod fault;
-mod line;
-mod line_buffer;
-mod reply;
-mod stream;
 mod words;
 
 use std::process::ExitCode;

@@ -1,15 +1,15 @@
 //! The command line.
 
-ghost use Rattle.std.specs.Prelude.{◌≡◌, ◌≢◌, ◌≤◌, ◌⊎◌, IfSome};
-ghost use Rattle.std.specs.Io.KnownBytes.{Appends};
+ghost use Rattle.std.specs.Prelude.{◌≡◌, ◌≢◌, ◌≤◌, ◌<◌, ◌⊎◌, OnOk, OnErr};
 ghost use Rattle.clap.specs.Words.{kind_of};
-ghost use Rattle.rapid_model.specs.DetectText.{detect_text};
+ghost use Rattle.rapidd.specs.Jobs.{Wrote, WroteFront};
 ghost use Rattle.rapidd.specs.Statuses.{run_status};
 
-use crate::detect::run_detect;
-use crate::fault::RunFault;
 use clap::error::ErrorKind;
 use clap::{ArgMatches, Command, Error};
+use rapid_detect::run_detect;
+use rapid_sim::run_sim;
+use rapid_text::RunFault;
 use std::alloc::{AllocError, Global};
 use std::convert::AsStr;
 use std::io;
@@ -33,7 +33,7 @@ const STATUSES: &str =
 2 where the words were refused, 3 for want of memory.";
 
 /// What `detect --help` says of the lines.
-const LINES: &str = "Lines:
+const DETECT_LINES: &str = "Lines:
   watermarks K H L               once, before all others; numbers from 0 to 255
   joiner N                       process N is no member; all others are
   edge RING OBSERVER SUBJECT     an edge of the table of observers
@@ -46,18 +46,51 @@ refused prints its reason and has no effect.
 Status: 0 at the end of the input and after help, 1 where standard input or output failed,
 2 where the words were refused, 3 for want of memory.";
 
+/// What `sim --help` says of the lines.
+const SIM_LINES: &str = "Lines:
+  params K H L                     first; numbers from 0 to 255
+  found N ..                       second: the founders, ascending; founder N is at port N
+  start N PORT SEEDPORT            process N starts at a port, and asks at the port of a member
+  probe N RING ok|fail [COUNT]     node N has a result of a probe on a ring
+  lose N                           four probes of N fail on each ring on which it is observed
+  tick N [COUNT]                   the clock of node N ticks
+  deliver P                        packet P comes to the node at its endpoint
+  drop P                           packet P is passed over by later flows
+  flow                             delivers packets in order until there are none, or 10,000 were passed
+  crash N                          node N stops for good
+  packets                          prints how many packets were sent
+Processes are numbers from 1 to 65535 at 127.0.0.1, packets are numbered from 1 in the order sent, and
+COUNT is 1 to 1000. A line that begins with # is passed over. A line that is refused prints its
+reason; of a repeated event what came before stands. A view that a node enters prints a line.
+
+Status: 0 at the end of the input and after help, 1 where standard input or output failed,
+2 where the words were refused, 3 for want of memory.";
+
+/// The commands of the program.
+#[derive(Clone, Copy, Debug)]
+enum Job {
+    /// The cut detector over lines.
+    Detect,
+    /// The simulator over lines.
+    Sim,
+}
+
 /// The words that the program takes.
 fn grammar<'a>(alloc: Global) -> Result<Command<'a>, AllocError> {
     let detect = Command::new(alloc, "detect")
         .about(
             "Reads who observes whom and alerts from standard input, and prints the cuts that they make",
         )
-        .after_help(LINES);
+        .after_help(DETECT_LINES);
+    let sim = Command::new(alloc, "sim")
+        .about("Drives a simulated cluster by lines from standard input, and prints its views")
+        .after_help(SIM_LINES);
     Command::new(alloc, "rapidd")
         .about("Decentralized membership with Fast Paxos views")
         .after_help(STATUSES)
         .subcommand_required(true)
-        .subcommand(detect)
+        .subcommand(detect)?
+        .subcommand(sim)
 }
 
 /// The status of a run.
@@ -71,17 +104,40 @@ fn status_of(ran: Result<(), RunFault>) -> u8
     }
 }
 
-/// Runs `detect`. Where the status is 0, what the input prints was written, and nothing else.
-fn detect<R: Read, O: Write, E: Write>(
+/// Runs a command over the input.
+fn run_job<R: Read, O: Write>(
     alloc: Global,
+    job: Job,
+    reader: &mut R,
+    out: &mut O,
+) -> Result<(), RunFault>
+    ensures written { OnOk result (Wrote job (R.remaining reader.old) (O.contents out.old) (O.contents out.new)) }
+    ensures begun { OnErr result (WroteFront job (R.remaining reader.old) (O.contents out.old) (O.contents out.new)) }
+{
+    match job {
+        Job::Detect => run_detect(alloc, reader, out),
+        Job::Sim => {
+            run_sim(alloc, reader, out)?;
+            Ok(())
+        }
+    }
+}
+
+/// Runs a command over the input, and tells of a fault. Where the status is 0, what the input prints
+/// was written, and nothing else; else a beginning of that was.
+fn run<R: Read, O: Write, E: Write>(
+    alloc: Global,
+    job: Job,
     reader: &mut R,
     out: &mut O,
     err: &mut E,
 ) -> u8
-    ensures written { result ≡ 0 → IfSome (R.remaining reader.old) (λ input. Appends (O.contents out.old) (O.contents out.new) (detect_text input)) }
+    ensures written { result ≡ 0 → Wrote job (R.remaining reader.old) (O.contents out.old) (O.contents out.new) }
+    ensures begun { result ≢ 0 → WroteFront job (R.remaining reader.old) (O.contents out.old) (O.contents out.new) }
     ensures status { result ≤ 3 }
+    ensures taken { result ≢ 2 }
 {
-    let ran = run_detect(alloc, reader, out);
+    let ran = run_job(alloc, job, reader, out);
     if let Err(fault) = &ran {
         let _ = writeln!(err, "error: {fault}");
     }
@@ -94,6 +150,7 @@ fn tell<O: Write, E: Write>(error: &Error, out: &mut O, err: &mut E) -> u8
     ensures refused { kind_of error.now ≢ ErrorKind.OutOfMemory → kind_of error.now ≢ ErrorKind.DisplayHelp
         → kind_of error.now ≢ ErrorKind.DisplayVersion → result ≡ 2 }
     ensures status { result ≤ 3 }
+    ensures silent { 1 < result → out.new ≡ out.old }
 {
     if error.use_stderr() {
         let _ = write!(err, "{error}");
@@ -125,8 +182,20 @@ fn matches_of<'a, S: AsStr>(alloc: Global, words: &'a [S]) -> Result<ArgMatches<
     grammar(alloc)?.try_get_matches_from(words)
 }
 
-/// Does what the words ask for, of which the first is the program's name, and answers the status. Where that is 0,
-/// either what the input prints was written, and nothing else, or the input was not read, as for help.
+/// The command of a name.
+fn job_named(name: &str) -> Option<Job> {
+    match name {
+        "detect" => Some(Job::Detect),
+        "sim" => Some(Job::Sim),
+        _ => None,
+    }
+}
+
+/// Does what the words ask for, of which the first is the program's name, and answers the status.
+/// Where that is 0, either what the input prints by a command was written, and nothing else, or the
+/// input was not read, as for help. Where it is 1, a beginning of that was written, or the input was
+/// not read and help could not be written. Where it is 2 nothing was written, and where it is 3 a
+/// beginning of what the input prints.
 pub fn run_words<S: AsStr, R: Read, O: Write, E: Write>(
     alloc: Global,
     words: &[S],
@@ -135,14 +204,19 @@ pub fn run_words<S: AsStr, R: Read, O: Write, E: Write>(
     err: &mut E,
 ) -> u8
     ensures written { result ≡ 0 →
-        IfSome (R.remaining reader.old) (λ input. Appends (O.contents out.old) (O.contents out.new) (detect_text input)) ⊎ (reader.new ≡ reader.old) }
+        ((job : Job) × Wrote job (R.remaining reader.old) (O.contents out.old) (O.contents out.new)) ⊎ (reader.new ≡ reader.old) }
+    ensures failed { result ≡ 1 →
+        ((job : Job) × WroteFront job (R.remaining reader.old) (O.contents out.old) (O.contents out.new)) ⊎ (reader.new ≡ reader.old) }
+    ensures refused { result ≡ 2 → out.new ≡ out.old }
+    ensures memory { result ≡ 3 →
+        (job : Job) × WroteFront job (R.remaining reader.old) (O.contents out.old) (O.contents out.new) }
     ensures status { result ≤ 3 }
 {
     match matches_of(alloc, words) {
         Err(error) => tell(&error, out, err),
-        Ok(matches) => match matches.subcommand_name() {
-            Some("detect") => detect(alloc, reader, out, err),
-            _ => REFUSED,
+        Ok(matches) => match matches.subcommand_name().and_then(job_named) {
+            Some(job) => run(alloc, job, reader, out, err),
+            None => REFUSED,
         },
     }
 }

@@ -1,0 +1,4 @@
+pub mod Commands
+pub mod Phases
+pub mod Replies
+pub mod TooLong

@@ -1,0 +1,255 @@
+// A run of `detect`.
+
+ghost use Rattle.std.specs.Prelude.{◌≡◌, ℕ, List, false, None, IfOk, IfSome, OnOk, OnErr};
+ghost use Rattle.std.specs.Io.KnownBytes.{Appends};
+ghost use Rattle.rapid_model.specs.Alert as alert;
+ghost use Rattle.rapid_model.specs.DetectLine as line;
+ghost use Rattle.rapid_model.specs.DetectText as model;
+ghost use Rattle.rapid_alerts.specs.Alerts.{kind_of};
+ghost use Rattle.rapid_detect.specs.Commands.{place_of, command_of, asked_of};
+ghost use Rattle.rapid_detect.specs.Phases.{run_by, run_of, reporting, is_building, Obeys};
+ghost use Rattle.rapid_text.specs.Underway.{AppendsFront};
+
+use crate::command::{Asked, Command, Place, read_line};
+use crate::reply::{Refusal, Reply, write_reply};
+use rapid_alerts::{Alert, Kind};
+use rapid_config::{ConfigId, Params};
+use rapid_cut::Detector;
+use rapid_endpoint::Process;
+use rapid_rings::{Table, TableError};
+use rapid_text::{Engine, RunFault};
+use std::alloc::{AllocError, Global};
+use std::io::{Read, Write};
+use std::mem;
+
+/// How many joiner lines are taken.
+const MOST_JOINERS: usize = 512;
+
+/// How many edge lines are taken.
+const MOST_EDGES: usize = 16_384;
+
+/// How many alerts a batch has.
+const MOST_ALERTS: usize = 16_384;
+
+/// How far a run has come.
+#[derive(Drop)]
+enum Phase {
+    /// `watermarks` was not taken yet.
+    Unmarked,
+    /// The table is made.
+    Building(Table),
+    /// Alerts and batches are taken.
+    Reporting(Detector<Table>),
+}
+
+/// A run of `detect`.
+#[derive(Drop)]
+pub struct DetectRun {
+    alloc: Global,
+    phase: Phase,
+    joiner_lines: usize,
+    edge_lines: usize,
+    alerts: Vec<Alert>,
+}
+
+/// From here on alerts and batches are taken, where `watermarks` was.
+fn start(alloc: Global, phase: &mut Phase)
+    ensures state { (joiners edges : ℕ) (alerts : List alert.Alert) → run_by phase.new joiners edges alerts ≡ reporting (run_by phase.old joiners edges alerts) }
+    ensures started { is_building phase.new ≡ false }
+{
+    if let Phase::Building(_) = phase {
+        end_building(alloc, phase);
+    }
+}
+
+/// The same, where the table is made: its phase is moved here and at no alert.
+#[inline(never)]
+fn end_building(alloc: Global, phase: &mut Phase)
+    ensures state { (joiners edges : ℕ) (alerts : List alert.Alert) → run_by phase.new joiners edges alerts ≡ reporting (run_by phase.old joiners edges alerts) }
+    ensures started { is_building phase.new ≡ false }
+{
+    let before = mem::replace(phase, Phase::Unmarked);
+    *phase = match before {
+        Phase::Building(table) => Phase::Reporting(Detector::new(alloc, table)),
+        other => other,
+    };
+}
+
+#[tactic(auto, unfolding(rapid_model::specs::DetectText::after, rapid_model::specs::DetectText::printed, rapid_model::specs::Table::table_observers))]
+impl DetectRun {
+    /// A run that has taken nothing.
+    pub fn new(alloc: Global) -> DetectRun
+        ensures { run_of result ≡ None }
+    {
+        DetectRun {
+            alloc,
+            phase: Phase::Unmarked,
+            joiner_lines: 0,
+            edge_lines: 0,
+            alerts: Vec::new(alloc),
+        }
+    }
+
+    /// Takes the numbers K, H and L.
+    fn watermarks(&mut self, k: u8, h: u8, l: u8) -> Reply
+        ensures { Obeys self.old self.new (model.Command (line.Watermarks (record { k = k; h = h; l = l }))) result }
+    {
+        let Phase::Unmarked = self.phase else {
+            return Reply::Refused(Refusal::BadLine);
+        };
+        match Params::new(k, h, l) {
+            Ok(params) => {
+                self.phase = Phase::Building(Table::new(self.alloc, params));
+                self.joiner_lines = 0;
+                self.edge_lines = 0;
+                self.alerts.clear();
+                Reply::Silent
+            }
+            Err(_) => Reply::Refused(Refusal::BadParams),
+        }
+    }
+
+    /// Takes a joiner.
+    fn joiner(&mut self, process: Process) -> Result<Reply, AllocError>
+        ensures { IfOk result (Obeys self.old self.new (model.Command (line.Joiner process))) }
+    {
+        match &mut self.phase {
+            Phase::Unmarked => Ok(Reply::Refused(Refusal::NoWatermarks)),
+            Phase::Reporting(_) => Ok(Reply::Refused(Refusal::TooLate)),
+            Phase::Building(table) => {
+                if self.joiner_lines >= MOST_JOINERS {
+                    return Ok(Reply::Refused(Refusal::TooMany));
+                }
+                table.joiner(process)?;
+                self.joiner_lines += 1;
+                Ok(Reply::Silent)
+            }
+        }
+    }
+
+    /// Takes an edge of the table.
+    fn edge(&mut self, place: Place) -> Result<Reply, AllocError>
+        ensures { IfOk result (Obeys self.old self.new (model.Command (line.Edge (place_of place)))) }
+    {
+        match &mut self.phase {
+            Phase::Unmarked => Ok(Reply::Refused(Refusal::NoWatermarks)),
+            Phase::Reporting(_) => Ok(Reply::Refused(Refusal::TooLate)),
+            Phase::Building(table) => {
+                if self.edge_lines >= MOST_EDGES {
+                    return Ok(Reply::Refused(Refusal::TooMany));
+                }
+                match table.add(place.ring, place.observer, place.subject) {
+                    Ok(()) => {
+                        self.edge_lines += 1;
+                        Ok(Reply::Silent)
+                    }
+                    Err(TableError::TooMany) => Ok(Reply::Refused(Refusal::TooMany)),
+                    Err(TableError::RingRange) => Ok(Reply::Refused(Refusal::RingRange)),
+                    Err(TableError::EdgeTwice) => Ok(Reply::Refused(Refusal::EdgeTwice)),
+                    Err(TableError::OutOfMemory) => Err(AllocError),
+                }
+            }
+        }
+    }
+
+    /// Takes an alert for the next batch.
+    fn report(&mut self, kind: Kind, place: Place) -> Result<Reply, AllocError>
+        ensures { IfOk result (Obeys self.old self.new (model.Command (line.Report (kind_of kind) (place_of place)))) }
+    {
+        if let Phase::Unmarked = self.phase {
+            return Ok(Reply::Refused(Refusal::NoWatermarks));
+        }
+        if self.alerts.len() >= MOST_ALERTS {
+            return Ok(Reply::Refused(Refusal::TooMany));
+        }
+        self.alerts.push(Alert {
+            observer: place.observer,
+            subject: place.subject,
+            ring: place.ring,
+            kind,
+            config: ConfigId::zero(),
+        })?;
+        start(self.alloc, &mut self.phase);
+        Ok(Reply::Silent)
+    }
+
+    /// Hands the batch to the detector.
+    fn batch(&mut self) -> Result<Reply, AllocError>
+        ensures { IfOk result (Obeys self.old self.new (model.Command line.Batch)) }
+    {
+        start(self.alloc, &mut self.phase);
+        match &mut self.phase {
+            Phase::Unmarked => Ok(Reply::Refused(Refusal::NoWatermarks)),
+            Phase::Building(_) => unreachable!(),
+            Phase::Reporting(detector) => {
+                let cut = detector.batch(self.alerts.as_slice())?;
+                let skipped = detector.skipped();
+                self.alerts.clear();
+                Ok(Reply::Batch(cut, skipped))
+            }
+        }
+    }
+
+    /// Takes a command, or refuses it.
+    fn obey(&mut self, command: Command) -> Result<Reply, AllocError>
+        ensures { IfOk result (Obeys self.old self.new (model.Command (command_of command))) }
+    {
+        match command {
+            Command::Watermarks(k, h, l) => Ok(self.watermarks(k, h, l)),
+            Command::Joiner(process) => self.joiner(process),
+            Command::Edge(place) => self.edge(place),
+            Command::Report(kind, place) => self.report(kind, place),
+            Command::Batch => self.batch(),
+        }
+    }
+
+    /// Does what a line asks for.
+    fn respond(&mut self, asked: Asked) -> Result<Reply, AllocError>
+        ensures { IfOk result (Obeys self.old self.new (asked_of asked)) }
+    {
+        match asked {
+            Asked::Nothing => Ok(Reply::Silent),
+            Asked::Unknown => Ok(Reply::Refused(Refusal::BadLine)),
+            Asked::Taken(command) => self.obey(command),
+        }
+    }
+}
+
+impl Engine for DetectRun {
+    ghost use Rattle.std.proofs.Common.{◌∙◌, refl};
+    ghost use Rattle.rapid_model.specs.DetectText.{text_of_lines};
+    ghost use Rattle.rapid_detect.specs.Phases.{run_of};
+    ghost use Rattle.rapid_detect.specs.TooLong.{long_lines};
+
+    ghost prints = { λ run lines text n. text ≡ text_of_lines (run_of run) lines };
+
+    ghost met = { λ run. 0 };
+
+    fn answer(&mut self, line: &[u8], output: &mut Vec<u8>) -> Result<(), AllocError> {
+        let reply = self.respond(read_line(line))?;
+        write_reply(&reply, output)
+    }
+
+    ghost ends = { λ state. refl };
+
+    ghost too_long = { λ state line other later text n h k p. p ∙ long_lines (run_of state) line other later h k };
+
+    ghost speaks = { λ state lines. (text_of_lines (run_of state) lines, 0, refl) };
+}
+
+/// Reads lines and writes what they print, and nothing else. After a fault a beginning of that is
+/// written: `Read` where the input could not be read, `Write` where the output could not be written,
+/// `OutOfMemory` where there was no memory.
+pub fn run_detect<R: Read, W: Write>(
+    alloc: Global,
+    reader: &mut R,
+    writer: &mut W,
+) -> Result<(), RunFault>
+    ensures written { OnOk result (IfSome (R.remaining reader.old) (λ input.
+        Appends (W.contents writer.old) (W.contents writer.new) (model.detect_text input))) }
+    ensures begun { OnErr result (IfSome (R.remaining reader.old) (λ input.
+        AppendsFront (W.contents writer.old) (W.contents writer.new) (model.detect_text input))) }
+{
+    let mut run = DetectRun::new(alloc);
+    rapid_text::run(alloc, &mut run, reader, writer)
+}

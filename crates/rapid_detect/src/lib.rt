@@ -1,0 +1,9 @@
+//! `detect`: who observes whom and alerts are read line by line, and the cuts that they make (Rapid,
+//! USENIX ATC 2018) are written.
+#![tactic(auto)]
+
+mod command;
+mod detect;
+mod reply;
+
+pub use detect::run_detect;

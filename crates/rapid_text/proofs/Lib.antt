@@ -1,0 +1,4 @@
+pub mod Endings
+pub mod Spelling
+pub mod Splitting
+pub mod Streams

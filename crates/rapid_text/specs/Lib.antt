@@ -1,0 +1,4 @@
+pub mod Endings
+pub mod Front
+pub mod Spelled
+pub mod Underway

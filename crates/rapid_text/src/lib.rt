@@ -1,0 +1,16 @@
+//! Lines of an input and what they print: blocks of bytes are read, each line that ends in them is
+//! answered by an engine, and what it prints is written.
+#![tactic(auto)]
+
+mod engine;
+mod fault;
+mod line;
+mod line_buffer;
+mod names;
+mod stream;
+
+pub use engine::Engine;
+pub use fault::RunFault;
+pub use line::{is_plain, number, one_word, split_word, three_words};
+pub use names::{byte, numbered, process};
+pub use stream::run;

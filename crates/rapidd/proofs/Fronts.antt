@@ -1,0 +1,29 @@
+-- What was written, as what a command prints.
+use Rattle.std.proofs.Common.{◌≡◌, ℕ, List, [], refl, sym, subst, Option, Some, None, IfSome, Result, Ok, Err, OnErr}
+use Rattle.std.specs.Io.KnownBytes.{Appends}
+use Rattle.std.proofs.KnownBytes.{Appends-nil}
+use Rattle.rapid_model.specs.DetectText.{detect_text}
+use Rattle.rapid_text.specs.Underway.{AppendsFront}
+use Rattle.rapidd.specs.Jobs.{WroteFront}
+use Rattle.rapidd.specs.declared.words.Job.{Job}
+use Rattle.rapidd.specs.declared.words.Job.TheVariants.{Detect}
+
+detect_known : (known a b : Option (List ℕ)) → IfSome known (λ input. AppendsFront a b (detect_text input)) → WroteFront Detect known a b
+detect_known None a b h = tt
+detect_known (Some input) a b h = (detect_text input, refl, h)
+
+-- After a fault of `detect`.
+pub detect_front : {T D : Type 0} (r : Result T D) (job : Job) (known a b : Option (List ℕ)) → job ≡ Detect → OnErr r (IfSome known (λ input. AppendsFront a b (detect_text input))) → OnErr r (WroteFront job known a b)
+detect_front (Ok x) job known a b is h = tt
+detect_front (Err e) job known a b is h = subst (λ j. WroteFront j known a b) (sym is) (detect_known known a b h)
+
+-- Nothing that was written is a beginning.
+pub silent_front : {W : Type 0} (contents : W → Option (List ℕ)) (old new : W) (known : Option (List ℕ)) → new ≡ old → (job : Job) × WroteFront job known (contents old) (contents new)
+silent_front contents old new known e = (Detect, by known)
+  where
+    nothing : Appends (contents old) (contents new) []
+    nothing = subst (λ w. Appends (contents old) (contents w) []) (sym e) (Appends-nil (contents old))
+
+    by : (k : Option (List ℕ)) → WroteFront Detect k (contents old) (contents new)
+    by None = tt
+    by (Some input) = (detect_text input, refl, ([], (detect_text input, refl), nothing))

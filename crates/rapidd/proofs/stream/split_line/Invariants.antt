@@ -1,6 +1,0 @@
-use Rattle.std.proofs.Common.{◌≡◌, take, true}
-use Rattle.rapidd.specs.Endings.{has_no_end}
-use Rattle.rapidd.proofs.stream.split_line.Given as goal
-
-abbrev pub invariant-loop-i : goal.invariant-loop-i
-invariant-loop-i l = has_no_end (take l.i l.bytes) ≡ true
