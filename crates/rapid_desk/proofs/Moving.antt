@@ -1,0 +1,213 @@
+-- What a step makes of a node: it installs nothing, or one configuration, in which it begins anew.
+use Rattle.std.proofs.Common.{◌≡◌, ◌⊎◌, ℕ, Bool, true, false, cond, List, [], ◌∷◌, ◌++◌, refl, sym, ap, ◌∙◌, subst, inl, inr}
+use Rattle.std.specs.Prelude.{Option, Some, None}
+use Rattle.rapid_model.specs.Process.{Process, endpoint}
+use Rattle.rapid_model.specs.Cut.{Cut}
+use Rattle.rapid_model.specs.Configuration.{Configuration, Stamp, stamp, is_member}
+use Rattle.rapid_model.specs.Apply.{apply}
+use Rattle.rapid_model.specs.Joiner.{Joiner}
+use Rattle.rapid_model.specs.Message.{Message, Body, Batch, FastVote, Prepare, Promise, Accept, Accepted, Decision, PreJoin, Reply, JoinRequest, Confirm, Probe, ProbeAck}
+use Rattle.rapid_model.specs.Node.{Node, Decisions, MemberState, Phase, Joining, Member, Removed, Halted, Event, EdgeDown, Tick, Receive, Says, To, Outcome, configuration_of, seed_node, joiner_node, fresh_member}
+use Rattle.rapid_model.specs.Member.{Work, still, after_effects, current_id}
+use Rattle.rapid_model.specs.Tick.{on_tick}
+use Rattle.rapid_model.specs.Receive.{take, is_about, receive_as_member, receive_as_joiner, joins_on, sends, catch_up}
+use Rattle.rapid_model.specs.NodeStep.{step_tick, step_edge_down, step_receive, phase_in, is_history_full, install, put_before, settle_at, settle, node_step}
+use Rattle.rapid_model.specs.Journal.{Entered, node_at, is_kept}
+use Rattle.rapid_desk.specs.Records.{entry_of}
+use Rattle.rapid_desk.specs.Desks.{no_installs_in, JoinsEmpty}
+use Rattle.rapid_desk.proofs.Ticking.{is_kept_event}
+
+-- the node has just entered a configuration, after these stamps
+pub record Enters (before : List Stamp) (m : Node) : Type 0 where
+  pub config : Configuration
+  pub grew : m.installed ≡ before ++ stamp config ∷ []
+  pub fresh : m.phase ≡ phase_in config m.me
+
+-- the node after a step from these stamps
+abbrev pub Went : List Stamp → Node → Type 0
+Went before m = JoinsEmpty m × ((m.installed ≡ before) ⊎ Enters before m)
+
+abbrev pub Goes : List Stamp → Option Outcome → Type 0
+Goes before None = Unit {0}
+Goes before (Some o) = Went before o.node
+
+fresh_installs : (c : Configuration) (me : Process) (xs : List Stamp) → no_installs_in (phase_in c me) xs
+fresh_installs c me xs = by (is_member c me)
+  where
+    by : (b : Bool) → no_installs_in (cond b (Member (fresh_member c me)) (Removed c)) xs
+    by true = tt
+    by false = tt
+
+settled : (me : Process) (before : List Stamp) (ds : Decisions) (w : Work) (d : Option Cut) → Goes before (settle_at me before ds w d)
+unfolding install
+settled me before ds w None = (tt, inl refl)
+settled me before ds w (Some v) = by (is_history_full before w.state.config)
+  where
+    by : (b : Bool) → Goes before (cond b None (Some (put_before w.effects (install me before ds w.state v))))
+    by true = tt
+    by false = (fresh_installs (apply w.state.config v) me _, inr record { config = apply w.state.config v; grew = refl; fresh = refl })
+
+settles : (me : Process) (before : List Stamp) (ds : Decisions) (w : Work) → Goes before (settle me before ds w)
+unfolding settle
+settles me before ds w = settled me before ds w w.decided
+
+joined : (me : Process) (before : List Stamp) (ds : Decisions) (j : Joiner) (b : Body) → before ≡ [] → Went before (receive_as_joiner me before ds j b).node
+unfolding receive_as_joiner
+joined me before ds j (Confirm c) none = by (is_member c me) refl
+  where
+    by : (b : Bool) → is_member c me ≡ b → Went before (cond b (record { node = seed_node c me; effects = [] }) (joins_on me before ds j [])).node
+    by true is = (tt, inr record { config = c; grew = ap (λ l. l ++ stamp c ∷ []) (sym none); fresh = ap (λ b. cond b (Member (fresh_member c me)) (Removed c)) (sym is) })
+    by false is = (none, inl refl)
+joined me before ds j (Reply who a) none = (none, inl refl)
+joined me before ds j (Batch id xs) none = (none, inl refl)
+joined me before ds j (FastVote id v) none = (none, inl refl)
+joined me before ds j (Prepare id b) none = (none, inl refl)
+joined me before ds j (Promise id b v) none = (none, inl refl)
+joined me before ds j (Accept id b v) none = (none, inl refl)
+joined me before ds j (Accepted id b v) none = (none, inl refl)
+joined me before ds j (Decision id v) none = (none, inl refl)
+joined me before ds j PreJoin none = (none, inl refl)
+joined me before ds j (JoinRequest id k) none = (none, inl refl)
+joined me before ds j (Probe id) none = (none, inl refl)
+joined me before ds j (ProbeAck id) none = (none, inl refl)
+
+goes_tick : (n : Node) → JoinsEmpty n → (p : Phase) → no_installs_in p n.installed → Goes n.installed (step_tick n p)
+goes_tick n h (Joining j) q = (q, inl refl)
+goes_tick n h (Member s) q = settles n.me n.installed n.decisions (on_tick s)
+goes_tick n h (Removed c) q = (h, inl refl)
+goes_tick n h (Halted shown) q = (h, inl refl)
+
+goes_down : (n : Node) → JoinsEmpty n → (p : Phase) (id : List ℕ) (k : ℕ) (x : Process) → Goes n.installed (step_edge_down n p id k x)
+goes_down n h (Joining j) id k x = (h, inl refl)
+goes_down n h (Member s) id k x = settles n.me n.installed n.decisions _
+goes_down n h (Removed c) id k x = (h, inl refl)
+goes_down n h (Halted shown) id k x = (h, inl refl)
+
+goes_receive : (n : Node) → JoinsEmpty n → (p : Phase) → no_installs_in p n.installed → (m : Message) → Goes n.installed (step_receive n p m)
+goes_receive n h (Joining j) q m = joined n.me n.installed n.decisions j m.body q
+goes_receive n h (Member s) q m = settles n.me n.installed n.decisions _
+goes_receive n h (Removed c) q m = (h, inl refl)
+goes_receive n h (Halted shown) q m = (h, inl refl)
+
+pub goes : (n : Node) (e : Event) → JoinsEmpty n → Goes n.installed (node_step n e)
+unfolding node_step
+goes n Tick h = goes_tick n h n.phase h
+goes n (EdgeDown id k p) h = goes_down n h n.phase id k p
+goes n (Receive m) h = goes_receive n h n.phase h m
+
+pub went : (n : Node) (e : Event) (o : Outcome) → JoinsEmpty n → node_step n e ≡ Some o → Went n.installed o.node
+went n e o h is = subst (Goes n.installed) is (goes n e h)
+
+-- ---- what is not kept
+
+abbrev pub Stays : Node → Option Outcome → Type 0
+Stays n None = Unit {0}
+Stays n (Some o) = o.node ≡ n
+
+quiet : (n : Node) (s : MemberState) → n.phase ≡ Member s → (w : Work) → w.state ≡ s → w.decided ≡ None → Stays n (settle n.me n.installed n.decisions w)
+unfolding settle
+quiet n s is w same none =
+    subst (λ d. Stays n (settle_at n.me n.installed n.decisions w d)) (sym none)
+    (λ i. record { me = n.me; phase = (ap Member same ∙ sym is) i; installed = n.installed; decisions = n.decisions })
+
+asked : (n : Node) (s : MemberState) → n.phase ≡ Member s → (from : Process) (b : Body) → is_kept b ≡ false → Stays n (settle n.me n.installed n.decisions (receive_as_member n.decisions s from b))
+unfolding receive_as_member take
+asked n s is from (Probe id) h = by (is_about (current_id s) (Some id))
+  where
+    by : (b : Bool) → Stays n (settle n.me n.installed n.decisions (after_effects (Says (To (endpoint from)) (ProbeAck (current_id s)) ∷ []) (cond b (still s) (sends s (catch_up n.decisions from (Some id))))))
+    by true = quiet n s is _ refl refl
+    by false = quiet n s is _ refl refl
+asked n s is from (ProbeAck id) h = by (is_about (current_id s) (Some id))
+  where
+    by : (b : Bool) → Stays n (settle n.me n.installed n.decisions (cond b (still s) (sends s (catch_up n.decisions from (Some id)))))
+    by true = quiet n s is _ refl refl
+    by false = quiet n s is _ refl refl
+asked n s is from (Batch id xs) h = absurd (cc)
+asked n s is from (FastVote id v) h = absurd (cc)
+asked n s is from (Prepare id b) h = absurd (cc)
+asked n s is from (Promise id b v) h = absurd (cc)
+asked n s is from (Accept id b v) h = absurd (cc)
+asked n s is from (Accepted id b v) h = absurd (cc)
+asked n s is from (Decision id v) h = absurd (cc)
+asked n s is from PreJoin h = absurd (cc)
+asked n s is from (Reply j a) h = absurd (cc)
+asked n s is from (JoinRequest id k) h = absurd (cc)
+asked n s is from (Confirm c) h = absurd (cc)
+
+joiner_asked : (n : Node) (j : Joiner) → n.phase ≡ Joining j → (b : Body) → is_kept b ≡ false → (receive_as_joiner n.me n.installed n.decisions j b).node ≡ n
+unfolding receive_as_joiner
+joiner_asked n j is (Probe id) h = λ i. record { me = n.me; phase = sym is i; installed = n.installed; decisions = n.decisions }
+joiner_asked n j is (ProbeAck id) h = λ i. record { me = n.me; phase = sym is i; installed = n.installed; decisions = n.decisions }
+joiner_asked n j is (Batch id xs) h = absurd (cc)
+joiner_asked n j is (FastVote id v) h = absurd (cc)
+joiner_asked n j is (Prepare id b) h = absurd (cc)
+joiner_asked n j is (Promise id b v) h = absurd (cc)
+joiner_asked n j is (Accept id b v) h = absurd (cc)
+joiner_asked n j is (Accepted id b v) h = absurd (cc)
+joiner_asked n j is (Decision id v) h = absurd (cc)
+joiner_asked n j is PreJoin h = absurd (cc)
+joiner_asked n j is (Reply k a) h = absurd (cc)
+joiner_asked n j is (JoinRequest id k) h = absurd (cc)
+joiner_asked n j is (Confirm c) h = absurd (cc)
+
+heard : (n : Node) (p : Phase) → n.phase ≡ p → (m : Message) → is_kept m.body ≡ false → Stays n (step_receive n p m)
+heard n (Joining j) is m h = joiner_asked n j is m.body h
+heard n (Member s) is m h = asked n s is m.sender m.body h
+heard n (Removed c) is m h = refl
+heard n (Halted shown) is m h = refl
+
+stays : (n : Node) (e : Event) → is_kept_event e ≡ false → Stays n (node_step n e)
+unfolding node_step
+stays n Tick h = absurd (cc)
+stays n (EdgeDown id k p) h = absurd (cc)
+stays n (Receive m) h = heard n n.phase refl m h
+
+pub not_kept_stays : (n : Node) (e : Event) (o : Outcome) → is_kept_event e ≡ false → node_step n e ≡ Some o → o.node ≡ n
+not_kept_stays n e o h is = subst (Stays n) is (stays n e h)
+
+-- ---- entries
+
+-- a journal can begin at the node
+abbrev pub IsEntry : Node → Type 0
+IsEntry n = node_at (entry_of n) ≡ n
+
+entered : (c : Configuration) (me : Process) (xs : List Stamp) (ds : Decisions) → Entered c me xs ds ≡ entry_of (node_at (Entered c me xs ds))
+unfolding fresh_member
+entered c me xs ds = by (is_member c me)
+  where
+    by : (b : Bool) → Entered c me xs ds ≡ entry_of (record { me = me; phase = cond b (Member (fresh_member c me)) (Removed c); installed = xs; decisions = ds })
+    by true = refl
+    by false = refl
+
+shown_fresh : (c : Configuration) (me : Process) (xs : List Stamp) (ds : Decisions) → configuration_of (node_at (Entered c me xs ds)) ≡ Some c
+unfolding fresh_member
+shown_fresh c me xs ds = by (is_member c me)
+  where
+    by : (b : Bool) → configuration_of (record { me = me; phase = cond b (Member (fresh_member c me)) (Removed c); installed = xs; decisions = ds }) ≡ Some c
+    by true = refl
+    by false = refl
+
+-- the node is at the entry of what it has just entered
+at_entry : (m : Node) (c : Configuration) → m.phase ≡ phase_in c m.me → node_at (Entered c m.me m.installed m.decisions) ≡ m
+at_entry m c is = λ i. record { me = m.me; phase = sym is i; installed = m.installed; decisions = m.decisions }
+
+pub enters_entry : (before : List Stamp) (m : Node) → Enters before m → IsEntry m
+enters_entry before m h =
+    let at = at_entry m h.config h.fresh in
+    ap (λ x. node_at (entry_of x)) (sym at) ∙ ap node_at (sym (entered h.config m.me m.installed m.decisions)) ∙ at
+
+pub enters_shows : (before : List Stamp) (m : Node) → (h : Enters before m) → configuration_of m ≡ Some h.config
+enters_shows before m h = ap configuration_of (sym (at_entry m h.config h.fresh)) ∙ shown_fresh h.config m.me m.installed m.decisions
+
+pub enters_from : (before : List Stamp) (m : Node) → (h : Enters before m) → entry_of m ≡ Entered h.config m.me m.installed m.decisions
+enters_from before m h = ap entry_of (sym (at_entry m h.config h.fresh)) ∙ sym (entered h.config m.me m.installed m.decisions)
+
+pub joiner_entry : (me : Process) (seed : List ℕ) → IsEntry (joiner_node me seed)
+joiner_entry me seed = refl
+
+pub seed_enters : (c : Configuration) (me : Process) → is_member c me ≡ true → Enters [] (seed_node c me)
+seed_enters c me is = record { config = c; grew = refl; fresh = ap (λ b. cond b (Member (fresh_member c me)) (Removed c)) (sym is) }
+
+pub seed_entry : (c : Configuration) (me : Process) → entry_of (seed_node c me) ≡ Entered c me (stamp c ∷ []) []
+unfolding fresh_member
+seed_entry c me = refl

@@ -1,0 +1,23 @@
+use Rattle.std.proofs.Common.{◌∙◌, sym}
+use Rattle.rapid_node.specs.Steps.{event_of}
+use Rattle.rapid_desk.proofs.Settling.{shows, after_enter, after_keep}
+use Rattle.rapid_desk.proofs.desk.settle.Goals as goal
+
+pub enter-requires : goal.enter-requires
+enter-requires g c = shows c.args.held.now c.args.board.now.published (event_of c.args.event) c.requires.keeps c.requires.tried (sym c.installs.ensures ∙ c.if-installs.true)
+
+pub returns-then-installs-clause-keeps : goal.returns-then-installs-clause-keeps
+returns-then-installs-clause-keeps g c =
+    (after_enter c.enter.result c.args.held.now c.enter.new.held c.args.board.now c.enter.new.board (event_of c.args.event) c.requires.keeps c.requires.tried (sym c.installs.ensures ∙ c.if-installs.true) c.enter.ensures.held c.enter.ensures.published c.enter.ensures.refused c.enter.ensures.unchanged).0
+
+pub returns-then-installs-clause-advances : goal.returns-then-installs-clause-advances
+returns-then-installs-clause-advances g c =
+    (after_enter c.enter.result c.args.held.now c.enter.new.held c.args.board.now c.enter.new.board (event_of c.args.event) c.requires.keeps c.requires.tried (sym c.installs.ensures ∙ c.if-installs.true) c.enter.ensures.held c.enter.ensures.published c.enter.ensures.refused c.enter.ensures.unchanged).1
+
+pub returns-clause-keeps : goal.returns-clause-keeps
+returns-clause-keeps g c =
+    (after_keep c.args.held.now c.keep.new.self c.args.board.now (event_of c.args.event) c.requires.keeps c.requires.tried (sym c.installs.ensures ∙ c.if-installs.false) c.in_ok-keep.ensures.same c.in_ok-keep.ensures.ok).0
+
+pub returns-clause-advances : goal.returns-clause-advances
+returns-clause-advances g c =
+    (after_keep c.args.held.now c.keep.new.self c.args.board.now (event_of c.args.event) c.requires.keeps c.requires.tried (sym c.installs.ensures ∙ c.if-installs.false) c.in_ok-keep.ensures.same c.in_ok-keep.ensures.ok).1

@@ -1,0 +1,161 @@
+-- What contracts see of a desk, and of its steps.
+use Rattle.std.specs.Prelude.{◌≡◌, ◌⊎◌, ℕ, ◌≤◌, ◌<◌, ◌||◌, Bool, true, false, List, [], ◌∷◌, ◌++◌, length, Option, Some, None}
+use Rattle.rapid_model.specs.Process.{Process}
+use Rattle.rapid_model.specs.Configuration.{Configuration, Stamp, stamp}
+use Rattle.rapid_model.specs.Node as model
+use Rattle.rapid_model.specs.NodeStep.{node_step}
+use Rattle.rapid_model.specs.Journal.{DeskState, JournalRecord, Entered, Joins, IsDesk, is_full_for, is_journal_full, next_entry, next_journal}
+use Rattle.rapid_node.specs.Steps.{IsFault}
+use Rattle.rapid_view.specs.Seen.{Publishing}
+use Rattle.rapid_desk.specs.Records.{entry_of}
+use Rattle.rapid_desk.specs.declared.error.DeskError.{DeskError}
+use Rattle.rapid_desk.specs.declared.error.DeskError.TheVariants.{JournalFull, OutOfMemory, Node, TooManySubscribers, BadCapacity, Unpublished}
+
+-- The stamps that a writer has published, none where there is no writer yet.
+abbrev pub seen_by : Option Publishing → List Stamp
+seen_by None = []
+seen_by (Some w) = w.seen
+
+-- Nothing is published yet.
+abbrev pub is_blank : List Stamp → Bool
+is_blank [] = true
+is_blank (s ∷ stamps) = false
+
+-- What a desk has published, whether its seats are still to be taken, and how many they are.
+pub record BoardValue : Type 0 where
+  pub published : List Stamp
+  pub seats : Bool
+  pub count : ℕ
+
+-- A desk: what it holds of its node, whether its seats are still to be taken, and how many they are.
+pub record DeskValue : Type 0 where
+  pub state : DeskState
+  pub seats : Bool
+  pub count : ℕ
+  -- how many subscriptions it serves
+  pub subscribers : ℕ
+
+-- What is held, by its parts.
+abbrev pub state_of : model.Node → List JournalRecord → Bool → model.Node → List Stamp → DeskState
+state_of entry journal full n published =
+    record { entry = entry_of entry; journal = journal; full = full; node = n; published = published }
+
+-- A node that joins has installed nothing.
+abbrev pub no_installs_in : model.Phase → List Stamp → Type 0
+no_installs_in (model.Joining j) installed = installed ≡ []
+no_installs_in (model.Member s) installed = Unit {0}
+no_installs_in (model.Removed c) installed = Unit {0}
+no_installs_in (model.Halted shown) installed = Unit {0}
+
+abbrev pub JoinsEmpty : model.Node → Type 0
+JoinsEmpty n = no_installs_in n.phase n.installed
+
+-- What a desk keeps.
+pub record Keeps (s : DeskState) : Type 0 where
+  pub desk : IsDesk s
+  pub joins : JoinsEmpty s.node
+  pub few : length s.journal ≤ 65536
+  pub full : s.full ≡ true → length s.journal ≡ 65536
+
+-- The desk after a step that went well: what is installed is published, and the journal has the event, or begins anew where a configuration was entered.
+pub record Advances (old : DeskState) (event : model.Event) (new : DeskState) : Type 0 where
+  pub entry : new.entry ≡ next_entry old new.node (model.configuration_of new.node)
+  pub journal : new.journal ≡ next_journal old event new.node
+  pub published : new.published ≡ new.node.installed
+  pub taken : (is_journal_full old event ≡ false) × (new.full ≡ false)
+
+-- The event needs a record more than a journal may have, or one was refused so before.
+abbrev pub is_refused : Bool → List JournalRecord → model.Event → Bool
+is_refused full journal event = full || is_full_for journal event
+
+-- What a desk holds beside what it has published; `next` is the node that the last step made.
+pub record HeldValue : Type 0 where
+  pub entry : model.Node
+  pub journal : List JournalRecord
+  pub full : Bool
+  pub node : model.Node
+  pub next : model.Node
+
+-- What is held with what is published.
+abbrev pub state_with : HeldValue → List Stamp → DeskState
+state_with h published = state_of h.entry h.journal h.full h.node published
+
+-- Why an event was not tried, or what it did to the node, and what is held then.
+abbrev pub NotTaken : HeldValue → model.Event → HeldValue → DeskError → Type 0
+NotTaken old event new JournalFull = (is_refused old.full old.journal event ≡ true) × (new.full ≡ true) × (new.node ≡ old.node)
+NotTaken old event new OutOfMemory = (is_refused old.full old.journal event ≡ false) × (new.full ≡ old.full) × (new.node ≡ old.node)
+NotTaken old event new (Node fault) = (is_refused old.full old.journal event ≡ false) × (new.full ≡ old.full) × IsFault old.node event new.node fault
+NotTaken old event new TooManySubscribers = ⊥
+NotTaken old event new BadCapacity = ⊥
+NotTaken old event new Unpublished = ⊥
+
+-- Only the room for an event was asked.
+abbrev pub HasNoRoom : Bool → List JournalRecord → model.Event → Bool → DeskError → Type 0
+HasNoRoom full journal event new JournalFull = (is_refused full journal event ≡ true) × (new ≡ true)
+HasNoRoom full journal event new OutOfMemory = (is_refused full journal event ≡ false) × (new ≡ full)
+HasNoRoom full journal event new (Node fault) = ⊥
+HasNoRoom full journal event new TooManySubscribers = ⊥
+HasNoRoom full journal event new BadCapacity = ⊥
+HasNoRoom full journal event new Unpublished = ⊥
+
+-- The event makes this node of the old one.
+abbrev pub Follows : model.Node → model.Event → model.Node → Type 0
+Follows old event new = (o : model.Outcome) × (node_step old event ≡ Some o) × (new ≡ o.node)
+
+-- A configuration is installed in this step.
+abbrev pub Installs : model.Node → model.Event → model.Node → Type 0
+Installs old event new = Follows old event new × (model.has_installed old new ≡ true)
+
+-- The step was made: the journal takes the event, the node had not halted, and the next node is what the event makes of it.
+abbrev pub Tried : HeldValue → model.Event → Type 0
+Tried held event = (is_refused held.full held.journal event ≡ false) × (model.is_halted held.node ≡ false) × Follows held.node event held.next
+
+-- What a node shows, if anything, is published after what was.
+abbrev pub Grown : Option Configuration → List Stamp → List Stamp → Type 0
+Grown None old new = ⊥
+Grown (Some c) old new = new ≡ old ++ stamp c ∷ []
+
+-- Why the next node was not taken in at a new entry, and what is held then.
+abbrev pub NotEntered : HeldValue → HeldValue → DeskError → Type 0
+NotEntered old new OutOfMemory = new ≡ old
+NotEntered old new Unpublished = (new.entry ≡ old.entry) × (new.journal ≡ old.journal) × (new.full ≡ old.full) × (new.node ≡ model.halt old.next)
+NotEntered old new JournalFull = ⊥
+NotEntered old new (Node fault) = ⊥
+NotEntered old new TooManySubscribers = ⊥
+NotEntered old new BadCapacity = ⊥
+
+-- Why an event was refused, and what the desk is then.
+abbrev pub Refused : DeskState → model.Event → DeskState → DeskError → Type 0
+Refused old event new JournalFull = (is_journal_full old event ≡ true) × (length old.journal ≡ 65536) × (new ≡ record old { full = true })
+Refused old event new OutOfMemory = (is_journal_full old event ≡ false) × (new ≡ old)
+Refused old event new (Node fault) = (is_journal_full old event ≡ false) × IsFault old.node event new.node fault × (new ≡ record old { node = new.node })
+Refused old event new Unpublished = (is_journal_full old event ≡ false) × ((n : model.Node) × Installs old.node event n × (new ≡ record old { node = model.halt n }))
+Refused old event new TooManySubscribers = ⊥
+Refused old event new BadCapacity = ⊥
+
+-- The number of an error.
+abbrev pub code_of : DeskError → ℕ
+code_of JournalFull = 1
+code_of OutOfMemory = 2
+code_of (Node fault) = 3
+code_of TooManySubscribers = 4
+code_of BadCapacity = 5
+code_of Unpublished = 6
+
+-- The desk of a founder, at first.
+abbrev pub seed_state : Configuration → Process → DeskState
+seed_state c me =
+    record { entry = Entered c me (stamp c ∷ []) []; journal = []; full = false; node = model.seed_node c me; published = stamp c ∷ [] }
+
+-- The desk of a process that joins, at first.
+abbrev pub joiner_state : Process → List ℕ → DeskState
+joiner_state me seed = record { entry = Joins me seed; journal = []; full = false; node = model.joiner_node me seed; published = [] }
+
+-- Why there is no subscription of this capacity at a desk that serves so many.
+abbrev pub NotSubscribed : ℕ → ℕ → DeskError → Type 0
+NotSubscribed capacity n BadCapacity = (capacity ≡ 0) ⊎ (1024 < capacity)
+NotSubscribed capacity n TooManySubscribers = (0 < capacity) × (capacity ≤ 1024) × (64 ≤ n)
+NotSubscribed capacity n OutOfMemory = (0 < capacity) × (capacity ≤ 1024) × (n < 64)
+NotSubscribed capacity n JournalFull = ⊥
+NotSubscribed capacity n (Node fault) = ⊥
+NotSubscribed capacity n Unpublished = ⊥

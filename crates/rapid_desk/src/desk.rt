@@ -1,0 +1,290 @@
+// A desk: a node, its journal and its published views.
+
+ghost use Rattle.std.specs.Prelude.{◌≡◌, ◌⊎◌, ◌<◌, ◌≤◌, true, ◌+◌, ◌||◌, ◌&&◌, not, [], false, All, vec_len, is_some, IsSome, IfOk, IfErr, IfSome, OnOk, OnErr};
+ghost use Rattle.atomic_table.specs.Seated.{TableId};
+ghost use Rattle.rapid_model.specs.Node.{configuration_of};
+ghost use Rattle.rapid_model.specs.NodeStep.{node_step};
+ghost use Rattle.rapid_node.specs.Steps.{event_of, HasOutcome};
+ghost use Rattle.rapid_model.specs.Configuration.{is_member};
+ghost use Rattle.rapid_model.specs.Journal.{IsDesk};
+ghost use Rattle.rapid_desk.specs.declared.error.DeskError.TheVariants.{OutOfMemory, Unpublished};
+ghost use Rattle.rapid_desk.specs.Desks.{seed_state, joiner_state, is_blank, state_with, Grown, Keeps, Tried, NotEntered, Advances, Refused, NotSubscribed};
+
+use crate::DeskError;
+use crate::board::Board;
+use crate::held::Held;
+use crate::outlet::{Outlet, subscribe};
+use crate::subscription::Subscription;
+use rapid_config::Configuration;
+use rapid_endpoint::{Endpoint, Process};
+use rapid_node::{Event, Node, Outputs};
+use rapid_view::{View, ViewError, ViewSeat};
+use std::alloc::Global;
+use std::marker::Model;
+use std::sync::Wait;
+
+/// How many subscriptions a desk serves at most.
+const MOST_SUBSCRIBERS: usize = 64;
+
+/// How many changes wait for a subscriber at most.
+const MOST_CAPACITY: usize = 1_024;
+
+/// A node at a desk: the node, the journal of what happened since it entered its configuration, and
+/// the views that it has published. Contracts see what is held, and whether the seats at the
+/// published view are still to be taken.
+#[derive(Drop)]
+pub struct Desk<R: Wait + Copy + Drop> {
+    rt: R,
+    alloc: Global,
+    held: Held,
+    board: Board<R>,
+    outlets: Vec<Outlet>,
+}
+
+impl<R: Wait + Copy + Drop> Model for Desk<R> {
+    ghost use Rattle.std.specs.Prelude.{vec_len};
+    ghost use Rattle.std.specs.Coded.{codes};
+    ghost use Rattle.rapid_node.specs.Codes.{node_code};
+    ghost use Rattle.rapid_desk.specs.Desks.{DeskValue, Keeps, state_with};
+
+    ghost Value = { DeskValue };
+
+    ghost coded = { Prim.hlevel (codes, node_code) };
+
+    ghost view = { λ d. record { state = state_with d.held d.board.published; seats = d.board.seats; count = d.board.count; subscribers = vec_len d.outlets } };
+
+    ghost invariant = { λ d. Keeps (state_with d.held d.board.published) };
+}
+
+/// Publishes what the node shows.
+fn show<R: Wait + Copy + Drop>(
+    board: &mut Board<R>,
+    alloc: Global,
+    node: &Node,
+) -> Result<(), ViewError>
+    requires { IsSome (configuration_of node.now) }
+    ensures published { IfOk result (λ _. Grown (configuration_of node.now) board.old.published board.new.published) }
+    ensures seats { IfOk result (λ _. (board.new.seats ≡ (board.old.seats || is_blank board.old.published)) × (board.new.count ≡ board.old.count)) }
+    ensures unchanged { IfErr result (λ _. board.new ≡ board.old) }
+{
+    let Some(configuration) = node.configuration() else {
+        unreachable!()
+    };
+    board.publish(View::new(configuration.try_copy(alloc)?))
+}
+
+/// Takes in the node that the step made, which has installed a configuration: that is published,
+/// and the journal begins anew.
+fn enter<R: Wait + Copy + Drop>(
+    held: &mut Held,
+    board: &mut Board<R>,
+    alloc: Global,
+) -> Result<(), DeskError>
+    requires { IsSome (configuration_of held.old.next) }
+    ensures count { board.new.count ≡ board.old.count }
+    ensures held { OnOk result ((held.new.entry ≡ held.old.next) × (held.new.journal ≡ []) × (held.new.full ≡ held.old.full) × (held.new.node ≡ held.old.next)) }
+    ensures published { OnOk result (Grown (configuration_of held.old.next) board.old.published board.new.published) }
+    ensures seats { OnOk result (board.new.seats ≡ (board.old.seats || is_blank board.old.published)) }
+    ensures refused { IfErr result (NotEntered held.old held.new) }
+    ensures unchanged { OnErr result (board.new ≡ board.old) }
+{
+    let entry = held.copy_next()?;
+    if show(board, alloc, held.next()).is_err() {
+        held.halt();
+        return Err(DeskError::Unpublished);
+    }
+    held.begin(entry);
+    Ok(())
+}
+
+/// Takes in the node that the step made.
+fn settle<R: Wait + Copy + Drop>(
+    held: &mut Held,
+    board: &mut Board<R>,
+    alloc: Global,
+    event: Event,
+) -> Result<(), DeskError>
+    requires tried { Tried held.old (event_of event) }
+    requires keeps { Keeps (state_with held.old board.old.published) }
+    ensures keeps { Keeps (state_with held.new board.new.published) }
+    ensures advances { OnOk result (Advances (state_with held.old board.old.published) (event_of event) (state_with held.new board.new.published) × (held.new.node ≡ held.old.next)) }
+    ensures seats { OnOk result (board.new.seats ≡ (board.old.seats || (is_blank board.old.published && not (is_blank board.new.published)))) }
+    ensures refused { IfErr result (Refused (state_with held.old board.old.published) (event_of event) (state_with held.new board.new.published)) }
+    ensures same_seats { OnErr result (board.new.seats ≡ board.old.seats) }
+    ensures count { board.new.count ≡ board.old.count }
+{
+    if held.installs() {
+        return enter(held, board, alloc);
+    }
+    held.keep(event)?;
+    Ok(())
+}
+
+/// Puts what the node shows for each subscriber.
+fn announce<R: Wait>(outlets: &mut Vec<Outlet>, rt: &R, alloc: Global, node: &Node)
+    ensures { vec_len outlets.new ≡ vec_len outlets.old }
+{
+    if let Some(configuration) = node.configuration() {
+        for outlet in outlets.iter_mut() {
+            outlet.offer(rt, alloc, configuration);
+        }
+    }
+}
+
+/// Puts the end for each subscriber.
+fn end_all<R: Wait>(outlets: &mut Vec<Outlet>, rt: &R)
+    ensures { vec_len outlets.new ≡ vec_len outlets.old }
+{
+    for outlet in outlets.iter_mut() {
+        outlet.close(rt);
+    }
+}
+
+impl<R: Wait + Copy + Drop> Desk<R> {
+    /// The desk of a founder: a member of this configuration, which has the height 0 and is
+    /// published at once. The caller sees that the process is a member, and asks for 1 to 64 seats.
+    ///
+    /// # Errors
+    ///
+    /// `OutOfMemory`, and `Unpublished` where the view could not be published: there is no desk.
+    #[tactic(auto, using(crate::proofs::Keeping::keeps_seed_held, crate::proofs::Keeping::seed_is))]
+    pub fn seed(
+        rt: R,
+        alloc: Global,
+        configuration: &Configuration,
+        process: Process,
+        seats: usize,
+    ) -> Result<Desk<R>, DeskError>
+        requires member { is_member configuration.now process ≡ true }
+        requires seats { (0 < seats) × (seats ≤ 64) }
+        ensures state { IfOk result (λ desk. desk.state ≡ seed_state configuration.now process) }
+        ensures seats { IfOk result (λ desk. (desk.seats ≡ true) × (desk.count ≡ seats) × (desk.subscribers ≡ 0)) }
+        ensures refused { IfErr result (λ e. (e ≡ OutOfMemory) ⊎ (e ≡ Unpublished)) }
+    {
+        let node = Node::seed(alloc, configuration, process)?;
+        let held = Held::new(alloc, node)?;
+        let mut board = Board::new(rt, alloc, seats);
+        let view = View::new(configuration.try_copy(alloc)?);
+        let Ok(()) = board.publish(view) else {
+            return Err(DeskError::Unpublished);
+        };
+        Ok(Desk {
+            rt,
+            alloc,
+            held,
+            board,
+            outlets: Vec::new(alloc),
+        })
+    }
+
+    /// The desk of a process that joins by the seed at this endpoint. It publishes nothing until it
+    /// is in a configuration. The caller asks for 1 to 64 seats. `OutOfMemory` where there was
+    /// none.
+    pub fn joiner(
+        rt: R,
+        alloc: Global,
+        process: Process,
+        seed: Endpoint,
+        seats: usize,
+    ) -> Result<Desk<R>, DeskError>
+        requires { (0 < seats) × (seats ≤ 64) }
+        ensures state { IfOk result (λ desk. desk.state ≡ joiner_state process seed) }
+        ensures seats { IfOk result (λ desk. (desk.seats ≡ false) × (desk.count ≡ seats) × (desk.subscribers ≡ 0)) }
+        ensures refused { IfErr result (λ e. e ≡ OutOfMemory) }
+    {
+        Ok(Desk {
+            rt,
+            alloc,
+            held: Held::new(alloc, Node::joiner(alloc, process, seed)?)?,
+            board: Board::new(rt, alloc, seats),
+            outlets: Vec::new(alloc),
+        })
+    }
+
+    /// The node is the replay of the journal and what it installed is published, or it has halted.
+    /// It does nothing: what it ensures is for proofs.
+    #[inline(always)]
+    pub fn tell(&self)
+        ensures { IsDesk self.now.state }
+    {
+        let _ = &self.held;
+    }
+
+    /// One event at the node, and what is to be sent after it, in order. Afterwards the journal has
+    /// the event, or begins anew where a configuration was entered, which is published then.
+    ///
+    /// # Errors
+    ///
+    /// Checked first: `JournalFull` where 65,536 records are kept and the event needs another, and
+    /// from then on. `OutOfMemory` where there was none for what the desk keeps. Both leave node,
+    /// journal and published list. `Node` where the node has halted, or does in this step: it sends
+    /// nothing of the step. `Unpublished` where the new view could not be published: the node halts
+    /// and sends nothing of the step, and its installed list is one longer than the published one.
+    pub fn step(&mut self, event: Event) -> Result<Outputs, DeskError>
+        ensures outputs { IfOk result (λ sent. HasOutcome self.old.state.node.me (node_step self.old.state.node (event_of event)) self.new.state.node sent.items) }
+        ensures advances { OnOk result (Advances self.old.state (event_of event) self.new.state) }
+        ensures seats { OnOk result (self.new.seats ≡ (self.old.seats || (is_blank self.old.state.published && not (is_blank self.new.state.published)))) }
+        ensures refused { IfErr result (Refused self.old.state (event_of event) self.new.state) }
+        ensures same_seats { OnErr result (self.new.seats ≡ self.old.seats) }
+        ensures count { (self.new.count ≡ self.old.count) × (self.new.subscribers ≡ self.old.subscribers) }
+    {
+        match self.held.prepare(&event) {
+            Ok(sent) => {
+                let entering = self.held.installs();
+                settle(&mut self.held, &mut self.board, self.alloc, event)?;
+                if entering {
+                    announce(&mut self.outlets, &self.rt, self.alloc, self.held.node());
+                }
+                Ok(sent)
+            }
+            Err(error) => {
+                drop(event);
+                Err(error)
+            }
+        }
+    }
+
+    /// The seats at the published view, once, from when a view is published.
+    pub fn take_seats(&mut self) -> Option<Vec<ViewSeat>>
+        ensures some { is_some result ≡ self.old.seats }
+        ensures rest { self.new ≡ record self.old { seats = false } }
+        ensures all { IfSome result (λ all. vec_len all ≡ self.old.count) }
+        ensures one_cell { IfSome result (λ all. (cell : TableId) × All (λ s. s.cell ≡ cell) all.items) }
+    {
+        self.board.take_seats()
+    }
+
+    /// A subscription to the views from now on, with room for so many that wait.
+    ///
+    /// # Errors
+    ///
+    /// `BadCapacity` where the capacity is not 1 to 1,024, else `TooManySubscribers` where the desk
+    /// serves 64, else `OutOfMemory`.
+    pub fn subscribe(&mut self, capacity: usize) -> Result<Subscription, DeskError>
+        ensures same { (self.new.state ≡ self.old.state) × (self.new.seats ≡ self.old.seats) × (self.new.count ≡ self.old.count) }
+        ensures ok { OnOk result ((0 < capacity) × (capacity ≤ 1024) × (self.old.subscribers < 64) × (self.new.subscribers ≡ self.old.subscribers + 1)) }
+        ensures untaken { IfOk result (λ subscription. subscription.1 ≡ []) }
+        ensures refused { IfErr result (NotSubscribed capacity self.old.subscribers) }
+        ensures unchanged { OnErr result (self.new.subscribers ≡ self.old.subscribers) }
+    {
+        if capacity == 0 || capacity > MOST_CAPACITY {
+            return Err(DeskError::BadCapacity);
+        }
+        if self.outlets.len() >= MOST_SUBSCRIBERS {
+            return Err(DeskError::TooManySubscribers);
+        }
+        let (outlet, subscription) = subscribe(self.alloc, capacity)?;
+        match self.outlets.push(outlet) {
+            Ok(()) => Ok(subscription),
+            Err(_) => Err(DeskError::OutOfMemory),
+        }
+    }
+
+    /// Ends the subscriptions made so far, which count no more: what is there is still taken.
+    pub fn close(&mut self)
+        ensures { self.new ≡ record self.old { subscribers = 0 } }
+    {
+        end_all(&mut self.outlets, &self.rt);
+        self.outlets.clear();
+    }
+}

@@ -1,0 +1,16 @@
+//! A desk: a node with the journal since it entered its configuration, and the views that it
+//! publishes. It is kept under a lock, so that many threads hand it events.
+#![tactic(auto)]
+
+mod board;
+mod desk;
+mod error;
+mod held;
+mod journal;
+mod notice;
+mod outlet;
+mod subscription;
+
+pub use desk::Desk;
+pub use error::DeskError;
+pub use subscription::{Subscription, Taken};

@@ -1,0 +1,85 @@
+// The subscriber's side.
+
+ghost use Rattle.std.specs.Prelude.{◌≡◌, ◌⊎◌, ℕ, ◌+◌, List, [], ◌∷◌, ◌++◌};
+ghost use Rattle.rapid_desk.specs.Notices.{state_of, IsNext, MayFollow};
+ghost use Rattle.rapid_desk.specs.Taking.{Told};
+
+use crate::notice::{Notice, State, Successive};
+use rapid_line::Source;
+use rapid_view::View;
+use std::marker::Model;
+use std::sync::Wait;
+
+/// What a subscriber is told.
+#[derive(Drop)]
+pub enum Taken {
+    Change(View),
+    Lagged,
+    Empty,
+    Closed,
+}
+
+/// Contracts see the queue and what was taken.
+#[derive(Drop)]
+pub struct Subscription {
+    pub(crate) source: Source<Notice, Successive>,
+    state: State,
+}
+
+impl Model for Subscription {
+    ghost use Rattle.std.specs.Prelude.{◌≡◌, List};
+    ghost use Rattle.atomic_table.specs.Seated.{TableId};
+    ghost use Rattle.rapid_desk.specs.declared.notice.Notice.{Notice};
+    ghost use Rattle.rapid_desk.specs.Notices.{state_of};
+
+    ghost Value = { TableId × List Notice };
+
+    ghost view = { λ s. s.source };
+
+    ghost invariant = { λ s. s.state ≡ state_of s.source.1 };
+}
+
+#[tactic(auto, using(crate::proofs::Marks::state_of_now))]
+impl Subscription {
+    pub(crate) fn new(source: Source<Notice, Successive>) -> Subscription
+        requires { source.1 ≡ [] }
+        ensures { (result.0 ≡ source.0) × (result.1 ≡ []) }
+    {
+        Subscription {
+            source,
+            state: State::Open,
+        }
+    }
+
+    /// The next change, or why there is none.
+    pub fn take<R: Wait>(&mut self, rt: &R) -> Taken
+        ensures queue { self.new.0 ≡ self.old.0 }
+        ensures taken { Told result self.old.1 self.new.1 }
+    {
+        match self.state {
+            State::Lagged => Taken::Lagged,
+            State::Closed => Taken::Closed,
+            State::Open => self.next(rt),
+        }
+    }
+
+    /// What the queue has next.
+    fn next<R: Wait>(&mut self, rt: &R) -> Taken
+        requires { state_of self.old.1 ≡ State.Open }
+        ensures queue { self.new.0 ≡ self.old.0 }
+        ensures taken { Told result self.old.1 self.new.1 }
+    {
+        match self.source.take(rt) {
+            None => Taken::Empty,
+            Some(Notice::Change(view)) => Taken::Change(view),
+            Some(Notice::Lag) => {
+                self.state = State::Lagged;
+                Taken::Lagged
+            }
+            Some(Notice::End) => {
+                self.state = State::Closed;
+                Taken::Closed
+            }
+        }
+    }
+}

@@ -1,0 +1,59 @@
+// Desks to begin with, and what is told to them.
+
+ghost use Rattle.std.specs.Prelude.{◌≤◌, ◌<◌};
+
+use rapid_config::{ConfigId, Configuration, Cut, Params};
+use rapid_desk::Desk;
+use rapid_endpoint::{Endpoint, Process, ProcessId};
+use rapid_node::{Body, Event, Message};
+use std::alloc::Global;
+use std::process::Abort;
+use std::sync::Wait;
+use std::test::Fail;
+
+/// The process with this number.
+pub(crate) fn process(number: u16) -> Process {
+    let [high, low] = number.to_be_bytes();
+    let mut id = [0; 16];
+    id[14] = high;
+    id[15] = low;
+    Process::new(ProcessId::new(id), Endpoint::new([127, 0, 0, 1], number))
+}
+
+/// The founding configuration of process 1 alone.
+pub(crate) fn founding(alloc: Global) -> Result<Configuration, Fail> {
+    let params = Params::new(3, 3, 1)?;
+    Ok(Configuration::seed(alloc, params, &[process(1)])?)
+}
+
+/// The configuration after a cut of the process with this number.
+pub(crate) fn after(
+    alloc: Global,
+    configuration: &Configuration,
+    number: u16,
+) -> Result<Configuration, Fail> {
+    let cut = Cut::new(Vec::from_array(alloc, [process(number)])?)?;
+    Ok(configuration.apply(alloc, &cut)?)
+}
+
+/// Process 2 says that in the configuration with this identifier the cut of this process was
+/// decided.
+pub(crate) fn decision(alloc: Global, id: ConfigId, number: u16) -> Result<Event, Fail> {
+    let cut = Cut::new(Vec::from_array(alloc, [process(number)])?)?;
+    let message = Message::new(process(2), Body::Decision(id, cut));
+    Ok(Event::Receive(message))
+}
+
+/// The desk of process 1 alone, with so many seats.
+pub(crate) fn alone<R: Wait + Abort>(
+    rt: &R,
+    alloc: Global,
+    seats: usize,
+) -> Result<Box<Desk<&R>>, Fail>
+    requires { (0 < seats) × (seats ≤ 64) }
+{
+    let configuration = founding(alloc)?;
+    let me = process(1);
+    assert!(rt; configuration.is_member(&me));
+    Ok(Box::new(alloc, Desk::seed(rt, alloc, &configuration, me, seats)?)?)
+}

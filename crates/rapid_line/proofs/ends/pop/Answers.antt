@@ -1,0 +1,5 @@
+use Rattle.rapid_line.proofs.Moves.{takes}
+use Rattle.rapid_line.proofs.ends.pop.Goals as goal
+
+pub pop_as-requires-clause-rule : goal.pop_as-requires-clause-rule
+pop_as-requires-clause-rule g c = (takes _ _ _ c.requires.takes, λ items views k at. tt)

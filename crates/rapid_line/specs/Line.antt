@@ -1,0 +1,32 @@
+-- What was put into a queue is what was taken and then what it holds. One pass at most puts and one at most takes.
+use Rattle.std.specs.Prelude.{◌≡◌, ℕ, Bool, true, false, List, [], ◌∷◌, ◌++◌}
+use mathlib.Core.Option.{some}
+use lib.ListN.{get_elem?}
+use Rattle.rapid_line.specs.declared.Post.{Post}
+
+module _ {T : Type 0} where
+  abbrev pub post : Bool → Bool → List T → List T → Post T
+  post a b put taken = record { puts = a; takes = b; put = put; taken = taken }
+
+  abbrev pub StartsWith : List T → List T → Type 0
+  StartsWith put taken = (rest : List T) × (put ≡ taken ++ rest)
+
+  -- each item may follow those before it
+  abbrev pub Follows : (List T → T → Type 0) → List T → List T → Type 0
+  Follows next before [] = Unit {0}
+  Follows next before (x ∷ xs) = next before x × Follows next (before ++ x ∷ []) xs
+
+  -- what the rule says of one pass
+  pub record Fits (writer reader : ℕ) (put taken : List T) (port : ℕ) (v : Post T) : Type 0 where
+    pub puts : v.puts ≡ true → (port ≡ writer) × (v.put ≡ put)
+    pub takes : v.takes ≡ true → (port ≡ reader) × (v.taken ≡ taken)
+    pub claims : StartsWith put v.taken
+
+  pub record Kept (next : List T → T → Type 0) (items : List T) (views : List (Post T)) : Type 0 where
+    pub writer : ℕ
+    pub reader : ℕ
+    pub put : List T
+    pub taken : List T
+    pub whole : put ≡ taken ++ items
+    pub follows : Follows next [] put
+    pub each : (port : ℕ) (v : Post T) → get_elem? views port ≡ some v → Fits writer reader put taken port v

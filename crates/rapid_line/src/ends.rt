@@ -1,0 +1,176 @@
+// The two ends of a queue.
+
+ghost use Rattle.std.specs.Prelude.{◌≡◌, ℕ, ◌<◌, List, [], ◌∷◌, ◌++◌, true, false, IfOk, MatchOption, MatchResult};
+ghost use Rattle.std.specs.Arc.{arc_value};
+ghost use Rattle.crossbeam_queue.specs.Passes.{view, IsPassOf};
+ghost use Rattle.rapid_line.specs.Line.{post, StartsWith};
+
+use crate::{Compares, Note, Order, Post, Puts, Queue, Roles, Takes};
+use crossbeam_queue::{Pass, RuledArrayQueue};
+use std::alloc::{AllocError, Global};
+use std::marker::Model;
+use std::sync::{Arc, Wait};
+
+/// The end that puts. Contracts see the queue and what was put.
+#[derive(Drop)]
+pub struct Sink<T: Drop, P: Order<T>> {
+    queue: Arc<Queue<T, P>>,
+    pass: Pass<T, Post<T>>,
+}
+
+impl<T: Drop, P: Order<T>> Model for Sink<T, P> {
+    ghost use Rattle.std.specs.Prelude.{◌≡◌, List, true, false};
+    ghost use Rattle.std.specs.Arc.{arc_value};
+    ghost use Rattle.atomic_table.specs.Seated.{TableId};
+    ghost use Rattle.crossbeam_queue.specs.Passes.{view as pass_view, IsPassOf};
+
+    ghost Value = { TableId × List T };
+
+    ghost view = { λ s. (s.pass.table_id, (pass_view s.pass).put) };
+
+    ghost invariant = { λ s. IsPassOf (arc_value s.queue) s.pass × ((pass_view s.pass).puts ≡ true) × ((pass_view s.pass).takes ≡ false) };
+}
+
+/// The end that takes. Contracts see the queue and what was taken.
+#[derive(Drop)]
+pub struct Source<T: Drop, P: Order<T>> {
+    queue: Arc<Queue<T, P>>,
+    pass: Pass<T, Post<T>>,
+}
+
+impl<T: Drop, P: Order<T>> Model for Source<T, P> {
+    ghost use Rattle.std.specs.Prelude.{◌≡◌, List, true, false};
+    ghost use Rattle.std.specs.Arc.{arc_value};
+    ghost use Rattle.atomic_table.specs.Seated.{TableId};
+    ghost use Rattle.crossbeam_queue.specs.Passes.{view as pass_view, IsPassOf};
+
+    ghost Value = { TableId × List T };
+
+    ghost view = { λ s. (s.pass.table_id, (pass_view s.pass).taken) };
+
+    ghost invariant = { λ s. IsPassOf (arc_value s.queue) s.pass × ((pass_view s.pass).takes ≡ true) };
+}
+
+/// An empty queue for so many items, at least one.
+pub fn line<T: Drop, P: Order<T>>(
+    alloc: Global,
+    capacity: usize,
+) -> Result<(Sink<T, P>, Source<T, P>), AllocError>
+    requires { 0 < capacity }
+    ensures { IfOk result (λ r. (r.0.0 ≡ r.1.0) × (r.0.1 ≡ []) × (r.1.1 ≡ [])) }
+{
+    let (queue, mut writer) = RuledArrayQueue::ruled(alloc, capacity)?;
+    let reader = queue.another::<Roles>(&mut writer);
+    let queue = Arc::new(alloc, queue)?;
+    let other = Arc::try_clone(&queue)?;
+    let sink = Sink {
+        queue,
+        pass: writer,
+    };
+    let source = Source {
+        queue: other,
+        pass: reader,
+    };
+    Ok((sink, source))
+}
+
+impl<T: Drop, P: Order<T>> Sink<T, P> {
+    /// Puts an item where there is room.
+    pub fn put<R: Wait>(&mut self, rt: &R, item: T) -> Result<(), T>
+        requires { P.next self.old.1 item }
+        ensures queue { self.new.0 ≡ self.old.0 }
+        ensures put { MatchResult result (λ _. self.new.1 ≡ self.old.1 ++ item ∷ []) (λ x. (x ≡ item) × (self.new.1 ≡ self.old.1)) }
+    {
+        push(rt, &self.queue, &mut self.pass, item)
+    }
+
+    /// How many items were in the queue at one moment of the call.
+    pub fn len<R: Wait>(&mut self, rt: &R) -> usize
+        ensures { self.new ≡ self.old }
+    {
+        count(rt, &self.queue, &mut self.pass)
+    }
+
+    /// What was taken is a beginning of what was put.
+    pub fn compare(&mut self, source: &mut Source<T, P>)
+        requires { self.old.0 ≡ source.old.0 }
+        ensures same { (self.new ≡ self.old) × (source.new ≡ source.old) }
+        ensures order { StartsWith self.old.1 source.old.1 }
+    {
+        compare(&self.queue, &mut self.pass, &mut source.pass);
+    }
+}
+
+impl<T: Drop, P: Order<T>> Source<T, P> {
+    /// Takes the oldest item.
+    pub fn take<R: Wait>(&mut self, rt: &R) -> Option<T>
+        ensures queue { self.new.0 ≡ self.old.0 }
+        ensures taken { MatchOption result (self.new.1 ≡ self.old.1) (λ x. (self.new.1 ≡ self.old.1 ++ x ∷ []) × P.next self.old.1 x) }
+    {
+        pop(rt, &self.queue, &mut self.pass)
+    }
+}
+
+/// Puts an item by this pass.
+fn push<T: Drop, P: Order<T>, R: Wait>(
+    rt: &R,
+    queue: &Queue<T, P>,
+    pass: &mut Pass<T, Post<T>>,
+    item: T,
+) -> Result<(), T>
+    requires queue { IsPassOf queue.now pass.old }
+    requires puts { (view pass.old).puts ≡ true }
+    requires next { P.next (view pass.old).put item }
+    ensures queue { IsPassOf queue.now pass.new }
+    ensures same { ((view pass.new).puts ≡ (view pass.old).puts) × ((view pass.new).takes ≡ (view pass.old).takes) }
+    ensures put { MatchResult result (λ _. view pass.new ≡ post (view pass.old).puts (view pass.old).takes ((view pass.old).put ++ item ∷ []) (view pass.old).taken) (λ x. (x ≡ item) × (view pass.new ≡ view pass.old)) }
+{
+    queue.push_as::<Puts, R>(rt, pass, item)
+}
+
+/// Takes an item by this pass.
+fn pop<T: Drop, P: Order<T>, R: Wait>(
+    rt: &R,
+    queue: &Queue<T, P>,
+    pass: &mut Pass<T, Post<T>>,
+) -> Option<T>
+    requires queue { IsPassOf queue.now pass.old }
+    requires takes { (view pass.old).takes ≡ true }
+    ensures queue { IsPassOf queue.now pass.new }
+    ensures same { (view pass.new).takes ≡ (view pass.old).takes }
+    ensures taken { MatchOption result (view pass.new ≡ view pass.old) (λ x. (view pass.new ≡ post (view pass.old).puts (view pass.old).takes (view pass.old).put ((view pass.old).taken ++ x ∷ [])) × P.next (view pass.old).taken x) }
+{
+    queue.pop_as::<Takes<P>, R>(rt, pass)
+}
+
+/// What the other pass has taken is a beginning of what this one has put.
+fn compare<T: Drop, P: Order<T>>(
+    queue: &Queue<T, P>,
+    pass: &mut Pass<T, Post<T>>,
+    theirs: &mut Pass<T, Post<T>>,
+)
+    requires queue { IsPassOf queue.now pass.old }
+    requires theirs { IsPassOf queue.now theirs.old }
+    requires puts { ((view pass.old).puts ≡ true) × ((view pass.old).takes ≡ false) }
+    ensures queue { IsPassOf queue.now pass.new × IsPassOf queue.now theirs.new }
+    ensures view { view pass.new ≡ post (view pass.old).puts (view pass.old).takes (view pass.old).put (view theirs.old).taken }
+    ensures theirs { view theirs.new ≡ view theirs.old }
+    ensures order { StartsWith (view pass.old).put (view theirs.old).taken }
+{
+    let note = queue.another::<Note>(theirs);
+    queue.absorb::<Note>(pass, note);
+    queue.learn_as::<Compares>(pass);
+}
+
+/// How many items are in the queue.
+fn count<T: Drop, P: Order<T>, R: Wait>(
+    rt: &R,
+    queue: &Queue<T, P>,
+    pass: &mut Pass<T, Post<T>>,
+) -> usize
+    requires { IsPassOf queue.now pass.old }
+    ensures queue { IsPassOf queue.now pass.new }
+    ensures same { view pass.new ≡ view pass.old }
+{
+    queue.len_as::<Puts, R>(rt, pass)
+}

@@ -1,0 +1,4 @@
+pub mod Parts
+pub mod Moves
+pub mod Beginnings
+pub mod Same

@@ -1,0 +1,8 @@
+use Rattle.std.proofs.Common.{ap, subst}
+use Rattle.rapid_model.specs.PublishedList.{IsBeginning}
+use Rattle.rapid_view.specs.Seen.{Watched}
+use Rattle.rapid_view.proofs.Beginnings.{begins_itself}
+use Rattle.rapid_view.proofs.seat.ViewSeat.members.Goals as goal
+
+pub loop-init : goal.loop-init
+loop-init g c = (ap (λ (v : Watched). v.cell) c.self.view_is, subst (λ (v : Watched). IsBeginning v.seen c.self.inside.stamps.seen) c.self.view_is (begins_itself _))

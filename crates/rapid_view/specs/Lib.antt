@@ -1,0 +1,3 @@
+pub mod Words
+pub mod CellRule
+pub mod Seen

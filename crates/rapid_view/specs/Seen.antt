@@ -1,0 +1,59 @@
+-- What the writer and the seats of a cell show.
+use Rattle.std.specs.Prelude.{◌≡◌, ◌≢◌, ℕ, ◌+◌, ◌-◌, ◌<◌, List, [], ◌∷◌, length, slice_get, Option, Some}
+use Rattle.atomic_table.specs.Seated.{TableId}
+use Rattle.rapid_model.specs.Configuration.{Configuration, Stamp}
+use Rattle.rapid_view.specs.declared.error.ViewError.{ViewError}
+use Rattle.rapid_view.specs.declared.error.ViewError.TheVariants.{NotNext, Behind, NoPlace, CellFull, OutOfMemory}
+
+-- Which cell a seat reads, and the published list as far as the seat has seen it.
+pub record Watched : Type 0 where
+  pub cell : TableId
+  pub seen : List Stamp
+
+-- Which cell the writer writes, for how many views it has room, and the list that is published.
+pub record Written : Type 0 where
+  pub cell : TableId
+  pub room : ℕ
+  pub seen : List Stamp
+
+-- Which cell the writer writes, for how many views it has room, the list that is published, and the view that readers find; none where even a copy that shares
+-- its members was refused.
+pub record Publishing : Type 0 where
+  pub cell : TableId
+  pub room : ℕ
+  pub seen : List Stamp
+  pub shown : Option Configuration
+
+-- The height of the last stamp, 0 where there is none.
+abbrev pub last_height : List Stamp → ℕ
+last_height [] = 0
+last_height (s ∷ []) = s.height
+last_height (s ∷ t ∷ stamps) = last_height (t ∷ stamps)
+
+-- A stamp of this height may be published.
+abbrev pub MayFollow : ℕ → List Stamp → ℕ → Type 0
+MayFollow room seen height = (height ≡ last_height seen + 1) × (length seen < room)
+
+-- Why a view of this height was not published, where so many have room.
+abbrev pub Refused : ℕ → List Stamp → ℕ → ViewError → Type 0
+Refused room seen height NotNext = height ≢ last_height seen + 1
+Refused room seen height CellFull = (height ≡ last_height seen + 1) × (length seen ≡ room)
+Refused room seen height OutOfMemory = MayFollow room seen height
+Refused room seen height (Behind _) = ⊥
+Refused room seen height NoPlace = ⊥
+
+-- Why no view was found by a seat that has seen these stamps.
+abbrev pub Missed : List Stamp → ViewError → Type 0
+Missed seen (Behind s) = slice_get seen (length seen - 1) ≡ Some s
+Missed seen OutOfMemory = Unit {0}
+Missed seen NotNext = ⊥
+Missed seen NoPlace = ⊥
+Missed seen CellFull = ⊥
+
+-- The number of an error.
+abbrev pub code_of : ViewError → ℕ
+code_of NotNext = 1
+code_of (Behind _) = 2
+code_of NoPlace = 3
+code_of CellFull = 4
+code_of OutOfMemory = 99

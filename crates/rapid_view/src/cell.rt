@@ -1,0 +1,93 @@
+// The cell that the writer and the seats of a published list share.
+
+ghost use Rattle.std.specs.Prelude.{◌≡◌, ◌⊎◌, ℕ, ◌+◌, ◌*◌, ◌<◌, ◌≤◌, List, [], ◌∷◌, length, vec_len, All, Some, IfOk, IfErr};
+ghost use Rattle.rapid_model.specs.Configuration as model;
+ghost use Rattle.rapid_view.specs.CellRule.{place, writing};
+
+use crate::known::{Known, Published};
+use crate::page::Page;
+use crate::seat::ViewSeat;
+use crate::stamp_writer::StampWriter;
+use crate::writer::ViewWriter;
+use crate::{View, ViewError};
+use atomic_table::{Seat, Table};
+use left_right::{ReadHandleFactory, WriteHandle};
+use std::alloc::{AllocError, Global};
+use std::sync::Wait;
+
+/// The words of a published list: the count, and for each stamp that there is room for a place of six
+/// words. No place below the count is written again.
+#[derive(Drop)]
+pub struct ViewCell {
+    pub(crate) table: Table<(), Known, u64, Published, Global>,
+}
+
+/// As many seats of the writer's cell, each with a place at the list of members.
+fn seats_of(
+    alloc: Global,
+    writer: &mut StampWriter,
+    list: &ReadHandleFactory<Page>,
+    seats: usize,
+) -> Result<Vec<ViewSeat>, ViewError>
+    requires { 0 < length writer.old.seen }
+    ensures same { writer.new ≡ writer.old }
+    ensures seats { IfOk result
+        (λ all. (vec_len all ≡ seats) × All (λ s. (s.cell ≡ writer.old.cell) × (s.seen ≡ writer.old.seen)) all.items) }
+    ensures refused { IfErr result (λ e. (e ≡ ViewError.NoPlace) ⊎ (e ≡ ViewError.OutOfMemory)) }
+{
+    let mut all = Vec::with_capacity(alloc, seats)?;
+    for _ in 0..seats {
+        let stamps = writer.reader()?;
+        let Ok(list) = list.handle() else {
+            return Err(ViewError::NoPlace);
+        };
+        all.push(ViewSeat::new(stamps, list))?;
+    }
+    Ok(all)
+}
+
+impl ViewCell {
+    /// The most views that a cell may have room for.
+    pub const MOST: usize = 65_536;
+
+    /// A cell in which this view is published, with room for so many: its writer, and its seats.
+    /// `NoPlace` where a seat got no reader's place.
+    pub fn new<R: Wait + Drop>(
+        rt: R,
+        alloc: Global,
+        view: View,
+        seats: usize,
+        views: usize,
+    ) -> Result<(ViewWriter<R>, Vec<ViewSeat>), ViewError>
+        requires seats { (0 < seats) × (seats ≤ 64) }
+        requires views { (0 < views) × (views ≤ 65536) }
+        ensures writer { IfOk result (λ r. (r.0.seen ≡ model.stamp view ∷ []) × (r.0.room ≡ views)) }
+        ensures shown { IfOk result (λ r. r.0.shown ≡ Some view) }
+        ensures seats { IfOk result (λ r. vec_len r.1 ≡ seats) }
+        ensures of_cell { IfOk result (λ r. All (λ s. s.cell ≡ r.0.cell) r.1.items) }
+        ensures seen { IfOk result (λ r. All (λ s. s.seen ≡ model.stamp view ∷ []) r.1.items) }
+        ensures refused { IfErr result (λ e. (e ≡ ViewError.NoPlace) ⊎ (e ≡ ViewError.OutOfMemory)) }
+    {
+        let stamp = view.stamp();
+        let second = Page::of(alloc, view.try_copy(alloc)?);
+        let list = WriteHandle::new(alloc, rt, Page::of(alloc, view), second, seats)?;
+        let mut stamps = StampWriter::open(alloc, stamp, views)?;
+        let all = seats_of(alloc, &mut stamps, &list.factory()?, seats)?;
+        let writer = ViewWriter { stamps, list };
+        Ok((writer, all))
+    }
+
+    /// An empty list with room for so many stamps, and the seat that writes it.
+    pub(crate) fn empty(
+        alloc: Global,
+        room: usize,
+    ) -> Result<(ViewCell, Seat<(), Known>), AllocError>
+        requires { (0 < room) × (room ≤ 65536) }
+        ensures { IfOk result
+            (λ r. (r.0.table.shared.table_id.words ≡ place room) × (r.1.table_id ≡ r.0.table.shared.table_id) × (r.1.me ≡ (writing room [] [], []))) }
+    {
+        let words = vec![in alloc; 0u64; 1 + 6 * room]?;
+        let (table, seat) = Table::of_words(alloc, words.as_slice(), &(room as u64))?;
+        Ok((ViewCell { table }, seat))
+    }
+}

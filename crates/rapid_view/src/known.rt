@@ -1,0 +1,82 @@
+// What a seat of the cell knows, the rule that the cell keeps, and the kinds of step.
+
+use atomic_table::{Join, Play, Split, TableRule};
+use rapid_config::Stamp;
+use std::collections::LinkedList;
+
+/// What a seat knows: whether it is the writer's, for how many stamps there is room, the list as far as
+/// it has seen it, what it was told, and the words that it has stored of the next stamp. No value of it
+/// is made.
+pub struct Known {
+    pub writes: bool,
+    pub room: u64,
+    pub seen: LinkedList<Stamp>,
+    pub told: LinkedList<Stamp>,
+    pub pending: LinkedList<u64>,
+}
+
+/// The rule: the words of the cell are a list of stamps of which each seat has seen a beginning.
+pub struct Published;
+
+impl TableRule<(), Known, u64> for Published {
+    ghost use Rattle.rapid_view.specs.CellRule.{Kept, newcomer};
+
+    ghost holds = { Kept };
+
+    ghost first = { newcomer };
+}
+
+/// A seat loads the count.
+pub(crate) struct Looks;
+
+impl Play<(), Known> for Looks {
+    ghost use Rattle.rapid_view.specs.CellRule.{Looked};
+
+    ghost then = { Looked };
+}
+
+/// A seat loads a word of a stamp that it has seen.
+pub(crate) struct Reads;
+
+impl Play<(), Known> for Reads {
+    ghost use Rattle.rapid_view.specs.CellRule.{Read};
+
+    ghost then = { Read };
+}
+
+/// The writer stores a word into the next place.
+pub(crate) struct Stores;
+
+impl Play<(), Known> for Stores {
+    ghost use Rattle.rapid_view.specs.CellRule.{Stored};
+
+    ghost then = { Stored };
+}
+
+/// The writer stores the count.
+pub(crate) struct Lengthens;
+
+impl Play<(), Known> for Lengthens {
+    ghost use Rattle.rapid_view.specs.CellRule.{Lengthened};
+
+    ghost then = { Lengthened };
+}
+
+/// A seat is told what another has seen. It is no step on a word.
+pub(crate) struct Tells;
+
+impl Split<Known> for Tells {
+    ghost use Rattle.rapid_view.specs.CellRule.{onlooker};
+
+    ghost left = { λ v. v };
+
+    ghost right = { onlooker };
+}
+
+impl Join<Known> for Tells {
+    ghost use Rattle.rapid_view.specs.CellRule.{informed, nobody};
+
+    ghost both = { informed };
+
+    ghost spent = { nobody };
+}

@@ -1,0 +1,22 @@
+//! The published view: one writer publishes views, and seats read the last one beside it.
+//!
+//! The stamps of the views stand in a cell of words that are read without a lock (`stamp`). The view
+//! itself is in two copies, of which readers have one while the writer changes the other (`members`).
+#![tactic(auto)]
+
+mod cell;
+mod error;
+mod known;
+mod page;
+mod seat;
+mod stamp_reader;
+mod stamp_writer;
+mod view;
+mod words;
+mod writer;
+
+pub use cell::ViewCell;
+pub use error::ViewError;
+pub use seat::ViewSeat;
+pub use view::View;
+pub use writer::ViewWriter;

@@ -1,0 +1,57 @@
+// The one who publishes views.
+
+ghost use Rattle.std.specs.Prelude.{◌≡◌, ◌+◌, ◌<◌, [], ◌∷◌, ◌++◌, length, IfOk, IfErr, IfSome};
+ghost use Rattle.rapid_model.specs.Configuration as model;
+ghost use Rattle.rapid_view.specs.Seen.{last_height, MayFollow, Refused};
+
+use crate::page::Page;
+use crate::stamp_writer::StampWriter;
+use crate::{View, ViewError};
+use left_right::WriteHandle;
+use std::marker::Model;
+use std::sync::Wait;
+
+/// The one writer of a cell. Contracts see which cell it writes, for how many views it has room, the
+/// list that is published, and the view that readers find.
+#[derive(Drop)]
+pub struct ViewWriter<R: Wait + Drop> {
+    pub(crate) stamps: StampWriter,
+    pub(crate) list: WriteHandle<Page, View, R>,
+}
+
+impl<R: Wait + Drop> Model for ViewWriter<R> {
+    ghost use Rattle.std.specs.Prelude.{◌≡◌, []};
+    ghost use Rattle.left_right.specs.Handles.{pending, published};
+    ghost use Rattle.rapid_view.specs.Seen.{Publishing};
+
+    ghost Value = { Publishing };
+
+    ghost view = { λ w. record { cell = w.stamps.cell; room = w.stamps.room; seen = w.stamps.seen; shown = (published w.list).view } };
+
+    ghost invariant = { λ w. pending w.list ≡ [] };
+}
+
+impl<R: Wait + Drop> ViewWriter<R> {
+    /// Publishes the next view: its stamp, and then the view itself. `NotNext` where its height is not
+    /// one more than the last, else `CellFull` where there is room for no more. An error changes
+    /// nothing.
+    pub fn publish(&mut self, view: View) -> Result<(), ViewError>
+        ensures same { (self.new.cell ≡ self.old.cell) × (self.new.room ≡ self.old.room) }
+        ensures longer { IfOk result (λ _. self.new.seen ≡ self.old.seen ++ model.stamp view ∷ []) }
+        ensures allowed { IfOk result (λ _. MayFollow self.old.room self.old.seen view.height) }
+        ensures shown { IfOk result (λ _. IfSome self.new.shown (λ c. model.stamp c ≡ model.stamp view)) }
+        ensures unchanged { IfErr result (λ _. self.new ≡ self.old) }
+        ensures refused { IfErr result (Refused self.old.room self.old.seen view.height) }
+    {
+        let stamp = view.stamp();
+        self.stamps.check(stamp.height())?;
+        let Ok(()) = self.list.append(view) else {
+            return Err(ViewError::OutOfMemory);
+        };
+        self.stamps.publish(stamp);
+        let Ok(()) = self.list.publish() else {
+            unreachable!()
+        };
+        Ok(())
+    }
+}
