@@ -1,100 +1,138 @@
 // Worked rows of the probe window, and copies.
 
 use crate::numbered::process;
-use rapid_config::{Configuration, Params};
+use crate::rings::rings_of;
 use rapid_monitor::{Edge, Monitors, Verdict};
 use rapid_rings::Rings;
-use std::alloc::Global;
+use std::alloc::{AllocError, Global};
 use std::test::Fail;
 
-/// The verdicts of an edge after these runs of equal results, each a result and how often it comes.
-fn verdicts(rt: &HostRuntime, edge: &mut Edge, runs: &[(bool, u8)]) -> Result<Vec<Verdict>, Fail> {
-    let mut verdicts = Vec::new(rt.alloc());
-    for (ok, count) in runs {
-        for _ in 0..*count {
-            verdicts.push(edge.probe(*ok))?;
+/// A result, how often it comes, and the verdict each time.
+type Run = (bool, u8, Verdict);
+
+/// Whether an edge has its verdict each time.
+fn runs(edge: &mut Edge, (ok, count, verdict): &Run) -> bool {
+    for _ in 0..*count {
+        if edge.probe(*ok) != *verdict {
+            return false;
         }
     }
-    Ok(verdicts)
+    true
 }
+
+/// Whether an edge has its verdicts in all these runs, in order.
+fn all_run(edge: &mut Edge, rows: &[Run]) -> bool {
+    for row in rows {
+        if !runs(edge, row) {
+            return false;
+        }
+    }
+    true
+}
+
+const UP: Verdict = Verdict::Up;
+
+const DOWN: Verdict = Verdict::Down;
+
+const WINDOWS: [&[Run]; 4] = [
+    &[(false, 3, UP), (true, 7, UP), (false, 1, UP)],
+    &[(false, 3, UP), (true, 6, UP), (false, 1, DOWN)],
+    &[(false, 3, UP), (false, 1, DOWN), (true, 20, DOWN)],
+    &[(true, 10, UP), (false, 3, UP)],
+];
 
 #[test]
 fn four_failures_of_ten_bring_an_edge_down(rt: HostRuntime) -> Result<(), Fail> {
-    let rows: [(&[(bool, u8)], usize, usize); 4] = [
-        (&[(false, 3), (true, 7), (false, 1)], 11, 11),
-        (&[(false, 3), (true, 6), (false, 1)], 10, 9),
-        (&[(false, 4), (true, 20)], 24, 3),
-        (&[(true, 10), (false, 3)], 13, 13),
-    ];
-    for (runs, probes, up) in rows {
-        let mut edge = Edge::new(rt.alloc())?;
-        let verdicts = verdicts(&rt, &mut edge, runs)?;
-        assert_eq!(rt; verdicts.len(), probes);
-        for (place, verdict) in verdicts.iter().enumerate() {
-            let expected = if place < up {
-                Verdict::Up
-            } else {
-                Verdict::Down
-            };
-            assert_eq!(rt; *verdict, expected, "after {place} more probes than one");
-        }
+    for runs in &WINDOWS {
+        assert!(rt; all_run(&mut Edge::new(rt.alloc())?, runs));
     }
     Ok(())
+}
+
+/// Whether a copy of an edge has its verdicts in these runs.
+fn copy_runs(alloc: Global, edge: &Edge, rows: &[Run]) -> Result<bool, AllocError> {
+    let mut copy = edge.try_copy(alloc)?;
+    Ok(all_run(&mut copy, rows))
 }
 
 #[test]
 fn a_copy_goes_on_by_itself(rt: HostRuntime) -> Result<(), Fail> {
     let mut edge = Edge::new(rt.alloc())?;
-    verdicts(&rt, &mut edge, &[(true, 9), (false, 3)])?;
-    let mut copy = edge.try_copy(rt.alloc())?;
-    assert_eq!(rt; copy.probe(false), Verdict::Down);
-    assert_eq!(rt; edge.probe(true), Verdict::Up);
-    assert_eq!(rt; edge.probe(false), Verdict::Down);
+    assert!(rt; all_run(&mut edge, &[(true, 9, UP), (false, 3, UP)]));
+    assert!(rt; copy_runs(rt.alloc(), &edge, &[(false, 1, DOWN)])?);
+    assert!(rt; all_run(&mut edge, &[(true, 1, UP), (false, 1, DOWN)]));
     Ok(())
 }
 
-/// The rings of processes 1 and 2, three of them.
-fn rings_of_two(alloc: Global) -> Result<Rings, Fail> {
-    let params = Params::new(3, 3, 1)?;
-    let pair = [process(1), process(2)];
-    let configuration = Configuration::seed(alloc, params, &pair)?;
-    Ok(Rings::new(alloc, &configuration)?)
+/// A probe of the edge on a ring: its result and the verdict, none where there is no edge.
+type Probe = (u8, bool, Option<Verdict>);
+
+/// Whether all probes have their verdicts, in order.
+fn all_probe(monitors: &mut Monitors, rows: &[Probe]) -> bool {
+    for (ring, ok, verdict) in rows {
+        if monitors.probe(*ring, *ok) != *verdict {
+            return false;
+        }
+    }
+    true
 }
+
+/// Whether all probes of a copy have their verdicts, in order.
+fn copy_probes(alloc: Global, monitors: &Monitors, rows: &[Probe]) -> Result<bool, AllocError> {
+    let mut copy = monitors.try_copy(alloc)?;
+    Ok(all_probe(&mut copy, rows))
+}
+
+const THREE_FAIL: [Probe; 3] = [
+    (0, false, Some(UP)),
+    (0, false, Some(UP)),
+    (0, false, Some(UP)),
+];
+
+const FOURTH_FAILS: [Probe; 1] = [(0, false, Some(DOWN))];
+
+const EACH_BY_ITSELF: [Probe; 4] = [
+    (1, false, Some(UP)),
+    (2, false, Some(UP)),
+    (3, false, None),
+    (0, false, Some(DOWN)),
+];
 
 #[test]
 fn the_edges_of_a_member_are_probed_by_ring(rt: HostRuntime) -> Result<(), Fail> {
-    let rings = rings_of_two(rt.alloc())?;
+    let rings = rings_of(rt.alloc(), &[process(1), process(2)])?;
     let mut monitors = Monitors::new(rt.alloc(), &rings, &process(1))?;
-    for _ in 0..3 {
-        assert_eq!(rt; monitors.probe(0, false), Some(Verdict::Up));
-    }
-    let mut copy = monitors.try_copy(rt.alloc())?;
-    assert_eq!(rt; copy.probe(0, false), Some(Verdict::Down));
-    assert_eq!(rt; monitors.probe(1, false), Some(Verdict::Up));
-    assert_eq!(rt; monitors.probe(2, false), Some(Verdict::Up));
-    assert_eq!(rt; monitors.probe(3, false), None);
-    assert_eq!(rt; monitors.probe(0, false), Some(Verdict::Down));
-    let mut stranger = Monitors::new(rt.alloc(), &rings, &process(9))?;
-    assert_eq!(rt; stranger.probe(0, true), None);
+    assert!(rt; all_probe(&mut monitors, &THREE_FAIL));
+    assert!(rt; copy_probes(rt.alloc(), &monitors, &FOURTH_FAILS)?);
+    assert!(rt; all_probe(&mut monitors, &EACH_BY_ITSELF));
     Ok(())
+}
+
+#[test]
+fn a_stranger_probes_nothing(rt: HostRuntime) -> Result<(), Fail> {
+    let rings = rings_of(rt.alloc(), &[process(1), process(2)])?;
+    let mut monitors = Monitors::new(rt.alloc(), &rings, &process(9))?;
+    assert!(rt; all_probe(&mut monitors, &[(0, true, None)]));
+    Ok(())
+}
+
+/// The monitors of process 1, made again where a growth is refused.
+fn made(alloc: Global, rings: &Rings) -> Result<Monitors, AllocError> {
+    match Monitors::new(alloc, rings, &process(1)) {
+        Err(_refused) => Monitors::new(alloc, rings, &process(1)),
+        made => made,
+    }
 }
 
 /// Where some growth is refused the next call works, and what was copied is as it was.
 #[test]
 fn want_of_memory_leaves_the_monitors_as_they_were(rt: HostRuntime) -> Result<(), Fail> {
-    let rings = rings_of_two(rt.alloc())?;
-    let mut monitors = match Monitors::new(rt.alloc(), &rings, &process(1)) {
-        Ok(monitors) => monitors,
-        Err(_) => Monitors::new(rt.alloc(), &rings, &process(1))?,
-    };
-    for _ in 0..3 {
-        monitors.probe(2, false);
+    let rings = rings_of(rt.alloc(), &[process(1), process(2)])?;
+    let mut monitors = made(rt.alloc(), &rings)?;
+    assert!(rt; all_probe(&mut monitors, &THREE_FAIL));
+    if let Ok(is_right) = copy_probes(rt.alloc(), &monitors, &FOURTH_FAILS) {
+        assert!(rt; is_right);
     }
-    let mut copy = match monitors.try_copy(rt.alloc()) {
-        Ok(copy) => copy,
-        Err(_) => monitors.try_copy(rt.alloc())?,
-    };
-    assert_eq!(rt; copy.probe(2, false), Some(Verdict::Down));
-    assert_eq!(rt; monitors.probe(2, true), Some(Verdict::Up));
+    assert!(rt; all_probe(&mut monitors, &EACH_BY_ITSELF));
     Ok(())
 }

@@ -2,112 +2,137 @@
 
 ghost use Rattle.std.specs.Prelude.{◌≤◌, length};
 
-use crate::numbered::process;
+use crate::numbered::{is_numbered, process};
 use rapid_config::{Configuration, Params};
 use rapid_endpoint::Process;
 use rapid_rings::{ObserverTable, Rings};
-use std::alloc::Global;
-use std::process::Abort;
+use std::alloc::{AllocError, Global};
 use std::test::Fail;
+
+/// The founding configuration of these members, who ascend, with three rings.
+pub fn founded(alloc: Global, members: &[Process]) -> Result<Configuration, Fail>
+    requires { 1 ≤ length members.now }
+{
+    Ok(Configuration::seed(alloc, Params::new(3, 3, 1)?, members)?)
+}
 
 /// The rings of these members, who ascend.
 pub fn rings_of(alloc: Global, members: &[Process]) -> Result<Rings, Fail>
     requires { 1 ≤ length members.now }
 {
-    let configuration = Configuration::seed(alloc, Params::new(3, 3, 1)?, members)?;
+    let configuration = founded(alloc, members)?;
     Ok(Rings::new(alloc, &configuration)?)
 }
 
-/// Checks who observes the process with this number on rings 0 to 2; 0 stands for nobody.
-fn assert_observers(rt: &impl Abort, rings: &Rings, subject: u16, observers: [u16; 3]) {
-    for ring in 0..3u8 {
-        let number = observers[usize::from(ring)];
-        let observer = if number == 0 {
-            None
-        } else {
-            Some(process(number))
-        };
-        assert!(rt;
-            rings.observer(ring, &process(subject)) == observer,
-            "of {subject} on {ring}"
-        );
-    }
+/// Whether one observes the other on a ring; 0 stands for nobody.
+fn observes(rings: &Rings, ring: u8, observer: u16, subject: u16) -> bool {
+    is_numbered(rings.observer(ring, &process(subject)), observer)
 }
+
+/// A subject, and its observers on rings 0 to 2; 0 stands for nobody.
+type Observed = (u16, [u16; 3]);
+
+/// Whether the subject has these observers.
+fn is_observed(rings: &Rings, (subject, [zero, one, two]): &Observed) -> bool {
+    observes(rings, 0, *zero, *subject)
+        && observes(rings, 1, *one, *subject)
+        && observes(rings, 2, *two, *subject)
+}
+
+/// Whether all have their observers.
+fn are_observed(rings: &Rings, rows: &[Observed]) -> bool {
+    for row in rows {
+        if !is_observed(rings, row) {
+            return false;
+        }
+    }
+    true
+}
+
+const OF_TWO: [Observed; 2] = [(1, [2, 2, 2]), (2, [1, 1, 1])];
 
 #[test]
 fn two_members_observe_each_other(rt: HostRuntime) -> Result<(), Fail> {
     let rings = rings_of(rt.alloc(), &[process(1), process(2)])?;
-    assert_observers(&rt, &rings, 1, [2, 2, 2]);
-    assert_observers(&rt, &rings, 2, [1, 1, 1]);
-    assert_eq!(rt; rings.observer(3, &process(1)), None);
-    assert_eq!(rt; rings.observer(255, &process(1)), None);
+    assert!(rt; are_observed(&rings, &OF_TWO));
+    assert!(rt; observes(&rings, 3, 0, 1) && observes(&rings, 255, 0, 1));
     Ok(())
 }
+
+const OF_ONE: [Observed; 2] = [(1, [0, 0, 0]), (5, [1, 1, 1])];
 
 #[test]
 fn a_member_alone_is_not_observed(rt: HostRuntime) -> Result<(), Fail> {
     let rings = rings_of(rt.alloc(), &[process(1)])?;
-    assert_observers(&rt, &rings, 1, [0, 0, 0]);
-    assert_observers(&rt, &rings, 5, [1, 1, 1]);
+    assert!(rt; are_observed(&rings, &OF_ONE));
     Ok(())
 }
 
 // The observers of these tests were computed by Python's hashlib, from the rule that none is
 // between.
 
-#[test]
-fn five_members_have_their_observers(rt: HostRuntime) -> Result<(), Fail> {
-    let rings = rings_of(
-        rt.alloc(),
+/// The rings of the members 1 to 5.
+fn rings_of_five(alloc: Global) -> Result<Rings, Fail> {
+    rings_of(
+        alloc,
         &[process(1), process(2), process(3), process(4), process(5)],
-    )?;
-    assert_observers(&rt, &rings, 1, [3, 5, 2]);
-    assert_observers(&rt, &rings, 2, [1, 1, 5]);
-    assert_observers(&rt, &rings, 3, [4, 4, 1]);
-    assert_observers(&rt, &rings, 4, [5, 2, 3]);
-    assert_observers(&rt, &rings, 5, [2, 3, 4]);
+    )
+}
+
+const OF_FIVE: [Observed; 8] = [
+    (1, [3, 5, 2]),
+    (2, [1, 1, 5]),
+    (3, [4, 4, 1]),
+    (4, [5, 2, 3]),
+    (5, [2, 3, 4]),
+    // joiners
+    (6, [4, 1, 3]),
+    (7, [3, 1, 2]),
+    (40_000, [2, 3, 1]),
+];
+
+#[test]
+fn five_members_and_joiners_have_their_observers(rt: HostRuntime) -> Result<(), Fail> {
+    let rings = rings_of_five(rt.alloc())?;
+    assert!(rt; are_observed(&rings, &OF_FIVE));
     Ok(())
 }
 
-#[test]
-fn joiners_have_their_observers(rt: HostRuntime) -> Result<(), Fail> {
-    let rings = rings_of(
-        rt.alloc(),
-        &[process(1), process(2), process(3), process(4), process(5)],
-    )?;
-    assert_observers(&rt, &rings, 6, [4, 1, 3]);
-    assert_observers(&rt, &rings, 7, [3, 1, 2]);
-    assert_observers(&rt, &rings, 40_000, [2, 3, 1]);
-    Ok(())
+/// Whether these are the pairs of a ring and the process with a number.
+fn are_pairs(pairs: &[(u8, Process)], expected: &[(u8, u16)]) -> bool {
+    pairs.len() == expected.len()
+        && pairs.iter().zip(expected).all(|(pair, (ring, number))| pair.0 == *ring
+            && pair.1 == process(*number))
+}
+
+/// Whether a process has these subjects, each a ring and a number.
+fn has_subjects(
+    alloc: Global,
+    rings: &Rings,
+    observer: u16,
+    expected: &[(u8, u16)],
+) -> Result<bool, AllocError> {
+    let subjects = rings.subjects_of(alloc, &process(observer))?;
+    Ok(are_pairs(subjects.as_slice(), expected))
 }
 
 #[test]
 fn members_have_their_subjects(rt: HostRuntime) -> Result<(), Fail> {
-    let rings = rings_of(
-        rt.alloc(),
-        &[process(1), process(2), process(3), process(4), process(5)],
-    )?;
-    let subjects = rings.subjects_of(rt.alloc(), &process(2))?;
-    assert!(rt;
-        subjects.as_slice() == [(0, process(5)), (1, process(4)), (2, process(1))].as_slice()
-    );
-    let subjects = rings.subjects_of(rt.alloc(), &process(6))?;
-    assert!(rt; subjects.is_empty());
+    let rings = rings_of_five(rt.alloc())?;
+    assert!(rt; has_subjects(rt.alloc(), &rings, 2, &[(0, 5), (1, 4), (2, 1)])?);
+    assert!(rt; has_subjects(rt.alloc(), &rings, 6, &[])?);
     Ok(())
 }
 
-#[test]
-fn rings_tell_of_their_configuration(rt: HostRuntime) -> Result<(), Fail> {
-    let members = [process(1), process(2)];
-    let configuration = Configuration::seed(rt.alloc(), Params::new(3, 3, 1)?, &members)?;
-    let rings = Rings::new(rt.alloc(), &configuration)?;
-    assert_eq!(rt; rings.params().k(), 3);
-    assert_eq!(rt; rings.id(), configuration.id());
-    assert!(rt; rings.is_member(&process(2)));
-    assert!(rt; !rings.is_member(&process(3)));
-    Ok(())
+/// Whether rings of three tell their configuration, in which there is no process 6.
+fn tell(rings: &Rings, configuration: &Configuration) -> bool {
+    rings.params().k() == 3
+        && rings.id() == configuration.id()
+        && rings.is_member(&process(2))
+        && !rings.is_member(&process(6))
 }
 
+/// The next rings keep keys of the last and tell of their configuration.
 #[test]
 fn the_next_rings_keep_the_keys(rt: HostRuntime) -> Result<(), Fail> {
     let before = rings_of(
@@ -115,24 +140,22 @@ fn the_next_rings_keep_the_keys(rt: HostRuntime) -> Result<(), Fail> {
         &[process(1), process(3), process(4), process(6)],
     )?;
     let members = [process(1), process(2), process(3), process(4), process(5)];
-    let configuration = Configuration::seed(rt.alloc(), Params::new(3, 3, 1)?, &members)?;
+    let configuration = founded(rt.alloc(), &members)?;
     let rings = before.next(rt.alloc(), &configuration)?;
-    assert_observers(&rt, &rings, 1, [3, 5, 2]);
-    assert_observers(&rt, &rings, 2, [1, 1, 5]);
-    assert_observers(&rt, &rings, 6, [4, 1, 3]);
+    assert!(rt; are_observed(&rings, &OF_FIVE) && tell(&rings, &configuration));
     Ok(())
+}
+
+/// Whether one search of a process tells that it is a member or not, and its observer on a ring.
+fn is_found(rings: &Rings, ring: u8, subject: u16, is_member: bool, observer: u16) -> bool {
+    let (found, by) = rings.member_and_observer(ring, &process(subject));
+    found == is_member && is_numbered(by, observer)
 }
 
 #[test]
 fn one_search_tells_members_and_observers(rt: HostRuntime) -> Result<(), Fail> {
-    let rings = rings_of(
-        rt.alloc(),
-        &[process(1), process(2), process(3), process(4), process(5)],
-    )?;
-    let of_member = rings.member_and_observer(1, &process(4));
-    assert!(rt; of_member == (true, Some(process(2))));
-    let of_joiner = rings.member_and_observer(2, &process(6));
-    assert!(rt; of_joiner == (false, Some(process(3))));
+    let rings = rings_of_five(rt.alloc())?;
+    assert!(rt; is_found(&rings, 1, 4, true, 2) && is_found(&rings, 2, 6, false, 3));
     Ok(())
 }
 
@@ -146,16 +169,21 @@ const SIXTEEN_RINGS: [(u8, [u16; 4]); 5] = [
     (15, [300, 1, 65_535, 2]),
 ];
 
+/// Whether these observe 1, 2, 300 and 65,535 on a ring.
+fn is_order(rings: &Rings, (ring, [first, second, third, last]): &(u8, [u16; 4])) -> bool {
+    observes(rings, *ring, *first, 1)
+        && observes(rings, *ring, *second, 2)
+        && observes(rings, *ring, *third, 300)
+        && observes(rings, *ring, *last, 65_535)
+}
+
 #[test]
 fn each_ring_has_an_order_of_its_own(rt: HostRuntime) -> Result<(), Fail> {
     let members = [process(1), process(2), process(300), process(65_535)];
     let configuration = Configuration::seed(rt.alloc(), Params::new(16, 9, 3)?, &members)?;
     let rings = Rings::new(rt.alloc(), &configuration)?;
-    for (ring, observers) in SIXTEEN_RINGS {
-        for (subject, number) in members.iter().zip(observers) {
-            let observer = rings.observer(ring, subject);
-            assert!(rt; observer == Some(process(number)), "{number} on {ring}");
-        }
+    for row in &SIXTEEN_RINGS {
+        assert!(rt; is_order(&rings, row));
     }
     Ok(())
 }

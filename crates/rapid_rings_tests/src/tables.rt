@@ -1,132 +1,156 @@
 // Tables of explicit edges.
 
-use crate::numbered::process;
+use crate::numbered::{is_numbered, process};
 use rapid_config::{ConfigId, Params};
 use rapid_rings::{ObserverTable, Table, TableError};
 use std::alloc::Global;
 use std::test::Fail;
 
+/// A call of a table, and what it answers.
+#[derive(Clone, Copy)]
+enum Call {
+    /// An edge: a ring, an observer and a subject.
+    Add(u8, u16, u16, Result<(), TableError>),
+    /// A process is made a joiner.
+    Joiner(u16),
+    /// The observer on a ring of a subject; 0 stands for nobody.
+    Observer(u8, u16, u16),
+    /// Whether a process is a member.
+    Member(u16, bool),
+    /// By one search, whether a process is a member, and its observer on a ring.
+    Search(u8, u16, bool, u16),
+}
+
+/// Whether a call answers as it has to.
+fn answers(table: &mut Table, call: &Call) -> bool {
+    match call {
+        Call::Add(ring, observer, subject, expected) => {
+            table.add(*ring, process(*observer), process(*subject)) == *expected
+        }
+        Call::Joiner(number) => table.joiner(process(*number)).is_ok(),
+        Call::Observer(ring, subject, number) => {
+            is_numbered(table.observer(*ring, &process(*subject)), *number)
+        }
+        Call::Member(number, is_member) => table.is_member(&process(*number)) == *is_member,
+        Call::Search(ring, subject, is_member, number) => {
+            let (found, by) = table.member_and_observer(*ring, &process(*subject));
+            found == *is_member && is_numbered(by, *number)
+        }
+    }
+}
+
+/// Whether all calls answer as they have to, in order.
+fn all_answer(table: &mut Table, calls: &[Call]) -> bool {
+    for call in calls {
+        if !answers(table, call) {
+            return false;
+        }
+    }
+    true
+}
+
+/// Whether all calls of a table of four rings answer as they have to, in order.
+fn runs(alloc: Global, calls: &[Call]) -> Result<bool, Fail> {
+    let mut table = Table::new(alloc, Params::new(4, 3, 2)?);
+    Ok(all_answer(&mut table, calls))
+}
+
+const EDGES: [Call; 7] = [
+    Call::Add(0, 1, 5, Ok(())),
+    Call::Add(1, 2, 5, Ok(())),
+    Call::Observer(0, 5, 1),
+    Call::Observer(1, 5, 2),
+    Call::Observer(2, 5, 0),
+    Call::Observer(0, 6, 0),
+    Call::Observer(255, 5, 0),
+];
+
 #[test]
 fn an_edge_has_its_observer(rt: HostRuntime) -> Result<(), Fail> {
-    let mut table = Table::new(rt.alloc(), Params::new(4, 3, 2)?);
-    table.add(0, process(1), process(5))?;
-    table.add(1, process(2), process(5))?;
-    assert_eq!(rt; table.observer(0, &process(5)), Some(process(1)));
-    assert_eq!(rt; table.observer(1, &process(5)), Some(process(2)));
+    assert!(rt; runs(rt.alloc(), &EDGES)?);
     Ok(())
 }
 
-#[test]
-fn where_no_edge_is_there_is_no_observer(rt: HostRuntime) -> Result<(), Fail> {
-    let mut table = Table::new(rt.alloc(), Params::new(4, 3, 2)?);
-    table.add(0, process(1), process(5))?;
-    assert_eq!(rt; table.observer(2, &process(5)), None);
-    assert_eq!(rt; table.observer(0, &process(6)), None);
-    assert_eq!(rt; table.observer(255, &process(5)), None);
-    Ok(())
-}
+const JOINERS: [Call; 7] = [
+    Call::Joiner(9),
+    Call::Member(9, false),
+    Call::Member(77, true),
+    Call::Search(0, 9, false, 0),
+    Call::Add(0, 1, 9, Ok(())),
+    Call::Add(0, 2, 9, Err(TableError::EdgeTwice)),
+    Call::Add(4, 2, 9, Err(TableError::RingRange)),
+];
 
 #[test]
-fn a_joiner_is_no_member(rt: HostRuntime) -> Result<(), Fail> {
-    let mut table = Table::new(rt.alloc(), Params::new(4, 3, 2)?);
-    table.joiner(process(9))?;
-    assert!(rt; !table.is_member(&process(9)));
-    assert!(rt; table.is_member(&process(77)));
-    assert!(rt; table.member_and_observer(0, &process(9)) == (false, None));
+fn a_joiner_is_no_member_and_an_edge_is_refused_by_name(rt: HostRuntime) -> Result<(), Fail> {
+    assert!(rt; runs(rt.alloc(), &JOINERS)?);
     Ok(())
 }
 
 #[test]
 fn a_table_has_its_parameters_and_no_identifier(rt: HostRuntime) -> Result<(), Fail> {
     let table = Table::new(rt.alloc(), Params::new(4, 3, 2)?);
-    assert_eq!(rt; table.params().k(), 4);
-    assert_eq!(rt; table.id(), ConfigId::new([0; 32]));
+    assert!(rt; table.params().k() == 4 && table.id() == ConfigId::new([0; 32]));
     Ok(())
 }
 
-#[test]
-fn an_edge_is_refused_by_name(rt: HostRuntime) -> Result<(), Fail> {
-    let mut table = Table::new(rt.alloc(), Params::new(1, 1, 1)?);
-    table.joiner(process(9))?;
-    table.add(0, process(1), process(9))?;
-    assert_eq!(rt;
-        table.add(0, process(2), process(9)),
-        Err(TableError::EdgeTwice)
-    );
-    assert_eq!(rt;
-        table.add(1, process(2), process(9)),
-        Err(TableError::RingRange)
-    );
-    assert_eq!(rt; table.observer(0, &process(9)), Some(process(1)));
-    Ok(())
-}
+const CODES: [(TableError, u8); 4] = [
+    (TableError::EdgeTwice, 1),
+    (TableError::RingRange, 2),
+    (TableError::TooMany, 3),
+    (TableError::OutOfMemory, 99),
+];
 
 #[test]
 fn errors_have_numbers(rt: HostRuntime) {
-    assert_eq!(rt; TableError::EdgeTwice.code(), 1);
-    assert_eq!(rt; TableError::RingRange.code(), 2);
-    assert_eq!(rt; TableError::TooMany.code(), 3);
-    assert_eq!(rt; TableError::OutOfMemory.code(), 99);
+    assert!(rt; CODES.iter().all(|(error, code)| error.code() == *code));
 }
 
-/// A table of two rings, where the members 2 to 1,025 are observed on ring 0.
-fn full_table(alloc: Global) -> Result<Table, Fail> {
-    let mut table = Table::new(alloc, Params::new(2, 2, 1)?);
+/// Has the members 2 to 1,025 observed on ring 0; whether each is.
+fn fill(table: &mut Table) -> bool {
     for number in 2..1026 {
-        table.add(0, process(1), process(number))?;
+        if !answers(table, &Call::Add(0, 1, number, Ok(()))) {
+            return false;
+        }
     }
-    Ok(table)
+    true
 }
+
+/// Whether all calls of a table of two rings, where the members 2 to 1,025 are observed on ring 0,
+/// answer as they have to, in order.
+fn runs_when_full(alloc: Global, calls: &[Call]) -> Result<bool, Fail> {
+    let mut table = Table::new(alloc, Params::new(2, 2, 1)?);
+    Ok(fill(&mut table) && all_answer(&mut table, calls))
+}
+
+/// The first error that holds is told, and joiners and further edges have room.
+const FULL: [Call; 8] = [
+    Call::Add(0, 1, 1026, Err(TableError::TooMany)),
+    Call::Observer(0, 1026, 0),
+    Call::Add(2, 1, 1026, Err(TableError::TooMany)),
+    Call::Add(2, 1, 2, Err(TableError::RingRange)),
+    Call::Add(0, 1, 2, Err(TableError::EdgeTwice)),
+    Call::Add(1, 1, 2, Ok(())),
+    Call::Joiner(5000),
+    Call::Add(0, 1, 5000, Ok(())),
+];
 
 #[test]
 fn a_1025th_member_is_not_observed(rt: HostRuntime) -> Result<(), Fail> {
-    let mut table = full_table(rt.alloc())?;
-    assert_eq!(rt;
-        table.add(0, process(1), process(1026)),
-        Err(TableError::TooMany)
-    );
-    assert_eq!(rt; table.observer(0, &process(1026)), None);
+    assert!(rt; runs_when_full(rt.alloc(), &FULL)?);
     Ok(())
 }
 
-#[test]
-fn the_first_error_is_told(rt: HostRuntime) -> Result<(), Fail> {
-    let mut table = full_table(rt.alloc())?;
-    assert_eq!(rt;
-        table.add(2, process(1), process(1026)),
-        Err(TableError::TooMany)
-    );
-    assert_eq!(rt;
-        table.add(2, process(1), process(2)),
-        Err(TableError::RingRange)
-    );
-    assert_eq!(rt;
-        table.add(0, process(1), process(2)),
-        Err(TableError::EdgeTwice)
-    );
-    Ok(())
-}
-
-#[test]
-fn joiners_and_further_edges_have_room(rt: HostRuntime) -> Result<(), Fail> {
-    let mut table = full_table(rt.alloc())?;
-    table.add(1, process(1), process(2))?;
-    table.joiner(process(5000))?;
-    table.add(0, process(1), process(5000))?;
-    assert_eq!(rt; table.observer(0, &process(5000)), Some(process(1)));
-    Ok(())
-}
+const NO_LONGER_FULL: [Call; 5] = [
+    Call::Joiner(3),
+    Call::Joiner(3),
+    Call::Add(0, 1, 1026, Ok(())),
+    Call::Add(0, 1, 1027, Err(TableError::TooMany)),
+    Call::Observer(0, 3, 1),
+];
 
 #[test]
 fn a_subject_that_becomes_a_joiner_counts_no_more(rt: HostRuntime) -> Result<(), Fail> {
-    let mut table = full_table(rt.alloc())?;
-    table.joiner(process(3))?;
-    table.joiner(process(3))?;
-    table.add(0, process(1), process(1026))?;
-    assert_eq!(rt;
-        table.add(0, process(1), process(1027)),
-        Err(TableError::TooMany)
-    );
-    assert_eq!(rt; table.observer(0, &process(3)), Some(process(1)));
+    assert!(rt; runs_when_full(rt.alloc(), &NO_LONGER_FULL)?);
     Ok(())
 }
