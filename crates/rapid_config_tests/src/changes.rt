@@ -1,33 +1,20 @@
 // What cuts make of configurations.
 
 use crate::configurations::founded;
-use crate::cuts::{cut, listed};
+use crate::cuts::cut;
 use crate::hexadecimal::is_spelt;
-use crate::numbered::process;
+use crate::numbered::{are, process};
 use crate::readings::changed;
-use rapid_config::{ConfigError, ConfigId, Configuration, Params};
-use rapid_endpoint::Process;
+use rapid_config::{ConfigError, Configuration, Cut};
 use std::alloc::Global;
 use std::test::Fail;
 
 #[test]
 fn two_founders_have_their_identifier(rt: HostRuntime) -> Result<(), Fail> {
-    let two = founded(&rt, rt.alloc(), Params::new(3, 3, 1)?, 2)?;
+    let two = founded(rt.alloc(), (3, 3, 1), 2)?;
     let digits = "7d3415fcc97888950a48f71ef429d7f0bacab640d712d864baadf0e6c270bda3";
     assert!(rt; is_spelt(rt.alloc(), two.id(), digits)?);
     Ok(())
-}
-
-/// Whether a configuration is the first after another, with these members and this identifier.
-fn follows(
-    next: &Configuration,
-    previous: ConfigId,
-    members: &[Process],
-    digits: &str,
-    alloc: Global,
-) -> Result<bool, Fail> {
-    let is_next = next.height() == 1 && next.previous() == previous;
-    Ok(is_next && next.members() == members && is_spelt(alloc, next.id(), digits)?)
 }
 
 // A cut of the configuration that 1 and 2 founded, the members after it, and the SHA-256 of their
@@ -60,41 +47,63 @@ const CHANGES: [Change; 5] = [
     ),
 ];
 
+/// Whether a configuration is the first after another, with these members.
+fn follows(next: &Configuration, last: &Configuration, members: &[(u16, u16)]) -> bool {
+    next.height() == 1 && next.previous() == last.id() && are(next.members(), members)
+}
+
+/// Whether a cut makes this of a configuration.
+fn changes(
+    alloc: Global,
+    configuration: &Configuration,
+    (numbers, members, digits): &Change,
+) -> Result<bool, Fail> {
+    let next = configuration.apply(alloc, &cut(alloc, numbers)?)?;
+    Ok(follows(&next, configuration, members) && is_spelt(alloc, next.id(), digits)?)
+}
+
 #[test]
 fn cuts_change_the_members(rt: HostRuntime) -> Result<(), Fail> {
-    let two = founded(&rt, rt.alloc(), Params::new(3, 3, 1)?, 2)?;
-    for (numbers, members, digits) in CHANGES {
-        let next = two.apply(rt.alloc(), &cut(rt.alloc(), numbers)?)?;
-        let members = listed(rt.alloc(), members)?;
-        assert!(rt; follows(&next, two.id(), members.as_slice(), digits, rt.alloc())?);
+    let two = founded(rt.alloc(), (3, 3, 1), 2)?;
+    for change in &CHANGES {
+        assert!(rt; changes(rt.alloc(), &two, change)?);
     }
     Ok(())
 }
 
 #[test]
 fn a_second_change_stands_on_the_first(rt: HostRuntime) -> Result<(), Fail> {
-    let two = founded(&rt, rt.alloc(), Params::new(3, 3, 1)?, 2)?;
-    let next = two.apply(rt.alloc(), &cut(rt.alloc(), &[(2, 2), (3, 3)])?)?;
+    let first = cut(rt.alloc(), &[(2, 2), (3, 3)])?;
+    let next = founded(rt.alloc(), (3, 3, 1), 2)?.apply(rt.alloc(), &first)?;
     let none = next.apply(rt.alloc(), &cut(rt.alloc(), &[(1, 1), (3, 3)])?)?;
     let digits = "3b18d48159ccb421a49f3e961b90a5d572902ae01fb9543a0fc3bfa40742034e";
     assert!(rt; is_spelt(rt.alloc(), none.id(), digits)?);
     Ok(())
 }
 
+/// Whether 1,024 members follow on as many by a cut, process 2000 at this place and 2001 nowhere.
+fn stays_full(
+    alloc: Global,
+    full: &Configuration,
+    cut: &Cut,
+    place: Option<usize>,
+) -> Result<bool, ConfigError> {
+    let next = full.apply(alloc, cut)?;
+    Ok(
+        next.members().len() == 1024
+            && next.position(&process(2000)) == place
+            && !next.is_member(&process(2001)),
+    )
+}
+
 /// Of 1,024 members none is followed by a joiner; where one leaves, the first of two joiners comes.
 #[test]
 fn joiners_come_where_there_is_room(rt: HostRuntime) -> Result<(), Fail> {
-    let full = founded(&rt, rt.alloc(), Params::new(10, 9, 3)?, 1024)?;
-    let rows: [(&[(u16, u16)], Option<usize>); 2] = [
-        (&[(2000, 2000)], None),
-        (&[(5, 5), (2000, 2000), (2001, 2001)], Some(1023)),
-    ];
-    for (numbers, place) in rows {
-        let next = full.apply(rt.alloc(), &cut(rt.alloc(), numbers)?)?;
-        assert_eq!(rt; next.members().len(), 1024);
-        assert_eq!(rt; next.position(&process(2000)), place);
-        assert!(rt; !next.is_member(&process(2001)));
-    }
+    let full = founded(rt.alloc(), (10, 9, 3), 1024)?;
+    let joins = cut(rt.alloc(), &[(2000, 2000)])?;
+    assert!(rt; stays_full(rt.alloc(), &full, &joins, None)?);
+    let changes = cut(rt.alloc(), &[(5, 5), (2000, 2000), (2001, 2001)])?;
+    assert!(rt; stays_full(rt.alloc(), &full, &changes, Some(1023))?);
     Ok(())
 }
 
@@ -118,11 +127,8 @@ fn joined_at(alloc: Global, one: &[u8], last: u8) -> Result<Option<ConfigError>,
 
 #[test]
 fn the_last_height_has_no_next(rt: HostRuntime) -> Result<(), Fail> {
-    let one = founded(&rt, rt.alloc(), Params::new(3, 3, 1)?, 1)?;
-    let bytes = one.to_bytes(rt.alloc())?;
-    for (last, expected) in [(255, Some(ConfigError::HeightFull)), (254, None)] {
-        let answer = joined_at(rt.alloc(), bytes.as_slice(), last)?;
-        assert_eq!(rt; answer, expected);
-    }
+    let bytes = founded(rt.alloc(), (3, 3, 1), 1)?.to_bytes(rt.alloc())?;
+    assert!(rt; joined_at(rt.alloc(), &bytes, 255)? == Some(ConfigError::HeightFull));
+    assert!(rt; joined_at(rt.alloc(), &bytes, 254)?.is_none());
     Ok(())
 }

@@ -1,95 +1,110 @@
 // Founding configurations: who is in them, their identifiers, and why others are refused.
 
-use crate::cuts::{listed, processes};
 use crate::hexadecimal::is_spelt;
-use crate::numbered::{at, process};
+use crate::numbered::{are, at, listed, process, processes};
 use rapid_config::{ConfigError, ConfigId, Configuration, Params};
 use rapid_endpoint::Process;
 use std::alloc::Global;
-use std::process::Abort;
 use std::test::Fail;
 
-/// The founding configuration of these processes, at least one.
+/// The founding configuration of these processes; of none it is refused.
 fn seeded(
-    rt: &impl Abort,
     alloc: Global,
     params: Params,
     founders: &[Process],
 ) -> Result<Configuration, ConfigError> {
-    assert!(rt; !founders.is_empty());
+    if founders.is_empty() {
+        return Err(ConfigError::EmptyCut);
+    }
     Configuration::seed(alloc, params, founders)
 }
 
-/// The founding configuration of the processes from 1 to `n`, at least one.
+/// The founding configuration of the processes from 1 to `n`, at least one, with these parameters.
 pub fn founded(
-    rt: &impl Abort,
     alloc: Global,
-    params: Params,
+    (k, h, l): (u8, u8, u8),
     n: u16,
-) -> Result<Configuration, Fail> {
+) -> Result<Configuration, ConfigError> {
+    let params = Params::new(k, h, l)?;
     let founders = processes(alloc, n)?;
-    Ok(seeded(rt, alloc, params, founders.as_slice())?)
+    seeded(alloc, params, founders.as_slice())
+}
+
+/// Whether a configuration is that which process 1 founds.
+fn is_of_one(configuration: &Configuration) -> bool {
+    configuration.height() == 0
+        && configuration.params().k() == 3
+        && configuration.previous() == ConfigId::zero()
+        && are(configuration.members(), &[(1, 1)])
 }
 
 #[test]
 fn a_founding_configuration_has_height_0(rt: HostRuntime) -> Result<(), Fail> {
-    let one = founded(&rt, rt.alloc(), Params::new(3, 3, 1)?, 1)?;
-    assert_eq!(rt; (one.height(), one.params().k()), (0, 3));
-    assert!(rt; one.previous() == ConfigId::zero());
-    assert!(rt; one.members() == [process(1)].as_slice());
+    let one = founded(rt.alloc(), (3, 3, 1), 1)?;
+    assert!(rt; is_of_one(&one));
     Ok(())
+}
+
+/// Whether a configuration of 1,024 members has this identifier and tells it.
+fn is_full(configuration: &Configuration, id: ConfigId) -> bool {
+    let stamp = configuration.stamp();
+    configuration.id() == id && stamp.id() == id && stamp.height() == 0 && stamp.members() == 1024
 }
 
 #[test]
 fn a_configuration_has_at_most_1024_members(rt: HostRuntime) -> Result<(), Fail> {
-    let most = founded(&rt, rt.alloc(), Params::new(3, 3, 1)?, 1024)?;
-    assert_eq!(rt; most.position(&process(1024)), Some(1023));
+    let most = founded(rt.alloc(), (3, 3, 1), 1024)?;
+    assert!(rt; most.position(&process(1024)) == Some(1023));
     let copy = most.try_copy(rt.alloc())?;
-    assert!(rt; copy.id() == most.id());
-    let stamp = most.stamp();
-    assert_eq!(rt; (stamp.height(), stamp.members()), (0, 1024));
-    assert!(rt; stamp.id() == most.id());
+    assert!(rt; is_full(&copy, most.id()));
     Ok(())
+}
+
+const FOUNDERS: [(&[(u16, u16)], ConfigError); 4] = [
+    (&[(2, 2), (1, 1)], ConfigError::NotSorted),
+    // the order goes by identifier: two endpoints of one identifier do not ascend
+    (&[(1, 1), (1, 2)], ConfigError::NotSorted),
+    (&[(1, 1), (2, 2), (3, 1)], ConfigError::EndpointTwice),
+    // the order is looked at before the endpoints
+    (&[(2, 2), (1, 2)], ConfigError::NotSorted),
+];
+
+/// Why the founding configuration of these processes is refused, if it is.
+fn refusal(alloc: Global, numbers: &[(u16, u16)]) -> Result<Option<ConfigError>, ConfigError> {
+    let params = Params::new(3, 3, 1)?;
+    let founders = listed(alloc, numbers)?;
+    Ok(seeded(alloc, params, founders.as_slice()).err())
 }
 
 #[test]
 fn founders_are_refused_by_name(rt: HostRuntime) -> Result<(), Fail> {
-    let params = Params::new(3, 3, 1)?;
-    let rows: [(&[(u16, u16)], ConfigError); 4] = [
-        (&[(2, 2), (1, 1)], ConfigError::NotSorted),
-        // the order goes by identifier: two endpoints of one identifier do not ascend
-        (&[(1, 1), (1, 2)], ConfigError::NotSorted),
-        (&[(1, 1), (2, 2), (3, 1)], ConfigError::EndpointTwice),
-        // the order is looked at before the endpoints
-        (&[(2, 2), (1, 2)], ConfigError::NotSorted),
-    ];
-    for (numbers, expected) in rows {
-        let founders = listed(rt.alloc(), numbers)?;
-        let refused = seeded(&rt, rt.alloc(), params, founders.as_slice());
-        assert_eq!(rt; refused.err(), Some(expected));
+    for (numbers, expected) in &FOUNDERS {
+        assert!(rt; refusal(rt.alloc(), numbers)? == Some(*expected));
     }
-    let many = processes(rt.alloc(), 1025)?;
-    let refused = seeded(&rt, rt.alloc(), params, many.as_slice());
-    assert_eq!(rt; refused.err(), Some(ConfigError::TooMany));
+    assert!(rt; founded(rt.alloc(), (3, 3, 1), 1025).err() == Some(ConfigError::TooMany));
     Ok(())
 }
 
+/// Whether a process has this place in a configuration, or none.
+fn has_place(configuration: &Configuration, member: &Process, place: Option<usize>) -> bool {
+    configuration.position(member) == place && configuration.is_member(member) == place.is_some()
+}
+
+const PLACES: [(u16, u16, Option<usize>); 7] = [
+    (1, 1, Some(0)),
+    (2, 2, Some(1)),
+    (5, 5, Some(4)),
+    (9, 9, Some(8)),
+    (10, 10, None),
+    (5, 6, None),
+    (0, 1, None),
+];
+
 #[test]
 fn members_have_their_places(rt: HostRuntime) -> Result<(), Fail> {
-    let configuration = founded(&rt, rt.alloc(), Params::new(10, 9, 3)?, 9)?;
-    let rows = [
-        (1, 1, Some(0)),
-        (2, 2, Some(1)),
-        (5, 5, Some(4)),
-        (9, 9, Some(8)),
-        (10, 10, None),
-        (5, 6, None),
-        (0, 1, None),
-    ];
-    for (number, port, place) in rows {
-        let member = at(number, port);
-        assert_eq!(rt; configuration.position(&member), place);
-        assert_eq!(rt; configuration.is_member(&member), place.is_some());
+    let configuration = founded(rt.alloc(), (10, 9, 3), 9)?;
+    for (number, port, place) in &PLACES {
+        assert!(rt; has_place(&configuration, &at(*number, *port), *place));
     }
     Ok(())
 }
@@ -149,11 +164,19 @@ const FOUNDINGS: [((u8, u8, u8), u16, &str); 10] = [
     ),
 ];
 
+/// Whether a founding configuration has this identifier.
+fn is_founded(
+    alloc: Global,
+    (params, n, digits): &((u8, u8, u8), u16, &str),
+) -> Result<bool, Fail> {
+    let configuration = founded(alloc, *params, *n)?;
+    is_spelt(alloc, configuration.id(), digits)
+}
+
 #[test]
 fn foundings_have_their_identifiers(rt: HostRuntime) -> Result<(), Fail> {
-    for ((k, h, l), n, digits) in FOUNDINGS {
-        let configuration = founded(&rt, rt.alloc(), Params::new(k, h, l)?, n)?;
-        assert!(rt; is_spelt(rt.alloc(), configuration.id(), digits)?, "of {n}");
+    for founding in &FOUNDINGS {
+        assert!(rt; is_founded(rt.alloc(), founding)?);
     }
     Ok(())
 }

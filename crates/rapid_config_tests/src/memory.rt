@@ -1,42 +1,46 @@
 // Want of memory: each call says so by its name, or makes what it makes with memory. The gate runs
 // these tests once for each allocation, with that one refused.
 
+use crate::configurations::founded;
 use crate::cuts::cut;
-use crate::numbered::process;
-use rapid_config::{Configuration, Params};
+use crate::numbered::are;
+use rapid_config::Configuration;
 use rapid_endpoint::Endpoint;
+use std::alloc::Global;
 use std::test::Fail;
 
 #[test]
 fn want_of_memory_in_texts(rt: HostRuntime) -> Result<(), Fail> {
     let printed = Endpoint::new([127, 0, 0, 1], 7000).to_string(rt.alloc())?;
-    assert_eq!(rt; printed.as_str(), "127.0.0.1:7000");
+    assert!(rt; printed.as_str() == "127.0.0.1:7000");
     Ok(())
 }
 
 #[test]
 fn want_of_memory_in_cuts(rt: HostRuntime) -> Result<(), Fail> {
-    let made = cut(rt.alloc(), &[(2, 2), (3, 3)])?;
-    let copy = made.try_copy(rt.alloc())?;
-    assert!(rt; copy.processes() == [process(2), process(3)].as_slice());
+    let copy = cut(rt.alloc(), &[(2, 2), (3, 3)])?.try_copy(rt.alloc())?;
+    assert!(rt; are(copy.processes(), &[(2, 2), (3, 3)]));
     Ok(())
+}
+
+/// Whether the bytes of a configuration are read as it, and so is the copy of what was read.
+fn is_read_again(alloc: Global, configuration: &Configuration) -> Result<bool, Fail> {
+    let bytes = configuration.to_bytes(alloc)?;
+    let copy = Configuration::from_bytes(alloc, bytes.as_slice())?.try_copy(alloc)?;
+    Ok(copy.id() == configuration.id())
 }
 
 #[test]
 fn want_of_memory_in_readings(rt: HostRuntime) -> Result<(), Fail> {
-    let founders = [process(1), process(2)];
-    let two = Configuration::seed(rt.alloc(), Params::new(3, 3, 1)?, &founders)?;
-    let bytes = two.to_bytes(rt.alloc())?;
-    let read = Configuration::from_bytes(rt.alloc(), bytes.as_slice())?;
-    assert!(rt; read.try_copy(rt.alloc())?.id() == two.id());
+    let two = founded(rt.alloc(), (3, 3, 1), 2)?;
+    assert!(rt; is_read_again(rt.alloc(), &two)?);
     Ok(())
 }
 
 #[test]
 fn want_of_memory_in_changes(rt: HostRuntime) -> Result<(), Fail> {
-    let founders = [process(1), process(2)];
-    let two = Configuration::seed(rt.alloc(), Params::new(3, 3, 1)?, &founders)?;
-    let next = two.apply(rt.alloc(), &cut(rt.alloc(), &[(2, 2), (3, 3)])?)?;
-    assert!(rt; next.members() == [process(1), process(3)].as_slice());
+    let cut = cut(rt.alloc(), &[(2, 2), (3, 3)])?;
+    let next = founded(rt.alloc(), (3, 3, 1), 2)?.apply(rt.alloc(), &cut)?;
+    assert!(rt; are(next.members(), &[(1, 1), (3, 3)]));
     Ok(())
 }
