@@ -1,6 +1,6 @@
 // A seat at the published view.
 
-ghost use Rattle.std.specs.Prelude.{◌≡◌, ◌-◌, length, slice_get, Some, IfOk, IfErr, OnOk, MatchBool};
+ghost use Rattle.std.specs.Prelude.{◌≡◌, ◌-◌, length, slice_get, Some, IfOk, IfErr, MatchBool};
 ghost use Rattle.rapid_model.specs.Configuration.{IsConfiguration, stamp};
 ghost use Rattle.rapid_model.specs.PublishedList.{HeightsRise, IsBeginning};
 ghost use Rattle.rapid_view.specs.Seen.{Missed};
@@ -76,11 +76,12 @@ impl ViewSeat {
     pub fn members<R: Wait>(&mut self, rt: &R) -> Result<View, ViewError>
         ensures cell { self.new.cell ≡ self.old.cell }
         ensures later { IsBeginning self.old.seen self.new.seen }
-        ensures rises { OnOk result (HeightsRise self.new.seen) }
+        ensures rises { HeightsRise self.new.seen }
         ensures valid { IfOk result IsConfiguration }
         ensures last { IfOk result (λ view. slice_get self.new.seen (length self.new.seen - 1) ≡ Some (stamp view)) }
         ensures missed { IfErr result (Missed self.new.seen) }
     {
+        self.stamps.tell();
         for _ in rt.forever() {
             let found = find(&mut self.list)?;
             let stamp = self.stamps.stamp();

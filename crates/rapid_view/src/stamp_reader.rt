@@ -124,6 +124,14 @@ impl StampReader {
         read_stamp(cell, seat, count - 1)
     }
 
+    /// The heights rise in what was seen. It does nothing: what it ensures is for proofs.
+    #[inline(always)]
+    pub fn tell(&self)
+        ensures { HeightsRise self.now.seen }
+    {
+        let _ = &self.seat;
+    }
+
     /// From now on what the other has seen was seen here too.
     pub fn told_by(&mut self, other: &mut StampReader)
         requires { self.old.cell ≡ other.old.cell }

@@ -5,4 +5,4 @@ use Rattle.rapid_view.proofs.Beginnings.{begins_itself}
 use Rattle.rapid_view.proofs.seat.ViewSeat.members.Goals as goal
 
 pub loop-init : goal.loop-init
-loop-init g c = (ap (λ (v : Watched). v.cell) c.self.view_is, subst (λ (v : Watched). IsBeginning v.seen c.self.inside.stamps.seen) c.self.view_is (begins_itself _))
+loop-init g c = (ap (λ (v : Watched). v.cell) c.self.view_is, subst (λ (v : Watched). IsBeginning v.seen c.self.inside.stamps.seen) c.self.view_is (begins_itself _), c.tell.ensures)
