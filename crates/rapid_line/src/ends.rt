@@ -84,6 +84,22 @@ impl<T: Drop, P: Order<T>> Sink<T, P> {
         push(rt, &self.queue, &mut self.pass, item)
     }
 
+    /// Puts an item, and waits for room where there is none.
+    pub fn put_when_free<R: Wait>(&mut self, rt: &R, item: T)
+        requires { P.next self.old.1 item }
+        ensures queue { self.new.0 ≡ self.old.0 }
+        ensures put { self.new.1 ≡ self.old.1 ++ item ∷ [] }
+    {
+        let mut item = item;
+        for _ in rt.forever() {
+            match self.put(rt, item) {
+                Ok(()) => return,
+                Err(back) => item = back,
+            }
+        }
+        unreachable!()
+    }
+
     /// How many items were in the queue at one moment of the call.
     pub fn len<R: Wait>(&mut self, rt: &R) -> usize
         ensures { self.new ≡ self.old }
