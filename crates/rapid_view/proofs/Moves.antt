@@ -13,7 +13,7 @@ use Rattle.rapid_view.specs.declared.known.Known.{Known}
 use Rattle.rapid_model.specs.PublishedList.{HeightsRise, IsBeginning, stamp_words}
 use Rattle.rapid_view.specs.Words.{stamp_of, IsWhole}
 use Rattle.rapid_view.specs.Seen.{last_height}
-use Rattle.rapid_view.specs.CellRule.{place, Waits, Fits, Kept, newcomer, nobody, onlooker, informed, Looked, Read, Stored, Lengthened}
+use Rattle.rapid_view.specs.CellRule.{place, Waits, Fits, Kept, newcomer, nobody, onlooker, informed, Looked, Compared, Read, Stored, Lengthened}
 
 pub within_length : {A : Type 0} → (l : List A) (i : ℕ) (a : A) → get_elem? l i ≡ some a → i < length l
 within_length [] i a e = absurd (some-ne-none a (sym e))
@@ -79,6 +79,24 @@ looks room slots id me some_room s k long at small =
         writer = λ does. ((f.writer does).0, refl, (f.writer does).2);
       },
       (refl, refl, f.seen, f.told, k.count, omega arith, (λ i x e. (k.stands i x e).0), k.rises),
+    )
+
+pub compares : (room slots id : ℕ) (me : Me (Unit {0}) Known) → me.0.writes ≡ true → Allows (Kept room) slots id me 0 (λ n. n) (Compared (step slots 0 0 0 none) me)
+compares room slots id me does s k long at small =
+    let v = me.0 in
+    let f = k.each_seat id v at in
+    let w : Known = record { writes = v.writes; room = v.room; seen = v.seen; told = []; pending = v.pending } in (
+      w,
+      keeps,
+      tt,
+      same_words room s k id w _ (set-get_or s.words 0 0) record {
+        seen = f.seen;
+        told = (k.list, refl);
+        rising = f.rising;
+        room_is = f.room_is;
+        writer = f.writer;
+      },
+      (refl, subst (IsBeginning v.told) (sym (f.writer does).1) f.told),
     )
 
 pub reads : (room slots id : ℕ) (me : Me (Unit {0}) Known) (word : ℕ) → Allows (Kept room) slots id me word (λ n. n) (Read (step slots word 0 0 none) me)

@@ -69,6 +69,10 @@ Looked st v n w =
     × IsBeginning v.0.seen w.0.seen × IsBeginning v.0.told w.0.seen × (n ≡ length w.0.seen) × (n ≤ v.0.room)
     × ((i : ℕ) (s : Stamp) → get_elem? w.0.seen i ≡ some s → IsWhole s) × HeightsRise w.0.seen
 
+-- A load of the count by the writer: what it was told is a beginning of what it has published.
+abbrev pub Compared : Step (Unit {0}) → Holder → ℕ → Holder → Type 0
+Compared st v n w = (w ≡ (record { writes = v.0.writes; room = v.0.room; seen = v.0.seen; told = []; pending = v.0.pending }, v.1)) × IsBeginning v.0.told v.0.seen
+
 -- A load of a word: it is that of the stamp which was seen there.
 abbrev pub Read : Step (Unit {0}) → Holder → ℕ → Holder → Type 0
 Read st v n w = (w ≡ v) × ((i j : ℕ) (s : Stamp) → get_elem? v.0.seen i ≡ some s → st.word ≡ place i + j → j < 6 → n ≡ slice_index (stamp_words s) j)

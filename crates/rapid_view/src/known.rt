@@ -35,6 +35,15 @@ impl Play<(), Known> for Looks {
     ghost then = { Looked };
 }
 
+/// The writer loads the count, and finds what it was told in its list.
+pub(crate) struct Compares;
+
+impl Play<(), Known> for Compares {
+    ghost use Rattle.rapid_view.specs.CellRule.{Compared};
+
+    ghost then = { Compared };
+}
+
 /// A seat loads a word of a stamp that it has seen.
 pub(crate) struct Reads;
 

@@ -7,6 +7,7 @@ ghost use Rattle.rapid_view.specs.Seen.{Missed};
 
 use crate::page::Page;
 use crate::stamp_reader::StampReader;
+use crate::stamp_writer::StampWriter;
 use crate::{View, ViewError};
 use left_right::ReadHandle;
 use rapid_config::Stamp;
@@ -110,5 +111,14 @@ impl ViewSeat {
         ensures rises { HeightsRise self.new.seen }
     {
         self.stamps.told_by(&mut other.stamps);
+    }
+
+    /// What this seat has seen is a beginning of what the writer of stamps has published.
+    pub(crate) fn compare(&mut self, writer: &mut StampWriter)
+        requires { self.old.cell ≡ writer.old.cell }
+        ensures same { (self.new ≡ self.old) × (writer.new ≡ writer.old) }
+        ensures order { IsBeginning self.old.seen writer.old.seen }
+    {
+        writer.compare(&mut self.stamps);
     }
 }

@@ -8,10 +8,10 @@ ghost use Rattle.atomic_table.specs.Table.{step};
 ghost use Rattle.rapid_model.specs.Configuration as model;
 ghost use Rattle.rapid_model.specs.PublishedList.{HeightsRise, IsBeginning, stamp_words};
 ghost use Rattle.rapid_view.specs.Words.{IsWhole};
-ghost use Rattle.rapid_view.specs.CellRule.{place, Looked, informed};
+ghost use Rattle.rapid_view.specs.CellRule.{place, writing, Looked, informed};
 
 use crate::cell::ViewCell;
-use crate::known::{Known, Looks, Reads, Tells};
+use crate::known::{Compares, Known, Looks, Reads, Tells};
 use crate::words::from_words;
 use atomic_table::Seat;
 use rapid_config::Stamp;
@@ -91,6 +91,20 @@ fn hear(cell: &ViewCell, seat: &mut Seat<(), Known>, theirs: &mut Seat<(), Known
     cell.table.shared.join_seat::<Tells>(seat, note);
 }
 
+/// What the other seat has seen is a beginning of what the writer's seat has published.
+fn compare(cell: &ViewCell, writer: &mut Seat<(), Known>, theirs: &mut Seat<(), Known>)
+    requires own { writer.old.table_id ≡ cell.now.table.shared.table_id }
+    requires theirs { theirs.old.table_id ≡ cell.now.table.shared.table_id }
+    requires room { 0 < cell.now.table.shared.table_id.words }
+    requires writer { writer.old.me ≡ (writing writer.old.me.0.room writer.old.me.0.seen [], []) }
+    ensures same { (writer.new.table_id ≡ writer.old.table_id) × (writer.new.id ≡ writer.old.id) × (writer.new.me ≡ writer.old.me) }
+    ensures other { (theirs.new.table_id ≡ theirs.old.table_id) × (theirs.new.id ≡ theirs.old.id) × (theirs.new.me ≡ theirs.old.me) }
+    ensures order { IsBeginning theirs.old.me.0.seen writer.old.me.0.seen }
+{
+    hear(cell, writer, theirs);
+    cell.table.shared.load::<Compares>(writer, 0);
+}
+
 impl StampReader {
     /// A reader that has seen what the writer has published.
     pub(crate) fn of_writer(
@@ -149,5 +163,18 @@ impl StampReader {
         let cell: &ViewCell = cell;
         hear(cell, seat, theirs);
         look(cell, seat);
+    }
+
+    /// What was seen here is a beginning of what the writer's seat has published.
+    pub(crate) fn compare(&mut self, writer: &mut Seat<(), Known>)
+        requires own { self.old.cell ≡ writer.old.table_id }
+        requires writer { writer.old.me ≡ (writing writer.old.me.0.room writer.old.me.0.seen [], []) }
+        ensures same { self.new ≡ self.old }
+        ensures writer { (writer.new.table_id ≡ writer.old.table_id) × (writer.new.id ≡ writer.old.id) × (writer.new.me ≡ writer.old.me) }
+        ensures order { IsBeginning self.old.seen writer.old.me.0.seen }
+    {
+        let StampReader { cell, seat } = self;
+        let cell: &ViewCell = cell;
+        compare(cell, writer, seat);
     }
 }

@@ -3,7 +3,7 @@
 ghost use Rattle.std.specs.Prelude.{◌≡◌, ℕ, ◌+◌, ◌-◌, ◌*◌, ◌<◌, ◌≤◌, List, [], ◌∷◌, ◌++◌, length, slice_index, All, vec_len, true, false, IfOk, IfErr, OnOk, MatchResult};
 ghost use Rattle.std.specs.Arc.{arc_value};
 ghost use mathlib.Core.Option.{none, some};
-ghost use Rattle.rapid_model.specs.PublishedList.{HeightsRise, stamp_words};
+ghost use Rattle.rapid_model.specs.PublishedList.{HeightsRise, IsBeginning, stamp_words};
 ghost use Rattle.rapid_view.specs.Words.{IsWhole};
 ghost use Rattle.rapid_view.specs.CellRule.{place, writing};
 ghost use Rattle.rapid_view.specs.Seen.{last_height, MayFollow, Refused};
@@ -153,6 +153,22 @@ impl StampWriter {
             return Err(ViewError::CellFull);
         }
         Ok(())
+    }
+
+    /// What the reader has seen is a beginning of what is published here.
+    pub(crate) fn compare(&mut self, reader: &mut StampReader)
+        requires { self.old.cell ≡ reader.old.cell }
+        ensures same { (self.new ≡ self.old) × (reader.new ≡ reader.old) }
+        ensures order { IsBeginning reader.old.seen self.old.seen }
+    {
+        let StampWriter {
+            cell: _,
+            seat,
+            room: _,
+            count: _,
+            last: _,
+        } = self;
+        reader.compare(seat);
     }
 
     /// Publishes the next stamp.

@@ -2,11 +2,12 @@
 
 ghost use Rattle.std.specs.Prelude.{◌≡◌, ◌+◌, ◌<◌, [], ◌∷◌, ◌++◌, length, IfOk, IfErr, IfSome};
 ghost use Rattle.rapid_model.specs.Configuration as model;
+ghost use Rattle.rapid_model.specs.PublishedList.{IsBeginning};
 ghost use Rattle.rapid_view.specs.Seen.{last_height, MayFollow, Refused};
 
 use crate::page::Page;
 use crate::stamp_writer::StampWriter;
-use crate::{View, ViewError};
+use crate::{View, ViewError, ViewSeat};
 use left_right::WriteHandle;
 use std::marker::Model;
 use std::sync::Wait;
@@ -53,5 +54,14 @@ impl<R: Wait + Drop> ViewWriter<R> {
             unreachable!()
         };
         Ok(())
+    }
+
+    /// What the seat has seen is a beginning of the published list. The seat is one of the same cell.
+    pub fn compare(&mut self, seat: &mut ViewSeat)
+        requires { self.old.cell ≡ seat.old.cell }
+        ensures same { (self.new ≡ self.old) × (seat.new ≡ seat.old) }
+        ensures order { IsBeginning seat.old.seen self.old.seen }
+    {
+        seat.compare(&mut self.stamps);
     }
 }

@@ -45,7 +45,7 @@ pub(crate) fn two_of<R: Wait + Drop>(
     mut seats: Vec<ViewSeat>,
 ) -> Option<(ViewSeat, ViewSeat)>
     requires { All (λ s. s.cell ≡ writer.now.cell) seats.items }
-    ensures { IfSome result (λ p. p.0.cell ≡ p.1.cell) }
+    ensures { IfSome result (λ p. (p.0.cell ≡ writer.now.cell) × (p.1.cell ≡ writer.now.cell)) }
 {
     let second = seats.pop()?;
     let first = seats.pop()?;

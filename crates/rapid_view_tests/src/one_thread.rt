@@ -55,6 +55,7 @@ fn a_told_seat_has_seen_as_much(rt: HostRuntime) -> Result<(), Fail> {
     let told = one.stamp();
     other.told_by(&mut one);
     assert!(rt; other.stamp().height() >= told.height());
+    writer.compare(&mut other);
     Ok(())
 }
 
