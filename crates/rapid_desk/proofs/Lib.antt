@@ -1,3 +1,4 @@
+pub mod Each
 pub mod Ticking
 pub mod Replaying
 pub mod Moving

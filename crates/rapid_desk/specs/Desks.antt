@@ -1,5 +1,6 @@
 -- What contracts see of a desk, and of its steps.
 use Rattle.std.specs.Prelude.{◌≡◌, ◌⊎◌, ℕ, ◌≤◌, ◌<◌, ◌||◌, Bool, true, false, List, [], ◌∷◌, ◌++◌, length, Option, Some, None}
+use Rattle.std.specs.List.{AllZip}
 use Rattle.rapid_model.specs.Process.{Process}
 use Rattle.rapid_model.specs.Configuration.{Configuration, Stamp, stamp}
 use Rattle.rapid_model.specs.Node as model
@@ -8,6 +9,7 @@ use Rattle.rapid_model.specs.Journal.{DeskState, JournalRecord, Entered, Joins, 
 use Rattle.rapid_node.specs.Steps.{IsFault}
 use Rattle.rapid_view.specs.Seen.{Publishing}
 use Rattle.rapid_desk.specs.Records.{entry_of}
+use Rattle.rapid_desk.specs.Notices.{Served, Offered}
 use Rattle.rapid_desk.specs.declared.error.DeskError.{DeskError}
 use Rattle.rapid_desk.specs.declared.error.DeskError.TheVariants.{JournalFull, OutOfMemory, Node, TooManySubscribers, BadCapacity, Unpublished}
 
@@ -27,13 +29,24 @@ pub record BoardValue : Type 0 where
   pub seats : Bool
   pub count : ℕ
 
--- A desk: what it holds of its node, whether its seats are still to be taken, and how many they are.
+-- A desk: what it holds of its node, whether its seats are still to be taken, how many they are, and whom it serves.
 pub record DeskValue : Type 0 where
   pub state : DeskState
   pub seats : Bool
   pub count : ℕ
-  -- how many subscriptions it serves
-  pub subscribers : ℕ
+  -- the subscriptions that it serves, by age
+  pub subscriptions : List Served
+
+-- What is told of a step: the view of what the node shows where it installed something, and else nothing.
+abbrev pub Announced : Bool → Option Configuration → List Served → List Served → Type 0
+Announced true (Some c) old new = AllZip (Offered c) old new
+Announced true None old new = new ≡ old
+Announced false shown old new = new ≡ old
+
+-- The height of what is shown.
+abbrev pub shown_height : Option Configuration → Option ℕ
+shown_height None = None
+shown_height (Some c) = Some c.height
 
 -- What is held, by its parts.
 abbrev pub state_of : model.Node → List JournalRecord → Bool → model.Node → List Stamp → DeskState

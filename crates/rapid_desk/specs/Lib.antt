@@ -1,4 +1,4 @@
 pub mod Records
-pub mod Desks
 pub mod Notices
+pub mod Desks
 pub mod Taking

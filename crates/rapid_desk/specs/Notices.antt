@@ -1,5 +1,7 @@
 -- What is put for a subscriber: successive views, and then at most one mark.
-use Rattle.std.specs.Prelude.{◌≡◌, ℕ, ◌+◌, List, [], ◌∷◌, Option, None, Some, MatchOption}
+use Rattle.std.specs.Prelude.{◌≡◌, ◌⊎◌, ℕ, ◌+◌, List, [], ◌∷◌, ◌++◌, Option, None, Some, MatchOption}
+use Rattle.atomic_table.specs.Seated.{TableId}
+use Rattle.rapid_model.specs.Configuration.{Configuration}
 use Rattle.rapid_desk.specs.declared.notice.Notice.{Notice}
 use Rattle.rapid_desk.specs.declared.notice.Notice.TheVariants.{Change, Lag, End}
 use Rattle.rapid_desk.specs.declared.notice.State.{State}
@@ -19,12 +21,44 @@ height_from h (Change v ∷ xs) = height_from (Some v.height) xs
 height_from h (Lag ∷ xs) = height_from h xs
 height_from h (End ∷ xs) = height_from h xs
 
+-- a view of this height may come next, where that of the view before all is known or not
+abbrev pub IsNextFrom : Option ℕ → List Notice → ℕ → Type 0
+IsNextFrom since before height = MatchOption (height_from since before) (Unit {0}) (λ last. height ≡ last + 1)
+
 -- a view of this height may come next
 abbrev pub IsNext : List Notice → ℕ → Type 0
-IsNext before height = MatchOption (height_from None before) (Unit {0}) (λ last. height ≡ last + 1)
+IsNext before height = IsNextFrom None before height
 
 -- nothing follows a mark, and the heights of changes rise by one
 abbrev pub MayFollow : List Notice → Notice → Type 0
 MayFollow before (Change v) = (state_of before ≡ Open) × IsNext before v.height
 MayFollow before Lag = state_of before ≡ Open
 MayFollow before End = state_of before ≡ Open
+
+-- A subscription that is served: its queue, the height of the view that was there when it was made, if any, and all that was put since.
+pub record Served : Type 0 where
+  pub queue : TableId
+  pub since : Option ℕ
+  pub put : List Notice
+
+-- One notice more was put.
+abbrev pub with_notice : Served → Notice → Served
+with_notice s x = record { queue = s.queue; since = s.since; put = s.put ++ x ∷ [] }
+
+-- The view is put as the next after those before it, or a mark in its place; behind a mark nothing is.
+abbrev pub OfferedIn : State → Configuration → Served → Served → Type 0
+OfferedIn Open view old new = ((new ≡ with_notice old (Change view)) × IsNextFrom old.since old.put view.height) ⊎ (new ≡ with_notice old Lag)
+OfferedIn Lagged view old new = new ≡ old
+OfferedIn Closed view old new = new ≡ old
+
+abbrev pub Offered : Configuration → Served → Served → Type 0
+Offered view old new = OfferedIn (state_of old.put) view old new
+
+-- The end is put, but behind a mark nothing is.
+abbrev pub EndedIn : State → Served → Served → Type 0
+EndedIn Open old new = new ≡ with_notice old End
+EndedIn Lagged old new = new ≡ old
+EndedIn Closed old new = new ≡ old
+
+abbrev pub Ended : Served → Served → Type 0
+Ended old new = EndedIn (state_of old.put) old new

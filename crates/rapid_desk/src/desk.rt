@@ -1,14 +1,17 @@
 // A desk: a node, its journal and its published views.
 
-ghost use Rattle.std.specs.Prelude.{◌≡◌, ◌⊎◌, ◌<◌, ◌≤◌, true, ◌+◌, ◌||◌, ◌&&◌, not, [], false, All, vec_len, is_some, IsSome, IfOk, IfErr, IfSome, OnOk, OnErr};
+ghost use Rattle.std.specs.Prelude.{◌≡◌, ◌⊎◌, ◌<◌, ◌≤◌, true, ◌++◌, ◌∷◌, ◌||◌, ◌&&◌, not, [], false, All, length, vec_len, slice_get, is_some, IsSome, IsSomeAnd, IfOk, IfErr, IfSome, OnOk, OnErr};
+ghost use Rattle.std.specs.List.{AllZip};
 ghost use Rattle.atomic_table.specs.Seated.{TableId};
-ghost use Rattle.rapid_model.specs.Node.{configuration_of};
+ghost use Rattle.rapid_line.specs.Line.{StartsWith};
+ghost use Rattle.rapid_model.specs.Node.{configuration_of, has_installed};
 ghost use Rattle.rapid_model.specs.NodeStep.{node_step};
 ghost use Rattle.rapid_node.specs.Steps.{event_of, HasOutcome};
 ghost use Rattle.rapid_model.specs.Configuration.{is_member};
 ghost use Rattle.rapid_model.specs.Journal.{IsDesk};
 ghost use Rattle.rapid_desk.specs.declared.error.DeskError.TheVariants.{OutOfMemory, Unpublished};
-ghost use Rattle.rapid_desk.specs.Desks.{seed_state, joiner_state, is_blank, state_with, Grown, Keeps, Tried, NotEntered, Advances, Refused, NotSubscribed};
+ghost use Rattle.rapid_desk.specs.Notices.{Offered, Ended};
+ghost use Rattle.rapid_desk.specs.Desks.{shown_height, Announced, seed_state, joiner_state, is_blank, state_with, Grown, Keeps, Tried, NotEntered, Advances, Refused, NotSubscribed};
 
 use crate::DeskError;
 use crate::board::Board;
@@ -42,7 +45,6 @@ pub struct Desk<R: Wait + Copy + Drop> {
 }
 
 impl<R: Wait + Copy + Drop> Model for Desk<R> {
-    ghost use Rattle.std.specs.Prelude.{vec_len};
     ghost use Rattle.std.specs.Coded.{codes};
     ghost use Rattle.rapid_node.specs.Codes.{node_code};
     ghost use Rattle.rapid_desk.specs.Desks.{DeskValue, Keeps, state_with};
@@ -51,7 +53,7 @@ impl<R: Wait + Copy + Drop> Model for Desk<R> {
 
     ghost coded = { Prim.hlevel (codes, node_code) };
 
-    ghost view = { λ d. record { state = state_with d.held d.board.published; seats = d.board.seats; count = d.board.count; subscribers = vec_len d.outlets } };
+    ghost view = { λ d. record { state = state_with d.held d.board.published; seats = d.board.seats; count = d.board.count; subscriptions = d.outlets.items } };
 
     ghost invariant = { λ d. Keeps (state_with d.held d.board.published) };
 }
@@ -120,20 +122,45 @@ fn settle<R: Wait + Copy + Drop>(
     Ok(())
 }
 
-/// Puts what the node shows for each subscriber.
-fn announce<R: Wait>(outlets: &mut Vec<Outlet>, rt: &R, alloc: Global, node: &Node)
-    ensures { vec_len outlets.new ≡ vec_len outlets.old }
+/// The height of what the node shows.
+fn height_shown(node: &Node) -> Option<u64>
+    ensures { result ≡ shown_height (configuration_of node.now) }
 {
+    match node.configuration() {
+        Some(configuration) => Some(configuration.height()),
+        None => None,
+    }
+}
+
+/// Puts the view of the configuration for each subscriber.
+fn offer_all<R: Wait>(
+    outlets: &mut Vec<Outlet>,
+    rt: &R,
+    alloc: Global,
+    configuration: &Configuration,
+)
+    ensures { AllZip (Offered configuration.now) outlets.old.items outlets.new.items }
+{
+    for outlet in outlets.iter_mut() {
+        outlet.offer(rt, alloc, configuration);
+    }
+}
+
+/// Puts what the node shows for each subscriber, where something was installed.
+fn announce<R: Wait>(outlets: &mut Vec<Outlet>, rt: &R, alloc: Global, node: &Node, installed: bool)
+    ensures { Announced installed (configuration_of node.now) outlets.old.items outlets.new.items }
+{
+    if !installed {
+        return;
+    }
     if let Some(configuration) = node.configuration() {
-        for outlet in outlets.iter_mut() {
-            outlet.offer(rt, alloc, configuration);
-        }
+        offer_all(outlets, rt, alloc, configuration);
     }
 }
 
 /// Puts the end for each subscriber.
 fn end_all<R: Wait>(outlets: &mut Vec<Outlet>, rt: &R)
-    ensures { vec_len outlets.new ≡ vec_len outlets.old }
+    ensures { AllZip Ended outlets.old.items outlets.new.items }
 {
     for outlet in outlets.iter_mut() {
         outlet.close(rt);
@@ -158,7 +185,7 @@ impl<R: Wait + Copy + Drop> Desk<R> {
         requires member { is_member configuration.now process ≡ true }
         requires seats { (0 < seats) × (seats ≤ 64) }
         ensures state { IfOk result (λ desk. desk.state ≡ seed_state configuration.now process) }
-        ensures seats { IfOk result (λ desk. (desk.seats ≡ true) × (desk.count ≡ seats) × (desk.subscribers ≡ 0)) }
+        ensures seats { IfOk result (λ desk. (desk.seats ≡ true) × (desk.count ≡ seats) × (desk.subscriptions ≡ [])) }
         ensures refused { IfErr result (λ e. (e ≡ OutOfMemory) ⊎ (e ≡ Unpublished)) }
     {
         let node = Node::seed(alloc, configuration, process)?;
@@ -189,7 +216,7 @@ impl<R: Wait + Copy + Drop> Desk<R> {
     ) -> Result<Desk<R>, DeskError>
         requires { (0 < seats) × (seats ≤ 64) }
         ensures state { IfOk result (λ desk. desk.state ≡ joiner_state process seed) }
-        ensures seats { IfOk result (λ desk. (desk.seats ≡ false) × (desk.count ≡ seats) × (desk.subscribers ≡ 0)) }
+        ensures seats { IfOk result (λ desk. (desk.seats ≡ false) × (desk.count ≡ seats) × (desk.subscriptions ≡ [])) }
         ensures refused { IfErr result (λ e. e ≡ OutOfMemory) }
     {
         Ok(Desk {
@@ -211,7 +238,8 @@ impl<R: Wait + Copy + Drop> Desk<R> {
     }
 
     /// One event at the node, and what is to be sent after it, in order. Afterwards the journal has
-    /// the event, or begins anew where a configuration was entered, which is published then.
+    /// the event, or begins anew where a configuration was entered, which is published then and put
+    /// for each subscriber.
     ///
     /// # Errors
     ///
@@ -226,15 +254,16 @@ impl<R: Wait + Copy + Drop> Desk<R> {
         ensures seats { OnOk result (self.new.seats ≡ (self.old.seats || (is_blank self.old.state.published && not (is_blank self.new.state.published)))) }
         ensures refused { IfErr result (Refused self.old.state (event_of event) self.new.state) }
         ensures same_seats { OnErr result (self.new.seats ≡ self.old.seats) }
-        ensures count { (self.new.count ≡ self.old.count) × (self.new.subscribers ≡ self.old.subscribers) }
+        ensures announced { OnOk result (Announced (has_installed self.old.state.node self.new.state.node) (configuration_of self.new.state.node) self.old.subscriptions self.new.subscriptions) }
+        ensures unannounced { OnErr result (self.new.subscriptions ≡ self.old.subscriptions) }
+        ensures count { self.new.count ≡ self.old.count }
     {
         match self.held.prepare(&event) {
             Ok(sent) => {
-                let entering = self.held.installs();
+                let installed = self.held.installs();
                 settle(&mut self.held, &mut self.board, self.alloc, event)?;
-                if entering {
-                    announce(&mut self.outlets, &self.rt, self.alloc, self.held.node());
-                }
+                let node = self.held.node();
+                announce(&mut self.outlets, &self.rt, self.alloc, node, installed);
                 Ok(sent)
             }
             Err(error) => {
@@ -254,7 +283,8 @@ impl<R: Wait + Copy + Drop> Desk<R> {
         self.board.take_seats()
     }
 
-    /// A subscription to the views from now on, with room for so many that wait.
+    /// A subscription to the views that come after the one that the node shows now, with room for so
+    /// many that wait.
     ///
     /// # Errors
     ///
@@ -262,10 +292,11 @@ impl<R: Wait + Copy + Drop> Desk<R> {
     /// serves 64, else `OutOfMemory`.
     pub fn subscribe(&mut self, capacity: usize) -> Result<Subscription, DeskError>
         ensures same { (self.new.state ≡ self.old.state) × (self.new.seats ≡ self.old.seats) × (self.new.count ≡ self.old.count) }
-        ensures ok { OnOk result ((0 < capacity) × (capacity ≤ 1024) × (self.old.subscribers < 64) × (self.new.subscribers ≡ self.old.subscribers + 1)) }
+        ensures ok { OnOk result ((0 < capacity) × (capacity ≤ 1024) × (length self.old.subscriptions < 64)) }
+        ensures served { IfOk result (λ subscription. self.new.subscriptions ≡ self.old.subscriptions ++ record { queue = subscription.0; since = shown_height (configuration_of self.old.state.node); put = [] } ∷ []) }
         ensures untaken { IfOk result (λ subscription. subscription.1 ≡ []) }
-        ensures refused { IfErr result (NotSubscribed capacity self.old.subscribers) }
-        ensures unchanged { OnErr result (self.new.subscribers ≡ self.old.subscribers) }
+        ensures refused { IfErr result (NotSubscribed capacity (length self.old.subscriptions)) }
+        ensures unchanged { OnErr result (self.new.subscriptions ≡ self.old.subscriptions) }
     {
         if capacity == 0 || capacity > MOST_CAPACITY {
             return Err(DeskError::BadCapacity);
@@ -273,7 +304,8 @@ impl<R: Wait + Copy + Drop> Desk<R> {
         if self.outlets.len() >= MOST_SUBSCRIBERS {
             return Err(DeskError::TooManySubscribers);
         }
-        let (outlet, subscription) = subscribe(self.alloc, capacity)?;
+        let since = height_shown(self.held.node());
+        let (outlet, subscription) = subscribe(self.alloc, capacity, since)?;
         match self.outlets.push(outlet) {
             Ok(()) => Ok(subscription),
             Err(_) => Err(DeskError::OutOfMemory),
@@ -282,9 +314,19 @@ impl<R: Wait + Copy + Drop> Desk<R> {
 
     /// Ends the subscriptions made so far, which count no more: what is there is still taken.
     pub fn close(&mut self)
-        ensures { self.new ≡ record self.old { subscribers = 0 } }
+        ensures { self.new ≡ record self.old { subscriptions = [] } }
     {
         end_all(&mut self.outlets, &self.rt);
         self.outlets.clear();
+    }
+
+    /// What a subscriber has taken is a beginning of what was put for it, in order, each change once.
+    /// The number is that of its subscription among those that the desk serves, by age.
+    pub fn compare(&mut self, number: usize, subscription: &mut Subscription)
+        requires served { IsSomeAnd (slice_get self.old.subscriptions number) (λ s. s.queue ≡ subscription.old.0) }
+        ensures same { (self.new ≡ self.old) × (subscription.new ≡ subscription.old) }
+        ensures order { IfSome (slice_get self.old.subscriptions number) (λ s. StartsWith s.put subscription.old.1) }
+    {
+        self.outlets[number].compare(subscription);
     }
 }

@@ -2,7 +2,7 @@
 
 ghost use Rattle.std.specs.Prelude.{◌≡◌, ◌⊎◌, ℕ, ◌+◌, ◌<◌, ◌≤◌, List, [], ◌∷◌, ◌++◌, IfOk, IsTrue, IsFalse, None, MatchOption};
 ghost use Rattle.rapid_line.specs.Line.{StartsWith};
-ghost use Rattle.rapid_desk.specs.Notices.{state_of, height_from, IsNext, MayFollow};
+ghost use Rattle.rapid_desk.specs.Notices.{state_of, height_from, with_notice, IsNextFrom, MayFollow, Offered, Ended};
 
 use crate::notice::{Notice, State, Successive};
 use crate::subscription::Subscription;
@@ -13,116 +13,108 @@ use std::alloc::{AllocError, Global};
 use std::marker::Model;
 use std::sync::Wait;
 
-/// Contracts see the queue and what was put.
+/// The desk's end of a subscription. Contracts see its queue, the height of the view that was there
+/// when it was made, and what was put.
 #[derive(Drop)]
 pub struct Outlet {
     sink: Sink<Notice, Successive>,
     capacity: usize,
     state: State,
+    since: Option<u64>,
     last: Option<u64>,
 }
 
 impl Model for Outlet {
-    ghost use Rattle.std.specs.Prelude.{◌≡◌, List, None};
-    ghost use Rattle.atomic_table.specs.Seated.{TableId};
-    ghost use Rattle.rapid_desk.specs.declared.notice.Notice.{Notice};
-    ghost use Rattle.rapid_desk.specs.Notices.{state_of, height_from};
+    ghost use Rattle.std.specs.Prelude.{◌≡◌};
+    ghost use Rattle.rapid_desk.specs.Notices.{Served, state_of, height_from};
 
-    ghost Value = { TableId × List Notice };
+    ghost Value = { Served };
 
-    ghost view = { λ o. o.sink };
+    ghost view = { λ o. record { queue = o.sink.0; since = o.since; put = o.sink.1 } };
 
-    ghost invariant = { λ o. (o.state ≡ state_of o.sink.1) × (o.last ≡ height_from None o.sink.1) };
+    ghost invariant = { λ o. (o.state ≡ state_of o.sink.1) × (o.last ≡ height_from o.since o.sink.1) };
 }
 
-/// A subscription with room for so many changes.
+/// A subscription with room for so many changes, from a view of this height on.
 pub(crate) fn subscribe(
     alloc: Global,
     capacity: usize,
+    since: Option<u64>,
 ) -> Result<(Outlet, Subscription), AllocError>
     requires { (0 < capacity) × (capacity ≤ 1024) }
-    ensures { IfOk result (λ r. (r.0.0 ≡ r.1.0) × (r.0.1 ≡ []) × (r.1.1 ≡ [])) }
+    ensures { IfOk result (λ r. (r.0 ≡ record { queue = r.1.0; since = since; put = [] }) × (r.1.1 ≡ [])) }
 {
     let (sink, source) = rapid_line::line(alloc, capacity + 1)?;
     let outlet = Outlet {
         sink,
         capacity,
         state: State::Open,
-        last: None,
+        since,
+        last: since,
     };
     Ok((outlet, Subscription::new(source)))
 }
 
-#[tactic(auto, using(crate::proofs::Marks::state_of_now, crate::proofs::Marks::height_now))]
+#[tactic(auto, using(crate::proofs::Marks::state_of_now, crate::proofs::Marks::height_now, crate::proofs::Marks::next_in_queue))]
 impl Outlet {
-    /// Puts a change where there is room, and else a mark that one was lost.
-    pub fn put<R: Wait>(&mut self, rt: &R, view: View) -> bool
-        ensures queue { self.new.0 ≡ self.old.0 }
-        ensures put { IsTrue result → (self.new.1 ≡ self.old.1 ++ Notice.Change view ∷ []) × IsNext self.old.1 view.height }
-        ensures lost { IsFalse result → (self.new.1 ≡ self.old.1) ⊎ (self.new.1 ≡ self.old.1 ++ Notice.Lag ∷ []) }
+    /// Puts a view of the configuration, and a mark in its place where there is no room or no memory
+    /// for it. Behind a mark nothing is put.
+    pub(crate) fn offer<R: Wait>(&mut self, rt: &R, alloc: Global, configuration: &Configuration)
+        ensures { Offered configuration.now self.old self.new }
     {
         if self.state != State::Open {
-            return false;
+            return;
         }
-        let height = view.configuration().height();
+        if !self.put(rt, alloc, configuration) {
+            self.lag(rt);
+        }
+    }
+
+    /// Puts a view of the configuration, and answers whether there was room and memory for it.
+    fn put<R: Wait>(&mut self, rt: &R, alloc: Global, configuration: &Configuration) -> bool
+        requires { state_of self.old.put ≡ State.Open }
+        ensures put { IsTrue result → (self.new ≡ with_notice self.old (Notice.Change configuration.now)) × IsNextFrom self.old.since self.old.put configuration.now.height }
+        ensures lost { IsFalse result → self.new ≡ self.old }
+    {
+        let height = configuration.height();
         if !is_next(self.last, height) || self.sink.len(rt) >= self.capacity {
-            self.lag(rt);
             return false;
         }
-        let Ok(()) = self.sink.put(rt, Notice::Change(view)) else {
-            self.lag(rt);
+        let Ok(copy) = configuration.try_copy(alloc) else {
+            return false;
+        };
+        let Ok(()) = self.sink.put(rt, Notice::Change(View::new(copy))) else {
             return false;
         };
         self.last = Some(height);
         true
     }
 
-    /// A change was lost.
+    /// Puts the mark that a change was lost. The queue has room for one mark beside its changes.
     fn lag<R: Wait>(&mut self, rt: &R)
-        ensures queue { self.new.0 ≡ self.old.0 }
-        ensures lost { (self.new.1 ≡ self.old.1) ⊎ ((state_of self.old.1 ≡ State.Open) × (self.new.1 ≡ self.old.1 ++ Notice.Lag ∷ [])) }
+        requires { state_of self.old.put ≡ State.Open }
+        ensures { self.new ≡ with_notice self.old Notice.Lag }
     {
-        if self.state != State::Open {
-            return;
-        }
-        let Ok(()) = self.sink.put(rt, Notice::Lag) else {
-            return;
-        };
+        self.sink.put_when_free(rt, Notice::Lag);
         self.state = State::Lagged;
     }
 
-    /// Puts a view of the configuration, and else a mark that a change was lost.
-    pub fn offer<R: Wait>(&mut self, rt: &R, alloc: Global, configuration: &Configuration)
-        ensures queue { self.new.0 ≡ self.old.0 }
-        ensures put { (self.new.1 ≡ self.old.1) ⊎ (self.new.1 ≡ self.old.1 ++ Notice.Change configuration.now ∷ []) ⊎ (self.new.1 ≡ self.old.1 ++ Notice.Lag ∷ []) }
-    {
-        match configuration.try_copy(alloc) {
-            Ok(copy) => {
-                self.put(rt, View::new(copy));
-            }
-            Err(_) => self.lag(rt),
-        }
-    }
-
-    /// Nothing more comes.
-    pub fn close<R: Wait>(&mut self, rt: &R)
-        ensures queue { self.new.0 ≡ self.old.0 }
-        ensures closed { (self.new.1 ≡ self.old.1) ⊎ ((state_of self.old.1 ≡ State.Open) × (self.new.1 ≡ self.old.1 ++ Notice.End ∷ [])) }
+    /// Puts the mark that nothing more comes, where there is no mark yet.
+    pub(crate) fn close<R: Wait>(&mut self, rt: &R)
+        ensures { Ended self.old self.new }
     {
         if self.state != State::Open {
             return;
         }
-        let Ok(()) = self.sink.put(rt, Notice::End) else {
-            return;
-        };
+        self.sink.put_when_free(rt, Notice::End);
         self.state = State::Closed;
     }
 
     /// What the subscriber has taken is a beginning of what was put.
-    pub fn compare(&mut self, subscription: &mut Subscription)
-        requires { self.old.0 ≡ subscription.old.0 }
+    pub(crate) fn compare(&mut self, subscription: &mut Subscription)
+        requires { self.old.queue ≡ subscription.old.0 }
         ensures same { (self.new ≡ self.old) × (subscription.new ≡ subscription.old) }
-        ensures order { StartsWith self.old.1 subscription.old.1 }
+        ensures order { StartsWith self.old.put subscription.old.1 }
     {
         self.sink.compare(&mut subscription.source);
     }

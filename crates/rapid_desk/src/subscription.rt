@@ -13,13 +13,17 @@ use std::sync::Wait;
 /// What a subscriber is told.
 #[derive(Drop)]
 pub enum Taken {
+    /// The next view that the desk's node installed.
     Change(View),
+    /// A view came that found no room in the queue, or no memory. Nothing comes after it.
     Lagged,
+    /// All that was put is taken, and more can come.
     Empty,
+    /// The desk has ended the subscription, and all that was put before is taken.
     Closed,
 }
 
-/// Contracts see the queue and what was taken.
+/// The subscriber's end of a subscription. Contracts see its queue and what was taken from it.
 #[derive(Drop)]
 pub struct Subscription {
     pub(crate) source: Source<Notice, Successive>,
