@@ -7,3 +7,4 @@ pub mod Seats
 pub mod Stepping
 pub mod Settling
 pub mod Marks
+pub mod Books
