@@ -1,8 +1,9 @@
 -- What a feed holds after each call.
-use Rattle.std.proofs.Common.{◌≡◌, ℕ, true, false, List, ◌++◌, drop, Option, Some, None, Ok, Err, refl, sym, subst}
-use Rattle.std.specs.Prelude.{is_some}
+use Rattle.std.proofs.Common.{◌≡◌, ℕ, true, false, List, [], ◌∷◌, ◌++◌, length, drop, Option, Some, None, Ok, Err, refl, sym, subst, arith}
+use Rattle.std.proofs.lemmas.Bool.Decides.{nat_tests}
+use Rattle.std.specs.Prelude.{is_some, ◌==◌, ◌↔◌}
 use Rattle.rapid_model.specs.Message.{Message}
-use Rattle.rapid_model.specs.Feed.{IsFront, Whole, IsIncomplete}
+use Rattle.rapid_model.specs.Feed.{IsFront, Whole, IsIncomplete, Left}
 use Rattle.rapid_wire.specs.declared.fault.WireFault.{WireFault}
 use Rattle.rapid_wire.specs.declared.fault.WireFault.TheVariants as code
 use Rattle.rapid_wire.specs.Feeding.{IsLasting, lasting_of, end_of, fed, IsFrontFault, IsNextOf, IsNext}
@@ -51,3 +52,18 @@ is_lasting code.BadVersion = tt
 is_lasting code.BadKind = tt
 is_lasting code.BadBody = tt
 is_lasting code.OutOfMemory = tt
+
+-- Nothing is left where no bytes are held.
+pub left_none : (bytes : List ℕ) (o : Option WireFault) → is_some o ≡ false → ((length bytes == 0) ≡ true) ↔ (end_of bytes o ≡ Left [])
+left_none [] None h = (λ e. refl, λ e. refl)
+left_none (x ∷ xs) None h = (λ e. absurd (grind (arith, nat_tests)), λ e. absurd cc)
+left_none bytes (Some e) h = absurd cc
+
+-- Where there was a fault, it is not nothing that is left.
+pub fault_left : (bytes : List ℕ) (o : Option WireFault) → is_some o ≡ true → IsLasting o → (false ≡ true) ↔ (end_of bytes o ≡ Left [])
+fault_left bytes None h l = absurd cc
+fault_left bytes (Some code.TooLong) h l = (λ e. absurd cc, λ e. absurd cc)
+fault_left bytes (Some code.BadVersion) h l = (λ e. absurd cc, λ e. absurd cc)
+fault_left bytes (Some code.BadKind) h l = (λ e. absurd cc, λ e. absurd cc)
+fault_left bytes (Some code.BadBody) h l = (λ e. absurd cc, λ e. absurd cc)
+fault_left bytes (Some code.OutOfMemory) h l = absurd l

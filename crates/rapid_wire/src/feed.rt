@@ -1,6 +1,6 @@
 // Messages of a stream of bytes.
 
-ghost use Rattle.std.specs.Prelude.{◌≡◌, ◌≤◌, [], drop, length, Ok, None, IfOk, IfErr, IfSome, OnOk, OnErr};
+ghost use Rattle.std.specs.Prelude.{◌≡◌, ◌≤◌, ◌↔◌, [], true, drop, length, Ok, None, IfOk, IfErr, IfSome, OnOk, OnErr};
 ghost use Rattle.rapid_model.specs.Feed.{StreamEnd, Left, IsFront, Whole, BeginsWith, IsTooLong, IsIncomplete};
 ghost use Rattle.rapid_wire.specs.declared.fault.WireFault.TheVariants.{TooLong};
 ghost use Rattle.rapid_wire.specs.Feeding.{IsNext, IsFrontFault, fed, lasting_of};
@@ -121,6 +121,17 @@ impl Feed {
             return Ok(());
         }
         self.held.extend_from_slice(piece)
+    }
+
+    /// Whether nothing is held, and no fault was met: the stream may end here without cutting a frame.
+    #[tactic(auto, using(crate::proofs::Feeds::left_none, crate::proofs::Feeds::fault_left))]
+    pub fn is_empty(&self) -> bool
+        ensures { (result ≡ true) ↔ (self.now ≡ Left []) }
+    {
+        if self.fault.is_some() {
+            return false;
+        }
+        self.held.is_empty()
     }
 
     /// The next message of the stream, none where no whole frame is there. The first fault that stands in
