@@ -1,0 +1,5 @@
+pub mod Counting
+pub mod Errors
+pub mod Queues
+pub mod Receiving
+pub mod Sending

@@ -1,0 +1,19 @@
+-- The two ends of a sender's queue.
+use Rattle.std.specs.Prelude.{ℕ, List}
+use Rattle.atomic_table.specs.Seated.{TableId}
+
+-- A frame, and the bytes of the endpoint that it goes to.
+abbrev pub Frame : Type 0
+Frame = List ℕ × List ℕ
+
+-- What was put into the queue, and how many frames found it full.
+pub record Putting : Type 0 where
+  pub queue : TableId
+  pub put : List Frame
+  pub full : ℕ
+
+-- What was taken from the queue, and how many of these frames were lost.
+pub record Taking : Type 0 where
+  pub queue : TableId
+  pub taken : List Frame
+  pub failed : ℕ

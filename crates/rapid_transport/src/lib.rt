@@ -1,0 +1,21 @@
+//! Frames on their way: messages received from any reader, frames sent to any writer, the queues of
+//! the senders, and peers over loopback TCP.
+#![tactic(auto)]
+
+mod connections;
+mod counted;
+mod engine;
+mod error;
+mod inbox;
+mod peers;
+mod queue;
+mod readers;
+mod sender;
+mod timed;
+
+pub use counted::{Counted, CountedRead, CountedWrite, Failed, Metered};
+pub use engine::{receive, send};
+pub use error::{ListenError, TransportError};
+pub use inbox::Inbox;
+pub use peers::Peers;
+pub use queue::{AnyOrder, SenderEnd, SenderQueue};

@@ -1,0 +1,221 @@
+// The peers of a node: it listens to them, reads what they send, and sends to them.
+
+ghost use Rattle.std.specs.Prelude.{◌≡◌, ◌≤◌, ◌<◌, vec_len, IfErr, IfOk};
+ghost use Rattle.rapid_transport.specs.declared.error.TransportError.TheVariants.{QueueFull};
+
+use crate::connections::address_of;
+use crate::counted::Metered;
+use crate::engine::receive;
+use crate::error::{ListenError, TransportError};
+use crate::inbox::Inbox;
+use crate::queue::{SenderEnd, SenderQueue};
+use crate::readers::Readers;
+use crate::sender;
+use bytes::Bytes;
+use rapid_endpoint::Endpoint;
+use rapid_wire::Feed;
+use std::alloc::{AllocError, Global};
+use std::net::{Net, SocketAddr, TcpListener, TcpStream};
+use std::sync::atomic::{AtomicBool, Ordering};
+use std::sync::{Mutex, Wait};
+use std::thread::Threads;
+use std::time::{Clock, Duration};
+use std::{io, thread};
+
+/// How many senders there are, each with a queue of its own.
+const SENDERS: u16 = 4;
+
+/// How many frames a sender's queue has room for.
+const CAPACITY: usize = 4_096;
+
+/// How long the acceptor waits after a connection could not be accepted, in milliseconds.
+const AFTER_A_FAULT: u64 = 50;
+
+/// How often it is tried to wake the acceptor, and how long each try takes at most, in milliseconds.
+const WAKES: u32 = 50;
+
+const LONGEST_WAKE: u64 = 200;
+
+/// The peers of a node: a listener, the incoming connections, and the senders' queues. It is shared
+/// by reference among the threads of a node.
+#[derive(Drop)]
+pub struct Peers {
+    listener: TcpListener,
+    address: SocketAddr,
+    queues: [Mutex<SenderQueue>; 4],
+    readers: Mutex<Readers>,
+    stop: AtomicBool,
+}
+
+/// A queue behind a lock, and the end that takes.
+fn queue(alloc: Global, ends: &mut Vec<SenderEnd>) -> Result<Mutex<SenderQueue>, AllocError> {
+    let (queue, end) = SenderQueue::new(alloc, CAPACITY)?;
+    ends.push(end)?;
+    Ok(Mutex::new(queue))
+}
+
+/// Listens at the address.
+fn bind<R>(rt: &R, at: Endpoint) -> io::Result<(TcpListener, SocketAddr)>
+where
+    R: Net<Listener = TcpListener, Stream = TcpStream>,
+{
+    let listener = TcpListener::bind(rt, address_of(at))?;
+    let address = listener.local_addr()?;
+    Ok((listener, address))
+}
+
+/// Reads messages and hands them on, until the connection ends or fails.
+fn read_all<R: Wait, I: Inbox<R>>(rt: &R, alloc: Global, stream: &TcpStream, inbox: &I) {
+    let mut reader = Metered::new(stream);
+    let mut feed = Feed::new(alloc);
+    for _ in rt.forever() {
+        let Ok(Some(message)) = receive(rt, &mut reader, &mut feed) else {
+            return;
+        };
+        inbox.take(rt, message);
+    }
+}
+
+impl Peers {
+    /// Listens at the endpoint, and makes the senders' queues. No thread runs yet; connections wait
+    /// until `run`. The second answer is for `run`.
+    ///
+    /// # Errors
+    ///
+    /// `NoPort` where the port was not to be had, and `OutOfMemory`.
+    pub fn listen<R>(
+        rt: &R,
+        alloc: Global,
+        at: Endpoint,
+    ) -> Result<(Peers, Vec<SenderEnd>), ListenError>
+    where
+        R: Net<Listener = TcpListener, Stream = TcpStream>,
+    {
+        let Ok((listener, address)) = bind(rt, at) else {
+            return Err(ListenError::NoPort);
+        };
+        let mut ends = Vec::new(alloc);
+        let queues = [
+            queue(alloc, &mut ends)?,
+            queue(alloc, &mut ends)?,
+            queue(alloc, &mut ends)?,
+            queue(alloc, &mut ends)?,
+        ];
+        let peers = Peers {
+            listener,
+            address,
+            queues,
+            readers: Mutex::new(Readers::new(alloc)),
+            stop: AtomicBool::new(false),
+        };
+        Ok((peers, ends))
+    }
+
+    /// Puts a frame that goes to this endpoint into the queue whose number is the port modulo 4.
+    ///
+    /// # Errors
+    ///
+    /// `QueueFull` where there was no room: the frame is dropped, and counted as a loss.
+    pub fn post<R: Wait>(&self, rt: &R, to: Endpoint, frame: Bytes) -> Result<(), TransportError>
+        ensures { IfErr result (λ e. e ≡ QueueFull) }
+    {
+        let number = usize::from(to.port() % SENDERS);
+        self.queues[number].lock(rt).put(rt, to, frame)
+    }
+
+    /// How many frames were lost: those that found a queue full, and those that could not be sent.
+    /// The count stays at 2^64 - 1.
+    pub fn losses<R: Wait>(&self, rt: &R) -> u64 {
+        let mut losses = 0u64;
+        for queue in &self.queues {
+            losses = losses.saturating_add(queue.lock(rt).losses());
+        }
+        losses
+    }
+
+    /// Accepts connections, hands the messages that come by them to the inbox, and sends what is
+    /// posted, until `stop`. The caller's thread is the acceptor; the readers, at most 256, and the
+    /// senders have threads of their own, all of which have ended when it returns. The ends are those
+    /// that `listen` gave. A connection beyond 256 is closed at once, and so is one by which something
+    /// comes that is no frame.
+    ///
+    /// # Errors
+    ///
+    /// `OutOfMemory` where a sender's thread was not to be had: nothing runs then.
+    pub fn run<R, I>(
+        &self,
+        rt: &R,
+        alloc: Global,
+        ends: Vec<SenderEnd>,
+        inbox: &I,
+    ) -> Result<(), ListenError>
+    where
+        R: Net<Listener = TcpListener, Stream = TcpStream> + Threads + Wait + Clock + Sync,
+        I: Inbox<R> + Sync,
+    {
+        thread::scope(thread::scope_env(), rt, |scope| {
+            for end in ends {
+                let started = scope.spawn(move || sender::work(rt, alloc, end, &self.stop));
+                if started.is_err() {
+                    self.stop.store(true, Ordering::SeqCst);
+                    return Err(ListenError::OutOfMemory);
+                }
+            }
+            for stream in self.listener.incoming() {
+                if self.stop.load(Ordering::SeqCst) {
+                    break;
+                }
+                let Some((number, stream)) = self.admit(rt, stream) else {
+                    continue;
+                };
+                let started = scope.spawn(move || {
+                    read_all(rt, alloc, &stream, inbox);
+                    self.readers.lock(rt).leave(number);
+                });
+                if started.is_err() {
+                    self.readers.lock(rt).leave(number);
+                }
+            }
+            Ok(())
+        })
+    }
+
+    /// Takes in a connection that was accepted; none where it is closed at once.
+    fn admit<R: Wait + Clock>(
+        &self,
+        rt: &R,
+        accepted: io::Result<TcpStream>,
+    ) -> Option<(u64, TcpStream)> {
+        let Ok(stream) = accepted else {
+            thread::sleep(rt, Duration::from_millis(AFTER_A_FAULT));
+            return None;
+        };
+        let number = self.readers.lock(rt).admit(&stream)?;
+        // Whoever stops the peers may have looked before this connection was taken in.
+        if self.stop.load(Ordering::SeqCst) {
+            self.readers.lock(rt).leave(number);
+            return None;
+        }
+        Some((number, stream))
+    }
+
+    /// Ends `run`: the readers at once, the senders when what is queued is sent, or after 0.3 seconds
+    /// where that takes longer; a connection or a write that is under way takes up to a second. It
+    /// may be called by any thread, also before `run`, and calls after the first do nothing.
+    pub fn stop<R>(&self, rt: &R)
+    where
+        R: Net<Listener = TcpListener, Stream = TcpStream> + Wait + Clock,
+    {
+        if self.stop.swap(true, Ordering::SeqCst) {
+            return;
+        }
+        self.readers.lock(rt).shut_down();
+        let longest = Duration::from_millis(LONGEST_WAKE);
+        for _ in 0..WAKES {
+            if TcpStream::connect_timeout(rt, &self.address, longest).is_ok() {
+                return;
+            }
+            thread::sleep(rt, Duration::from_millis(AFTER_A_FAULT));
+        }
+    }
+}

@@ -1,0 +1,149 @@
+// Peers over loopback TCP.
+
+use crate::worked::{PRE_JOIN, asks_to_join};
+use bytes::Bytes;
+use rapid_endpoint::Endpoint;
+use rapid_member::Message;
+use rapid_transport::{Inbox, Peers, TransportError};
+use std::alloc::Global;
+use std::io::{self, Read, Write};
+use std::net::{Ipv4Addr, Net, SocketAddr, SocketAddrV4, TcpListener, TcpStream};
+use std::process::Abort;
+use std::sync::Wait;
+use std::sync::atomic::{AtomicU64, Ordering};
+use std::test::Fail;
+use std::thread;
+use std::thread::Threads;
+use std::time::{Clock, Duration};
+
+/// Counts the messages in which the process with the number 2 asks to join.
+#[derive(Drop)]
+struct Tally {
+    asked: AtomicU64,
+}
+
+impl<R: Wait> Inbox<R> for Tally {
+    fn take(&self, _rt: &R, message: Message) {
+        if asks_to_join(&message) {
+            self.asked.fetch_add(1, Ordering::SeqCst);
+        }
+    }
+}
+
+/// Waits until so many messages came, for some seconds at most.
+fn wait_for<R: Clock>(rt: &R, tally: &Tally, count: u64) -> bool {
+    for _ in 0..1_000 {
+        if tally.asked.load(Ordering::SeqCst) >= count {
+            return true;
+        }
+        thread::sleep(rt, Duration::from_millis(5));
+    }
+    false
+}
+
+/// A connection to this port by which these bytes were written.
+fn written<R>(rt: &R, port: u16, bytes: &[u8]) -> io::Result<TcpStream>
+where
+    R: Net<Listener = TcpListener, Stream = TcpStream>,
+{
+    let address = SocketAddrV4::new(Ipv4Addr::new(127, 0, 0, 1), port);
+    let mut stream = TcpStream::connect(rt, SocketAddr::V4(address))?;
+    stream.write_all(bytes)?;
+    Ok(stream)
+}
+
+/// Whether the peer closes the connection.
+fn is_closed(stream: &mut TcpStream) -> bool {
+    let waits = stream.set_read_timeout(Some(Duration::from_secs(5)));
+    waits.is_ok() && matches!(stream.read(&mut [0; 8]), Ok(0))
+}
+
+/// Posts so many frames that go to this endpoint.
+fn post_all<R: Wait>(
+    rt: &R,
+    alloc: Global,
+    peers: &Peers,
+    to: Endpoint,
+    count: u64,
+) -> Result<(), TransportError> {
+    let frame = Bytes::copy_from_slice(alloc, &PRE_JOIN)?;
+    for _ in 0..count {
+        peers.post(rt, to, frame.clone()?)?;
+    }
+    Ok(())
+}
+
+#[test]
+fn a_node_posts_to_itself(rt: HostRuntime) -> Result<(), Fail> {
+    let at = Endpoint::new([127, 0, 0, 1], 7_461);
+    let (peers, ends) = Peers::listen(&rt, rt.alloc(), at)?;
+    let tally = Tally {
+        asked: AtomicU64::new(0),
+    };
+    let (ran, came) = thread::join(
+        &rt,
+        || peers.run(&rt, rt.alloc(), ends, &tally),
+        || {
+            let posted = post_all(&rt, rt.alloc(), &peers, at, 1_000).is_ok();
+            let came = wait_for(&rt, &tally, 1_000);
+            peers.stop(&rt);
+            posted && came
+        },
+    );
+    assert!(rt; ran.is_ok() && came);
+    assert_eq!(rt; tally.asked.load(Ordering::SeqCst), 1_000);
+    assert_eq!(rt; peers.losses(&rt), 0);
+    Ok(())
+}
+
+#[test]
+fn garbage_closes_its_connection_alone(rt: HostRuntime) -> Result<(), Fail> {
+    let at = Endpoint::new([127, 0, 0, 1], 7_462);
+    let (peers, ends) = Peers::listen(&rt, rt.alloc(), at)?;
+    let tally = Tally {
+        asked: AtomicU64::new(0),
+    };
+    let (ran, came) = thread::join(
+        &rt,
+        || peers.run(&rt, rt.alloc(), ends, &tally),
+        || {
+            let quiet = written(&rt, 7_462, &[]);
+            let half = written(&rt, 7_462, &PRE_JOIN[..11]);
+            let long = written(&rt, 7_462, &[0, 1, 0, 1]);
+            let good = written(&rt, 7_462, &PRE_JOIN);
+            let closed = long.is_ok_and(|mut stream| is_closed(&mut stream));
+            let came = wait_for(&rt, &tally, 1);
+            peers.stop(&rt);
+            quiet.is_ok() && half.is_ok() && good.is_ok() && closed && came
+        },
+    );
+    assert!(rt; ran.is_ok() && came);
+    Ok(())
+}
+
+#[test]
+fn a_frame_to_nobody_is_lost(rt: HostRuntime) -> Result<(), Fail> {
+    let at = Endpoint::new([127, 0, 0, 1], 7_463);
+    let (peers, ends) = Peers::listen(&rt, rt.alloc(), at)?;
+    let tally = Tally {
+        asked: AtomicU64::new(0),
+    };
+    let nobody = Endpoint::new([127, 0, 0, 1], 7_464);
+    post_all(&rt, rt.alloc(), &peers, nobody, 3)?;
+    let (ran, _) = thread::join(
+        &rt,
+        || peers.run(&rt, rt.alloc(), ends, &tally),
+        || {
+            for _ in 0..1_000 {
+                if peers.losses(&rt) >= 3 {
+                    break;
+                }
+                thread::sleep(&rt, Duration::from_millis(5));
+            }
+            peers.stop(&rt);
+        },
+    );
+    assert!(rt; ran.is_ok());
+    assert_eq!(rt; peers.losses(&rt), 3);
+    Ok(())
+}

@@ -1,0 +1,61 @@
+// The queue of a sender.
+
+use bytes::Bytes;
+use rapid_endpoint::Endpoint;
+use rapid_transport::{SenderEnd, SenderQueue, TransportError};
+use std::alloc::Global;
+use std::process::Abort;
+use std::sync::Wait;
+use std::test::Fail;
+
+/// An endpoint with this port.
+fn endpoint(port: u16) -> Endpoint {
+    Endpoint::new([127, 0, 0, 1], port)
+}
+
+/// Puts so many frames; each goes to the port that is its number.
+fn fill<R: Wait>(rt: &R, alloc: Global, queue: &mut SenderQueue, frames: u16) -> Result<(), Fail> {
+    let bytes = Bytes::copy_from_slice(alloc, b"frame")?;
+    for port in 0..frames {
+        queue.put(rt, endpoint(port), bytes.clone()?)?;
+    }
+    Ok(())
+}
+
+/// The ports of the frames that are taken, from the first that isn't the next one on.
+fn ports<R: Wait>(rt: &R, end: &mut SenderEnd) -> u16 {
+    let mut next = 0u16;
+    for _ in 0..5_000 {
+        match end.take(rt) {
+            Some((to, frame)) if to == endpoint(next) && frame.as_slice() == b"frame".as_slice() =>
+                {
+                    next = next.saturating_add(1);
+                }
+            _ => break,
+        }
+    }
+    next
+}
+
+#[test]
+fn one_frame_too_many(rt: HostRuntime) -> Result<(), Fail> {
+    let (mut queue, mut end) = SenderQueue::new(rt.alloc(), 4_096)?;
+    fill(&rt, rt.alloc(), &mut queue, 4_096)?;
+    let refused = queue.put(&rt, endpoint(0), Bytes::from_static(b"frame"));
+    assert_eq!(rt; refused, Err(TransportError::QueueFull));
+    assert_eq!(rt; queue.losses(), 1);
+    assert_eq!(rt; ports(&rt, &mut end), 4_096);
+    Ok(())
+}
+
+#[test]
+fn frames_that_failed_are_losses(rt: HostRuntime) -> Result<(), Fail> {
+    let (mut queue, mut end) = SenderQueue::new(rt.alloc(), 1)?;
+    fill(&rt, rt.alloc(), &mut queue, 1)?;
+    let refused = queue.put(&rt, endpoint(1), Bytes::from_static(b"frame"));
+    assert!(rt; refused.is_err() && ports(&rt, &mut end) == 1);
+    end.lose();
+    queue.compare(&mut end);
+    assert_eq!(rt; queue.losses(), 2);
+    Ok(())
+}
