@@ -1,0 +1,243 @@
+#!/usr/bin/env python3
+"""Lists the public surface of the libraries: docs/SURFACE.md is what this prints.
+
+  docs/surface.py           prints the page
+  docs/surface.py --write   writes it to docs/SURFACE.md
+  docs/surface.py --check   ends with status 1 where docs/SURFACE.md is not that page
+
+A function stands on the page where its crate's lib.rt names it or its type in a `pub use`. What it does
+is the first sentence of its docstring, what its caller shows are its clauses `requires`, and the
+numbers of refusals are those of the method `code`.
+"""
+import re
+import sys
+from pathlib import Path
+
+TOP = Path(__file__).resolve().parent.parent
+PAGE = TOP / "docs/SURFACE.md"
+LAWS = {"rapid_model", "rapid_agreement", "rapid_safety", "rapid_histories"}
+PROGRAMS = {"rapidd", "rapid_bench", "rapid_reference"}
+
+HEAD = """# The public surface
+
+Written by `docs/surface.py` from the sources; `docs/surface.py --check` says whether it still is what they say.
+Crates stand lowest first. Behind each function stands the first sentence of its docstring; *shows* is what its caller has to
+show (its clauses `requires`), where it has to show anything; *errors* is what the docstring says of them. What a call ensures
+stands in its contract: [PROMISES.md](PROMISES.md) retells it.
+
+A table has the number that `code()` answers for each refusal (or reply), and when it comes. 99, where it stands, is want of memory, which is
+answered only where a growth was really refused. A function named `tell` does nothing: what it ensures is for proofs.
+"""
+
+
+class Item:
+    """A public item: its docstring, its head line, and its contract's conditions."""
+
+    def __init__(self, doc, head, shows):
+        self.doc, self.head, self.shows = doc, head, shows
+
+    def sentences(self):
+        """The sentences of the docstring before `# Errors`."""
+        text = " ".join(self.doc.split("# Errors")[0].split())
+        return re.split(r"(?<=[.!?]) (?=[A-Z`\[])", text)
+
+    def first(self):
+        """The first sentence of the docstring."""
+        return self.sentences()[0]
+
+    def errors(self):
+        """What the docstring says under `# Errors`, else its sentences that name an error."""
+        said = " ".join(self.doc.partition("# Errors")[2].split())
+        if said or "Result<" not in self.head:
+            return said
+        return " ".join(s for s in self.sentences()[1:] if re.search(r"`(?!None|Some|Ok)[A-Z]\w+`|error", s))
+
+
+class Type:
+    """A public type or trait, and its functions."""
+
+    def __init__(self, kind, name, doc):
+        self.kind, self.name, self.doc = kind, name, doc
+        self.traits, self.items, self.variants, self.codes = [], [], [], {}
+
+
+def signature(lines, at):
+    """The head of the function that begins at a line, on one line, and its conditions."""
+    head, shows = [], []
+    for line in lines[at:]:
+        text = line.strip()
+        if text.startswith("requires"):
+            shows.append(re.sub(r"^requires (\w+ )?\{ (.*) \}$", r"\2", text))
+        elif text.startswith("ensures") or text == "{" or text == "{}":
+            break
+        elif not shows:
+            head.append(text.removesuffix("{").removesuffix(";").strip())
+            if text.endswith((" {", ";", "{}")):
+                break
+    joined = " ".join(head).replace("( ", "(").replace(",)", ")").replace(", )", ")")
+    return re.sub(r"^pub |const fn ", "", joined).removesuffix(" where").removesuffix(","), shows
+
+
+def docs_above(lines, at):
+    """The docstring that stands above a line, over attributes."""
+    found = []
+    for line in reversed(lines[:at]):
+        text = line.strip()
+        if text.startswith("///"):
+            found.append(text[3:].strip())
+        elif not text.startswith(("#[", "#![")):
+            break
+    return " ".join(reversed(found))
+
+
+def derived(lines, at):
+    """The traits that the item at a line derives."""
+    for line in reversed(lines[:at]):
+        if line.startswith("#[derive("):
+            return line[len("#[derive(") : line.index(")")].split(", ")
+        if not line.startswith(("///", "#[")):
+            break
+    return []
+
+
+def read_body(lines, at, found):
+    """Reads the variants, functions and codes between a line and the end of its block."""
+    for place in range(at + 1, len(lines)):
+        line = lines[place]
+        if line.startswith("}"):
+            break
+        variant = re.match(r"    (([A-Z]\w*)(?:\(.*\))?),$", line)
+        if found.kind == "enum" and variant and "impl" not in lines[at]:
+            found.variants.append((variant[2], variant[1], docs_above(lines, place)))
+        field = re.match(r"    pub (\w+: .*),$", line)
+        if found.kind == "struct" and field and "impl" not in lines[at]:
+            found.items.append(Item(docs_above(lines, place), "." + field[1], []))
+        code = re.match(r"            (?:\w+::)?(\w+)(?:\(.*\))? => (\d+),$", line)
+        if code:
+            found.codes[code[1]] = int(code[2])
+        is_trait = found.kind == "trait" and "trait" in lines[at]
+        if re.match(r"    pub (const )?fn " if not is_trait else r"    fn ", line):
+            head, shows = signature(lines, place)
+            found.items.append(Item(docs_above(lines, place), head, shows))
+        constant = re.match(r"    pub const (.*);$", line)
+        if constant:
+            found.items.append(Item(docs_above(lines, place), "const " + constant[1], []))
+
+
+def exported(lib):
+    """The names that a library names by `pub use`, of its own and of others."""
+    own, others = [], []
+    for path, names in re.findall(r"^pub use ([\w:]+?)(?:::\{([^}]*)\})?;", lib, re.M):
+        module, _, last = path.rpartition("::")
+        listed = [n.strip() for n in names.split(",") if n.strip()] if names else [last]
+        (others if (module or path).startswith("rapid_") else own).extend(listed)
+    return own, others
+
+
+def read_crate(name):
+    """The public types, the public functions, and what is named again, of a crate."""
+    source = TOP / "crates" / name / "src"
+    lib = (source / "lib.rt").read_text()
+    own, others = exported(lib)
+    types, functions = {}, []
+    files = sorted(source.rglob("*.rt"))
+    texts = [(file, file.read_text().split("\n")) for file in files]
+    for file, lines in texts:
+        for at, line in enumerate(lines):
+            kind = re.match(r"pub (struct|enum|trait|type) (\w+)", line)
+            if kind and (kind[2] in own or file.name == "lib.rt"):
+                types[kind[2]] = Type(kind[1], kind[2], docs_above(lines, at))
+                types[kind[2]].traits = derived(lines, at)
+                if kind[1] != "type" and line.endswith("{"):
+                    read_body(lines, at, types[kind[2]])
+            free = re.match(r"pub (?:const )?fn (\w+)", line)
+            if free and (free[1] in own or file.name == "lib.rt"):
+                functions.append(Item(docs_above(lines, at), *signature(lines, at)))
+    for file, lines in texts:
+        for at, line in enumerate(lines):
+            block = re.match(r"impl(?:<[^{]*?>)? (?:([\w:]+)(?:<.*?>)? for )?(\w+)", line)
+            if not block or block[2] not in types or "Model for" in line:
+                continue
+            if block[1]:
+                types[block[2]].traits.append(block[1].split("::")[-1])
+            read_body(lines, at, types[block[2]])
+    return lib, types, functions, others
+
+
+def print_item(item, out, owner=""):
+    """One line for an item, and what its caller shows and is refused."""
+    name = re.sub(r"^(fn|const) ", "", item.head)
+    out.append(f"- `{owner}{name}`: {item.first()}" if item.doc else f"- `{owner}{name}`")
+    if item.shows:
+        out.append("  - *shows*: " + "; ".join(f"`{s}`" for s in item.shows))
+    if item.errors():
+        out.append("  - *errors*: " + item.errors())
+
+
+def print_type(found, out):
+    """A type, its functions, and a table of its refusals where it has numbers."""
+    traits = [t for t in dict.fromkeys(found.traits) if t not in ("Drop", "From", "Error")]
+    has = f" ({', '.join(traits)})" if traits else ""
+    doc = Item(found.doc, "", []).first()
+    out.extend(["", f"**{found.kind} `{found.name}`**{has}: {doc}", ""])
+    if found.variants and (found.codes or found.name.endswith(("Error", "Fault"))):
+        out.extend(["| answer | number | when |", "|---|---|---|"])
+        for name, _, when in found.variants:
+            out.append(f"| {name} | {found.codes.get(name, 'none')} | {when} |")
+        out.append("")
+    elif found.variants:
+        for _, case, said in found.variants:
+            out.append(f"- `{case}`: {said}" if said else f"- `{case}`")
+    for item in found.items:
+        if re.match(r"fn code\b", item.head):
+            if not found.variants:
+                out.extend(f"- number {number}" for number in found.codes.values())
+            continue
+        print_item(item, out, "" if item.head.startswith((".", "const")) else found.name + "::")
+
+
+def print_crate(name, out):
+    """The section of a crate."""
+    lib, types, functions, others = read_crate(name)
+    said = re.findall(r"^//! ?(.*)$", lib, re.M)
+    out.extend(["", f"## {name}", "", Item(" ".join(said), "", []).first()])
+    if others:
+        out.extend(["", "Names again: " + ", ".join(f"`{n}`" for n in others) + "."])
+    for found in types.values():
+        print_type(found, out)
+    if functions:
+        laws = "laws, each the contract of a function with an empty body" if name in LAWS else "functions"
+        out.extend(["", f"**{laws}**", ""])
+        for item in functions:
+            print_item(item, out)
+
+
+def page():
+    """The whole page."""
+    out = [HEAD.rstrip()]
+    for line in (TOP / "crates.txt").read_text().split("\n"):
+        name = line.partition(":")[0]
+        if name and not name.startswith("#") and name not in PROGRAMS and not name.endswith("_tests"):
+            print_crate(name, out)
+    text = "\n".join(out) + "\n"
+    return re.sub(r"\n{3,}", "\n\n", text)
+
+
+def main(words):
+    """Prints, writes or compares the page."""
+    if words == ["--write"]:
+        PAGE.write_text(page())
+    elif words == ["--check"]:
+        if not PAGE.is_file() or PAGE.read_text() != page():
+            print("docs/SURFACE.md is not what the sources say: docs/surface.py --write", file=sys.stderr)
+            return 1
+    elif not words:
+        print(page(), end="")
+    else:
+        print(__doc__, file=sys.stderr)
+        return 2
+    return 0
+
+
+if __name__ == "__main__":
+    sys.exit(main(sys.argv[1:]))
