@@ -1,0 +1,116 @@
+// A world, and what turns remember.
+
+ghost use Rattle.std.specs.Prelude.{◌≡◌, map, IfOk, IfErr, OnErr};
+ghost use Rattle.std.specs.Option.{option_map};
+ghost use Rattle.rapid_model.specs.StoredWorld.{world_of};
+ghost use Rattle.rapid_model.specs.Turn as model;
+ghost use Rattle.rapid_world.specs.Events.{event_of, report_of, Refuses};
+ghost use Rattle.rapid_clerks.specs.Clusters.{DoesJob, RefusesTurn, RefusesJob, turn_refusal};
+ghost use Rattle.rapid_clerks.specs.Turns.{turn_of};
+ghost use Rattle.rapid_clerks.specs.declared.job.Job.TheVariants as job;
+
+use crate::Job;
+use crate::turn::{Turn, next_node, next_packet};
+use rapid_endpoint::ProcessId;
+use rapid_world::{Report, World, WorldError, WorldEvent};
+use std::alloc::AllocError;
+use std::marker::Model;
+
+/// How many events a world accepts at most.
+const MOST_EVENTS: usize = 1_000_000;
+
+/// A world, and what turns remember.
+#[derive(Drop)]
+pub(crate) struct Cluster {
+    world: World,
+    // all packets up to this number were delivered or passed over by turns
+    passed: u64,
+    // the node that a turn ticked last, if any
+    ticked: Option<ProcessId>,
+}
+
+impl Model for Cluster {
+    ghost use Rattle.rapid_clerks.specs.Clusters.{ClusterState, cluster_code};
+
+    ghost Value = { ClusterState };
+
+    ghost coded = { cluster_code };
+
+    ghost view = { λ c. record { world = c.world; pointer = record { passed = c.passed; ticked = c.ticked } } };
+}
+
+impl Cluster {
+    /// A world of which no turn was taken yet.
+    pub(crate) fn new(world: World) -> Cluster
+        ensures { result ≡ record { world = world; pointer = model.first_turn } }
+    {
+        Cluster {
+            world,
+            passed: 0,
+            ticked: None,
+        }
+    }
+
+    /// The world.
+    pub(crate) fn world(&self) -> &World
+        ensures { result.now ≡ self.now.world }
+    {
+        &self.world
+    }
+
+    /// The next turn; none where no node runs.
+    #[tactic(auto, unfolding(rapid_model::specs::Turn::next_turn))]
+    fn next_turn(&self) -> Result<Option<Turn>, AllocError>
+        ensures { IfOk result (λ turn. option_map turn_of turn ≡ model.next_turn (world_of self.now.world) self.now.pointer) }
+    {
+        if let Some(packet) = next_packet(&self.world, self.passed) {
+            return Ok(Some(Turn {
+                event: WorldEvent::Deliver(packet),
+                passed: packet,
+                ticked: self.ticked,
+            }));
+        }
+        let running = self.world.running()?;
+        match next_node(running.as_slice(), self.ticked) {
+            Some(id) => Ok(Some(Turn {
+                event: WorldEvent::Tick(id),
+                passed: self.world.packets(),
+                ticked: Some(id),
+            })),
+            None => Ok(None),
+        }
+    }
+
+    /// Takes a turn: its event is stored.
+    #[tactic(auto, using(crate::proofs::Jobs::turn_not_full))]
+    fn take_turn(&mut self) -> Result<Vec<Report>, WorldError>
+        ensures done { IfOk result (λ reports. DoesJob job.Turn self.old self.new (map report_of reports.items)) }
+        ensures refused { IfErr result (RefusesTurn (turn_refusal self.old)) }
+        ensures unchanged { OnErr result (self.new ≡ self.old) }
+    {
+        if self.world.accepted() >= MOST_EVENTS {
+            return Err(WorldError::EventsFull);
+        }
+        let turn = match self.next_turn() {
+            Ok(Some(turn)) => turn,
+            Ok(None) => return Err(WorldError::NoSuchNode),
+            Err(AllocError) => return Err(WorldError::OutOfMemory),
+        };
+        let reports = self.world.step(&turn.event)?;
+        self.passed = turn.passed;
+        self.ticked = turn.ticked;
+        Ok(reports)
+    }
+
+    /// Does a job: its event is stored.
+    pub(crate) fn step(&mut self, job: &Job) -> Result<Vec<Report>, WorldError>
+        ensures done { IfOk result (λ reports. DoesJob job.now self.old self.new (map report_of reports.items)) }
+        ensures refused { IfErr result (RefusesJob job.now self.old) }
+        ensures unchanged { OnErr result (self.new ≡ self.old) }
+    {
+        match job {
+            Job::Event(event) => self.world.step(event),
+            Job::Turn => self.take_turn(),
+        }
+    }
+}
