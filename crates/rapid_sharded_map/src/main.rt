@@ -1,0 +1,152 @@
+//! An application that keeps a sharded map: each key belongs to one member of the present view. It
+//! subscribes to the views of a desk, deals the keys anew at each change, and prints which member
+//! owns which key. Here the desk is that of process 1 alone, and decisions are told to it that let
+//! two guests in and then take the first of them out.
+#![tactic(auto)]
+
+ghost use Rattle.std.specs.Prelude.{◌≡◌, true, All, IfSome, IfOk, OnOk};
+ghost use Rattle.std.specs.List.{Contains};
+ghost use Rattle.rapid_model.specs.Configuration.{is_member};
+
+use anyhow::{Context, Result, bail};
+use rapid_config::{ConfigId, Configuration, Cut, Params};
+use rapid_desk::{Desk, Subscription, Taken};
+use rapid_endpoint::{Endpoint, Process, ProcessId};
+use rapid_node::{Body, Event, Message};
+use rapid_view::{View, ViewSeat};
+use std::alloc::{AllocError, Global};
+use std::sync::Wait;
+
+/// The keys of the map.
+const KEYS: [&str; 8] = [
+    "apple", "banana", "cherry", "date", "elder", "fig", "grape", "hazel",
+];
+
+/// Whom the decisions let in or take out, in turn.
+const CHANGES: [u16; 3] = [2, 3, 2];
+
+/// The hash goes on over these bytes (FNV-1a, 64 bits).
+fn hash(before: u64, bytes: &[u8]) -> u64 {
+    let mut hash = before;
+    for byte in bytes {
+        hash = (hash ^ u64::from(*byte)).wrapping_mul(0x0100_0000_01b3);
+    }
+    hash
+}
+
+/// How much a key weighs at a member.
+fn weight(member: &Process, key: &str) -> u64 {
+    hash(
+        hash(0xcbf2_9ce4_8422_2325, &member.to_bytes()),
+        key.as_bytes(),
+    )
+}
+
+/// The member that owns a key, at which the key weighs most, so that a change of the members moves no
+/// key between two that stay. None where there are no members.
+#[tactic(auto, using(crate::proofs::Members::in_at))]
+fn owner(configuration: &Configuration, key: &str) -> Option<Process>
+    ensures { IfSome result (λ owner. is_member configuration.now owner ≡ true) }
+{
+    let members = configuration.members();
+    let mut owner = *members.first()?;
+    for member in members {
+        if weight(member, key) > weight(&owner, key) {
+            owner = *member;
+        }
+    }
+    Some(owner)
+}
+
+/// Who owns each of the keys, in their order.
+#[derive(Drop)]
+struct ShardedMap {
+    owners: Vec<Process>,
+}
+
+impl ShardedMap {
+    /// The keys, dealt to the members of a view.
+    fn deal(alloc: Global, view: &View) -> Result<ShardedMap>
+        ensures { IfOk result (λ map. All (λ owner. is_member view.now owner ≡ true) map.owners.items) }
+    {
+        let mut owners = Vec::with_capacity(alloc, KEYS.len())?;
+        for key in KEYS {
+            let Some(owner) = owner(view.configuration(), key) else {
+                bail!("a view without members has no owners");
+            };
+            owners.push(owner)?;
+        }
+        Ok(ShardedMap { owners })
+    }
+
+    /// Prints the height of the view, its members, and who owns which key.
+    fn print<R: Print>(&self, rt: &R, view: &View) -> Result<()> {
+        let configuration = view.configuration();
+        print!(rt; "height {} members", configuration.height())?;
+        for member in configuration.members() {
+            print!(rt; " {}", member.endpoint().port())?;
+        }
+        println!(rt; "")?;
+        for (key, owner) in KEYS.iter().zip(&self.owners) {
+            println!(rt; "  {key} {}", owner.endpoint().port())?;
+        }
+        Ok(())
+    }
+}
+
+/// Takes the changes that are there, and deals the keys at each.
+fn follow<R: Wait + Print>(
+    rt: &R,
+    alloc: Global,
+    changes: &mut Subscription,
+    seat: &mut ViewSeat,
+) -> Result<()> {
+    for _ in rt.forever() {
+        match changes.take(rt) {
+            Taken::Change(view) => ShardedMap::deal(alloc, &view)?.print(rt, &view)?,
+            Taken::Empty | Taken::Closed => return Ok(()),
+            // changes were lost: the seat has the last view
+            Taken::Lagged => {
+                let view = seat.members(rt)?;
+                return ShardedMap::deal(alloc, &view)?.print(rt, &view);
+            }
+        }
+    }
+    unreachable!()
+}
+
+/// The process with this number, at the port of this number.
+fn process(number: u16) -> Process {
+    let [high, low] = number.to_be_bytes();
+    let mut id = [0; 16];
+    id[14] = high;
+    id[15] = low;
+    Process::new(ProcessId::new(id), Endpoint::new([127, 0, 0, 1], number))
+}
+
+/// Another member says that a cut of this process was decided in the configuration.
+fn decision(alloc: Global, id: ConfigId, number: u16) -> Result<Event> {
+    let cut = Cut::new(Vec::from_array(alloc, [process(number)])?)?;
+    Ok(Event::Receive(Message::new(process(2), Body::Decision(id, cut))))
+}
+
+fn main(rt: HostRuntime) -> Result<()> {
+    let alloc = rt.alloc();
+    let me = process(1);
+    let founding = Configuration::seed(alloc, Params::new(3, 3, 1)?, &[me])?;
+    if !founding.is_member(&me) {
+        bail!("the founder is no member");
+    }
+    let mut desk = Box::new(alloc, Desk::seed(&rt, alloc, &founding, me, 1)?)?;
+    let mut changes = desk.subscribe(8)?;
+    let mut seats = desk.take_seats().context("the desk has no seats")?;
+    let mut seat = seats.pop().context("the desk has no seat")?;
+    let view = seat.members(&rt)?;
+    ShardedMap::deal(alloc, &view)?.print(&rt, &view)?;
+    for number in CHANGES {
+        let present = seat.stamp();
+        desk.step(decision(alloc, present.id(), number)?)?;
+        follow(&rt, alloc, &mut changes, &mut seat)?;
+    }
+    Ok(())
+}
