@@ -73,22 +73,34 @@ fn post_all<R: Wait>(
     Ok(())
 }
 
+/// Nobody has asked to join yet.
+fn none_asked() -> Tally {
+    Tally {
+        asked: AtomicU64::new(0),
+    }
+}
+
+/// Posts a thousand frames to the peers themselves, and stops them when all came. Says whether they
+/// did.
+fn posts_to_itself<R>(rt: &R, alloc: Global, peers: &Peers, at: Endpoint, tally: &Tally) -> bool
+where
+    R: Net<Listener = TcpListener, Stream = TcpStream> + Wait + Clock,
+{
+    let posted = post_all(rt, alloc, peers, at, 1_000).is_ok();
+    let came = wait_for(rt, tally, 1_000);
+    peers.stop(rt);
+    posted && came
+}
+
 #[test]
 fn a_node_posts_to_itself(rt: HostRuntime) -> Result<(), Fail> {
     let at = Endpoint::new([127, 0, 0, 1], 7_461);
     let (peers, ends) = Peers::listen(&rt, rt.alloc(), at)?;
-    let tally = Tally {
-        asked: AtomicU64::new(0),
-    };
+    let tally = none_asked();
     let (ran, came) = thread::join(
         &rt,
         || peers.run(&rt, rt.alloc(), ends, &tally),
-        || {
-            let posted = post_all(&rt, rt.alloc(), &peers, at, 1_000).is_ok();
-            let came = wait_for(&rt, &tally, 1_000);
-            peers.stop(&rt);
-            posted && came
-        },
+        || posts_to_itself(&rt, rt.alloc(), &peers, at, &tally),
     );
     assert!(rt; ran.is_ok() && came);
     assert_eq!(rt; tally.asked.load(Ordering::SeqCst), 1_000);
@@ -96,52 +108,64 @@ fn a_node_posts_to_itself(rt: HostRuntime) -> Result<(), Fail> {
     Ok(())
 }
 
+/// Connects four times: by the connections come nothing, half a frame, a length that is too great,
+/// and a frame. Stops the peers then, and says whether they closed the third and took the fourth.
+fn pesters<R>(rt: &R, peers: &Peers, port: u16, tally: &Tally) -> bool
+where
+    R: Net<Listener = TcpListener, Stream = TcpStream> + Wait + Clock,
+{
+    let quiet = written(rt, port, &[]);
+    let half = written(rt, port, &PRE_JOIN[..11]);
+    let long = written(rt, port, &[0, 1, 0, 1]);
+    let good = written(rt, port, &PRE_JOIN);
+    let closed = match long {
+        Ok(mut stream) => is_closed(&mut stream),
+        Err(_) => false,
+    };
+    let came = wait_for(rt, tally, 1);
+    peers.stop(rt);
+    quiet.is_ok() && half.is_ok() && good.is_ok() && closed && came
+}
+
 #[test]
 fn garbage_closes_its_connection_alone(rt: HostRuntime) -> Result<(), Fail> {
     let at = Endpoint::new([127, 0, 0, 1], 7_462);
     let (peers, ends) = Peers::listen(&rt, rt.alloc(), at)?;
-    let tally = Tally {
-        asked: AtomicU64::new(0),
-    };
+    let tally = none_asked();
     let (ran, came) = thread::join(
         &rt,
         || peers.run(&rt, rt.alloc(), ends, &tally),
-        || {
-            let quiet = written(&rt, 7_462, &[]);
-            let half = written(&rt, 7_462, &PRE_JOIN[..11]);
-            let long = written(&rt, 7_462, &[0, 1, 0, 1]);
-            let good = written(&rt, 7_462, &PRE_JOIN);
-            let closed = long.is_ok_and(|mut stream| is_closed(&mut stream));
-            let came = wait_for(&rt, &tally, 1);
-            peers.stop(&rt);
-            quiet.is_ok() && half.is_ok() && good.is_ok() && closed && came
-        },
+        || pesters(&rt, &peers, at.port(), &tally),
     );
     assert!(rt; ran.is_ok() && came);
     Ok(())
+}
+
+/// Waits until so many frames were lost, for some seconds at most, and stops the peers.
+fn waits_for_losses<R>(rt: &R, peers: &Peers, count: u64)
+where
+    R: Net<Listener = TcpListener, Stream = TcpStream> + Wait + Clock,
+{
+    for _ in 0..1_000 {
+        if peers.losses(rt) >= count {
+            break;
+        }
+        thread::sleep(rt, Duration::from_millis(5));
+    }
+    peers.stop(rt);
 }
 
 #[test]
 fn a_frame_to_nobody_is_lost(rt: HostRuntime) -> Result<(), Fail> {
     let at = Endpoint::new([127, 0, 0, 1], 7_463);
     let (peers, ends) = Peers::listen(&rt, rt.alloc(), at)?;
-    let tally = Tally {
-        asked: AtomicU64::new(0),
-    };
+    let tally = none_asked();
     let nobody = Endpoint::new([127, 0, 0, 1], 7_464);
     post_all(&rt, rt.alloc(), &peers, nobody, 3)?;
     let (ran, _) = thread::join(
         &rt,
         || peers.run(&rt, rt.alloc(), ends, &tally),
-        || {
-            for _ in 0..1_000 {
-                if peers.losses(&rt) >= 3 {
-                    break;
-                }
-                thread::sleep(&rt, Duration::from_millis(5));
-            }
-            peers.stop(&rt);
-        },
+        || waits_for_losses(&rt, &peers, 3),
     );
     assert!(rt; ran.is_ok());
     assert_eq!(rt; peers.losses(&rt), 3);
