@@ -1,0 +1,11 @@
+//! How each library is used alone: small functions as an application would have them.
+#![tactic(auto)]
+
+pub mod desk;
+pub mod detector;
+pub mod fast_round;
+pub mod frames;
+pub mod world;
+
+#[cfg(test)]
+mod tests;
