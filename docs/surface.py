@@ -16,7 +16,7 @@ from pathlib import Path
 TOP = Path(__file__).resolve().parent.parent
 PAGE = TOP / "docs/SURFACE.md"
 LAWS = {"rapid_model", "rapid_agreement", "rapid_safety", "rapid_histories"}
-PROGRAMS = {"rapidd", "rapid_bench", "rapid_reference"}
+NO_LIBRARIES = {"rapidd", "rapid_bench", "rapid_reference", "rapid_uses"}
 
 HEAD = """# The public surface
 
@@ -217,7 +217,7 @@ def page():
     out = [HEAD.rstrip()]
     for line in (TOP / "crates.txt").read_text().split("\n"):
         name = line.partition(":")[0]
-        if name and not name.startswith("#") and name not in PROGRAMS and not name.endswith("_tests"):
+        if name and not name.startswith("#") and name not in NO_LIBRARIES and not name.endswith("_tests"):
             print_crate(name, out)
     text = "\n".join(out) + "\n"
     return re.sub(r"\n{3,}", "\n\n", text)
