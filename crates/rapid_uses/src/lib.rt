@@ -5,7 +5,6 @@ pub mod desk;
 pub mod detector;
 pub mod fast_round;
 pub mod frames;
-pub mod world;
-
 #[cfg(test)]
 mod tests;
+pub mod world;

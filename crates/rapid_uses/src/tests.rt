@@ -24,10 +24,13 @@ fn a_world_alone(rt: HostRuntime) -> Result<(), Fail> {
 #[test]
 fn frames_alone(rt: HostRuntime) -> Result<(), Fail> {
     let alloc = rt.alloc();
-    let said = Vec::from_array(alloc, [
-        Message::new(process(1), Body::PreJoin),
-        Message::new(process(2), Body::PreJoin),
-    ])?;
+    let said = Vec::from_array(
+        alloc,
+        [
+            Message::new(process(1), Body::PreJoin),
+            Message::new(process(2), Body::PreJoin),
+        ],
+    )?;
     let come = over_a_stream(alloc, said.as_slice())?;
     assert_eq!(&rt; come.len(), 2);
     Ok(())
