@@ -3,10 +3,10 @@
 ghost use Rattle.std.specs.Prelude.{◌≤◌, ◌<◌};
 
 use rapid_config::{ConfigId, Configuration, Cut, Params};
-use rapid_desk::Desk;
+use rapid_desk::{Desk, DeskError};
 use rapid_endpoint::{Endpoint, Process, ProcessId};
 use rapid_node::{Body, Event, Message};
-use std::alloc::Global;
+use std::alloc::{AllocError, Global};
 use std::process::Abort;
 use std::sync::Wait;
 use std::test::Fail;
@@ -44,7 +44,8 @@ pub(crate) fn decision(alloc: Global, id: ConfigId, number: u16) -> Result<Event
     Ok(Event::Receive(message))
 }
 
-/// The desk of process 1 alone, with so many seats.
+/// The desk of process 1 alone, with so many seats. Where its first view was not published, that was
+/// for want of memory.
 pub(crate) fn alone<R: Wait + Abort>(
     rt: &R,
     alloc: Global,
@@ -55,5 +56,8 @@ pub(crate) fn alone<R: Wait + Abort>(
     let configuration = founding(alloc)?;
     let me = process(1);
     assert!(rt; configuration.is_member(&me));
-    Ok(Box::new(alloc, Desk::seed(rt, alloc, &configuration, me, seats)?)?)
+    match Desk::seed(rt, alloc, &configuration, me, seats) {
+        Err(DeskError::Unpublished) => Err(AllocError)?,
+        made => Ok(Box::new(alloc, made?)?),
+    }
 }

@@ -7,6 +7,10 @@ mod founding;
 #[cfg(test)]
 mod journal;
 #[cfg(test)]
+mod memory;
+#[cfg(test)]
 mod subscriptions;
+#[cfg(test)]
+mod threads;
 #[cfg(test)]
 mod views;
