@@ -1,10 +1,9 @@
 -- A world with an event more.
-use Rattle.std.proofs.Common.{◌≡◌, ℕ, ◌<◌, Bool, true, false, List, [], ◌∷◌, ◌++◌, map, length, slice_get, slice_set, get_or, refl, sym, ap, subst, ◌∙◌, Option, Some, None}
+use Rattle.std.proofs.Common.{◌≡◌, ℕ, Bool, true, false, List, [], ◌∷◌, ◌++◌, map, slice_get, slice_set, refl, sym, ap, subst, ◌∙◌, Option, Some, None}
 use Rattle.std.specs.Prelude.{IsTrue, is_some}
 use Rattle.std.specs.List.{list_any}
 use Rattle.std.specs.Option.{option_map, option_to_list}
-use Rattle.std.proofs.lemmas.List.{map_push, set-get_or}
-use Rattle.std.proofs.lemmas.Option.{slice_get_within, get_or_from_slice_get}
+use Rattle.std.proofs.lemmas.List.{map_push}
 use Rattle.rapid_model.specs.Configuration.{Configuration}
 use Rattle.rapid_model.specs.Process.{identifier, endpoint}
 use Rattle.rapid_model.specs.Node.{joiner_node}
@@ -35,24 +34,23 @@ one_event founding events reserved pushed x now v same push =
     ∙ ap (λ (l : List MarkedEvent). record { founding = founding; events = l }) (map_push marked_of events x)
     ∙ ap (λ s. with_event s (marked_of x)) v
 
--- what was read at the place is the peer there
-pub read_there : (s : StoredWorld) (ps : List Peer) (i : ℕ) (p x : Peer) → ps ≡ (world_of s).peers → slice_get (world_of s).peers i ≡ Some p → x ≡ get_or ps i x → x ≡ p
-read_there s ps i p x same at read = read ∙ get_or_from_slice_get ps i p x (ap (λ (l : List Peer). slice_get l i) same ∙ at)
+-- the peer at a place of the run is the one that is kept there
+pub at_place : (s : StoredWorld) (now : StoredWorld) (ps : List Peer) (packets : List Packet) (i : ℕ) (p : Peer) → IsRunOf s ps packets → s ≡ now → slice_get (world_of now).peers i ≡ Some p → slice_get ps i ≡ Some p
+at_place s now ps packets i p run same at = ap (λ (l : List Peer). slice_get l i) (run.peers ∙ ap (λ (x : StoredWorld). (world_of x).peers) same) ∙ at
 
-pub there_within : (s : StoredWorld) (ps : List Peer) (i : ℕ) (p : Peer) → ps ≡ (world_of s).peers → slice_get (world_of s).peers i ≡ Some p → i < length ps
-there_within s ps i p same at = slice_get_within ps i p (ap (λ (l : List Peer). slice_get l i) same ∙ at)
+-- nothing was changed
+pub kept_run : (s t : StoredWorld) (ps qs : List Peer) (sent after : List Packet) → IsRunOf s ps sent → t ≡ s → qs ≡ ps → after ≡ sent → IsRunOf t qs after
+kept_run s t ps qs sent after run same peers packets =
+    subst (λ x. IsRunOf x qs after) (sym same) (subst (λ l. IsRunOf s l after) (sym peers) (subst (λ l. IsRunOf s ps l) (sym packets) run))
 
-pub put_back : (ps : List Peer) (i : ℕ) (x y : Peer) → x ≡ get_or ps i x → y ≡ x → slice_set ps i y ≡ ps
-put_back ps i x y read same = ap (slice_set ps i) (same ∙ read) ∙ set-get_or ps i x
-
-pub given_run : (now : StoredWorld) (founding : Configuration) (events reserved pushed : List (WorldEvent × Bool)) (x : WorldEvent × Bool) (ps : List Peer) (packets after : List Packet) (i : ℕ) (p new : Peer) (f : Bool → Handed) →
+pub given_run : (now : StoredWorld) (founding : Configuration) (events reserved pushed : List (WorldEvent × Bool)) (x : WorldEvent × Bool) (ps qs : List Peer) (packets after : List Packet) (i : ℕ) (p : Peer) (f : Bool → Handed) →
     stored_of founding events ≡ now → reserved ≡ events → pushed ≡ reserved ++ x ∷ [] → IsRunOf (stored_of founding events) ps packets → Does now (event_of x.0) i p f →
-    new ≡ (f x.1).peer → after ≡ packets ++ (f x.1).packets → IsRunOf (stored_of founding pushed) (slice_set ps i new) after
-given_run now founding events reserved pushed x ps packets after i p new f v same push old does peer sent =
+    qs ≡ slice_set ps i (f x.1).peer → after ≡ packets ++ (f x.1).packets → IsRunOf (stored_of founding pushed) qs after
+given_run now founding events reserved pushed x ps qs packets after i p f v same push old does peers sent =
     let done = done_run now (event_of x.0) i p f ps packets (x.1) does (subst (λ s. IsRunOf s ps packets) v old) in
-    subst (λ s. IsRunOf s (slice_set ps i new) after) (sym (one_event founding events reserved pushed x now v same push))
-    (subst (λ l. IsRunOf (with_event now (marked_of x)) (slice_set ps i new) l) (sym sent)
-    (subst (λ q. IsRunOf (with_event now (marked_of x)) (slice_set ps i q) (packets ++ (f x.1).packets)) (sym peer) done))
+    subst (λ s. IsRunOf s qs after) (sym (one_event founding events reserved pushed x now v same push))
+    (subst (λ l. IsRunOf (with_event now (marked_of x)) qs l) (sym sent)
+    (subst (λ l. IsRunOf (with_event now (marked_of x)) l (packets ++ (f x.1).packets)) (sym peers) done))
 
 pub given_stored : (now : StoredWorld) (founding : Configuration) (events reserved pushed : List (WorldEvent × Bool)) (x : WorldEvent × Bool) (i : ℕ) (p : Peer) (f : Bool → Handed) (reports : List WorldReport) →
     stored_of founding events ≡ now → reserved ≡ events → pushed ≡ reserved ++ x ∷ [] → Does now (event_of x.0) i p f → reports ≡ (f x.1).reports → (x.1 ≡ true → IsTrue (list_any is_halt (f x.1).reports)) →

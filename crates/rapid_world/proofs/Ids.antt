@@ -1,6 +1,5 @@
 -- The identifiers of all that run.
 use Rattle.std.proofs.Common.{◌≡◌, Bool, true, false, cond, List, [], ◌∷◌, ◌++◌, map, filter, flat_map, refl, ap}
-use Rattle.std.specs.Prelude.{ℕ}
 use Rattle.rapid_model.specs.Process.{identifier}
 use Rattle.rapid_model.specs.World.{Peer, is_running}
 use Rattle.rapid_world.specs.Worlds.{running_id}

@@ -11,3 +11,4 @@ pub mod Giving
 pub mod Running
 pub mod Founders
 pub mod Ids
+pub mod Finding

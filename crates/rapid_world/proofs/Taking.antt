@@ -1,5 +1,5 @@
 -- What becomes of a peer whose node takes an event.
-use Rattle.std.proofs.Common.{◌≡◌, ℕ, Bool, true, false, cond, List, [], ◌∷◌, length, refl, sym, ap, subst, ◌∙◌, Option, Some, None}
+use Rattle.std.proofs.Common.{◌≡◌, ℕ, Bool, true, false, cond, List, [], ◌∷◌, length, refl, sym, ap, subst, ◌∙◌, Option, Some, None, arith}
 use Rattle.std.specs.Prelude.{nat_lt, is_some, flat_map}
 use Rattle.rapid_model.specs.Process.{Process, identifier}
 use Rattle.rapid_model.specs.Configuration.{Configuration}
@@ -18,6 +18,8 @@ use Rattle.rapid_world.specs.Handed.{Handed, stopped, went_on, stepped, handed, 
 use Rattle.rapid_model.specs.Run.{WorldReport, ReportInstalled, ReportHalted}
 use Rattle.rapid_model.specs.NodeReports.{installed_report}
 use Rattle.rapid_world.specs.Windows.{windows_of, entered, left}
+use Rattle.rapid_world.specs.Ready.{IsReady}
+use Rattle.rapid_world.specs.declared.peer.Ready.{Ready}
 
 -- the peer of these parts
 abbrev pub peer_of : Node → Bool → Windows → Peer
@@ -126,6 +128,24 @@ ok_reports n new h p e sent before rep at there keeps none len made =
     ∙ ap (λ (x : Node). cond (has_installed p.node x) (installed_report x (configuration_of x)) []) t.2
     ∙ ap (λ (r : List WorldReport). cond (has_installed p.node t.0.node) r []) (named t.0.node p.node (configuration_of t.0.node) keep.me)
     ∙ sym (ap (λ (x : Handed). x.reports) (ap (handed p e) none ∙ goes_on p e t.0 t.1))
+
+pub empty : {A : Type 0} (xs : List A) → length xs ≡ 0 → xs ≡ []
+empty [] e = refl
+empty (x ∷ xs) e = absurd (omega (arith, e))
+
+-- what has to be there for a step is there for the next, unless it installed something
+pub still_ready : (p : Peer) (e : Event) (n new : Node) (sent : List Output) (r : Ready) → n ≡ p.node → There n e new sent → KeepsAt p.node e → nat_lt (length n.installed) (length new.installed) ≡ false →
+    IsReady p.node r → IsReady new r
+still_ready p e n new sent r at there keeps none ready =
+    let t = took p e n new sent at there in
+    let keep : Keeps p.node t.0.node = keeps t.0 t.1 in
+    let quiet : has_installed p.node t.0.node ≡ false = ap (λ (x : Node). has_installed x t.0.node) (sym at) ∙ ap (λ (x : Node). has_installed n x) (sym t.2) ∙ none in
+    subst (λ (x : Node). IsReady x r) (sym t.2)
+    (record {
+      recipients = ready.recipients ∙ sym (ap (λ c. other_members c p.node.me) (keep.member quiet)) ∙ sym (ap (other_members (member_in t.0.node)) keep.me);
+      halted = ready.halted ∙ sym (keep.halted quiet);
+      is_member = ready.is_member ∙ sym (ap is_some (keep.member quiet));
+    })
 
 pub stop_peer : (ws ws' : Windows) (n new : Node) (k h was : Bool) (p : Peer) (e : Event) → peer_of n k ws ≡ p → handed p e h ≡ stopped p → new ≡ halt p.node →
     was ≡ is_some (member_in p.node) → ws' ≡ left was ws → peer_of new k ws' ≡ (handed p e h).peer

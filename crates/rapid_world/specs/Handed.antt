@@ -1,11 +1,12 @@
 -- What becomes of a peer whose node takes an event.
-use Rattle.std.specs.Prelude.{◌≡◌, ℕ, Bool, true, false, List, [], ◌∷◌, flat_map, if◌then◌else◌, Option, Some, None}
+use Rattle.std.specs.Prelude.{◌≡◌, ℕ, Bool, true, false, is_some, List, [], ◌∷◌, flat_map, slice_get, if◌then◌else◌, Option, Some, None}
 use Rattle.rapid_model.specs.Process.{identifier}
-use Rattle.rapid_model.specs.Node.{Node, Event, Outcome, outputs, configuration_of, member_in, has_installed, halt}
+use Rattle.rapid_model.specs.Monitors.{edge_at}
+use Rattle.rapid_model.specs.Node.{Node, Event, Outcome, outputs, configuration_of, member_in, has_installed, is_halted, halt}
 use Rattle.rapid_model.specs.NodeStep.{node_step}
 use Rattle.rapid_model.specs.Packets.{other_members, packets_of}
 use Rattle.rapid_model.specs.World.{Peer, Packet}
-use Rattle.rapid_model.specs.Edge.{probed}
+use Rattle.rapid_model.specs.Edge.{Edge, probed}
 use Rattle.rapid_model.specs.WorldStep.{edges_after, edge_on, with_edge}
 use Rattle.rapid_model.specs.Run.{WorldReport, ReportHalted}
 use Rattle.rapid_model.specs.NodeReports.{installed_report}
@@ -40,11 +41,13 @@ stepped p (Some o) = went_on p o
 unfoldable pub handed : Peer → Event → Bool → Handed
 handed p e halts = if halts then stopped p else stepped p (node_step p.node e)
 
--- A node keeps its process, and unless it installs something it goes on to show, and to be a member in, the same configuration.
+-- A node keeps its process, and unless it installs something it goes on to show, and to be a member in, the same configuration,
+-- and would halt as it would have halted before.
 pub record Keeps (old new : Node) : Type 0 where
   pub me : new.me ≡ old.me
   pub shown : has_installed old new ≡ false → configuration_of new ≡ configuration_of old
   pub member : has_installed old new ≡ false → member_in new ≡ member_in old
+  pub halted : has_installed old new ≡ false → halt new ≡ halt old
 
 -- So it does when it takes an event.
 abbrev pub KeepsAt : Node → Event → Type 0
@@ -65,3 +68,19 @@ told p k ok down halts =
 -- A peer that crashes.
 abbrev pub crash_of : Peer → Bool → Handed
 crash_of p halts = record { peer = record p { crashed = true }; packets = []; reports = [] }
+
+-- The peer at a place can take the event.
+pub record TakesAt (ps : List Peer) (i : ℕ) (e : Event) : Type 0 where
+  pub peer : Peer
+  pub at : slice_get ps i ≡ Some peer
+  pub up : is_halted peer.node ≡ false
+  pub keeps : KeepsAt peer.node e
+
+-- The peer at a place can have a further result of a probe on a ring.
+pub record ProbesAt (ps : List Peer) (i k : ℕ) (ok : Bool) (down : Event) : Type 0 where
+  pub peer : Peer
+  pub at : slice_get ps i ≡ Some peer
+  pub up : is_halted peer.node ≡ false
+  pub member : is_some (member_in peer.node) ≡ true
+  pub edge : (x : Edge) × (edge_at peer.edges k ≡ Some x)
+  pub keeps : (probed (edge_on peer.edges k) ok).is_down ≡ true → KeepsAt peer.node down

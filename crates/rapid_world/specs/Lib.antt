@@ -1,6 +1,7 @@
 pub mod Codes
 pub mod Does
 pub mod Events
+pub mod Found
 pub mod Handed
 pub mod Ready
 pub mod Recipients

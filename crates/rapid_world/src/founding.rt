@@ -8,7 +8,7 @@ ghost use Rattle.rapid_model.specs.StoredWorld.{new_world};
 ghost use Rattle.rapid_model.specs.WorldStep.{added};
 
 use crate::World;
-use crate::peer::Peer;
+use crate::peers::Peers;
 use rapid_config::{ConfigError, Configuration, Params};
 use rapid_endpoint::Process;
 use std::alloc::{AllocError, Global};
@@ -26,31 +26,19 @@ fn seed(alloc: Global, params: Params, founders: &[Process]) -> Result<Configura
     }
 }
 
-/// The peer of the member at a place.
-fn founder(
-    alloc: Global,
-    configuration: &Configuration,
-    process: &Process,
-) -> Result<Peer, AllocError>
-    requires { is_member configuration.now process.now ≡ true }
-    ensures { IfOk result (λ peer. peer ≡ added (seed_node configuration.now process.now)) }
-{
-    Peer::founder(alloc, configuration, *process)
-}
-
-/// The peers of all members, by identifier.
-#[tactic(auto, using(crate::proofs::Founders::is_there))]
+/// All members, by identifier.
 fn founders_of(
     alloc: Global,
     configuration: &Configuration,
     members: &[Process],
-) -> Result<Vec<Peer>, AllocError>
+) -> Result<Peers, AllocError>
     requires { members.now ≡ configuration.now.members }
-    ensures { IfOk result (λ peers. peers.items ≡ map (λ p. added (seed_node configuration.now p)) members.now) }
+    ensures { IfOk result (λ peers. peers ≡ map (λ p. added (seed_node configuration.now p)) members.now) }
 {
-    let mut peers = Vec::with_capacity(alloc, members.len())?;
+    configuration.tell();
+    let mut peers = Peers::new(alloc);
     for process in members {
-        peers.push(founder(alloc, configuration, process)?)?;
+        peers.found(configuration, *process)?;
     }
     Ok(peers)
 }

@@ -19,7 +19,7 @@ use crate::sending::Sending;
 use crate::taken::Taken;
 use rapid_config::ConfigId;
 use rapid_endpoint::Process;
-use rapid_node::Event;
+use rapid_node::{Event, Views};
 use std::alloc::{AllocError, Global};
 
 /// What comes of an event: whether the node halts in it for want of memory, and what it reports.
@@ -41,20 +41,26 @@ fn post(mail: &mut Mail, sending: Option<Sending>)
 }
 
 /// Makes room for what one further step of a peer sends, and what else has to be there before it.
-fn prepare(alloc: Global, peer: &Peer, mail: &mut Mail) -> Result<Ready, AllocError>
-    ensures ready { IfOk result (IsReady peer.now) }
-    ensures first { IfOk result (λ ready. ready.first ≡ length mail.new.packets) }
+fn prepare(alloc: Global, peer: &mut Peer, mail: &mut Mail) -> Result<Box<Ready>, AllocError>
+    ensures ready { IfOk result (λ ready. IsReady peer.old.node ready.value) }
     ensures room { OnOk result (0 < mail.new.room) }
+    ensures peer { peer.new ≡ peer.old }
     ensures packets { mail.new.packets ≡ mail.old.packets }
 {
     mail.reserve()?;
-    peer.ready(alloc, mail.sent())
+    peer.ready(alloc)
 }
 
 /// A peer takes an event, for which everything is there, and what it sends is put behind the other packets.
-fn take(alloc: Global, peer: &mut Peer, mail: &mut Mail, event: &Event, ready: Ready) -> Told
-    requires ready { IsReady peer.old ready }
-    requires first { ready.first ≡ length mail.old.packets }
+fn take(
+    alloc: Global,
+    views: &mut Views,
+    peer: &mut Peer,
+    mail: &mut Mail,
+    event: &Event,
+    ready: Box<Ready>,
+) -> Told
+    requires ready { IsReady peer.old.node ready.value }
     requires room { 0 < mail.old.room }
     requires runs { model.is_halted peer.old.node ≡ false }
     requires keeps { KeepsAt peer.old.node (event_of event.now) }
@@ -62,11 +68,12 @@ fn take(alloc: Global, peer: &mut Peer, mail: &mut Mail, event: &Event, ready: R
     ensures packets { mail.new.packets ≡ mail.old.packets ++ (handed peer.old (event_of event.now) result.halts).packets }
     ensures reports { option_to_list (option_map report_of result.report) ≡ (handed peer.old (event_of event.now) result.halts).reports }
 {
+    let first = mail.sent();
     let Taken {
         halts,
         report,
         sending,
-    } = peer.take(alloc, event, ready);
+    } = peer.take(alloc, views, event, first, ready);
     post(mail, sending);
     Told { halts, report }
 }
@@ -74,6 +81,7 @@ fn take(alloc: Global, peer: &mut Peer, mail: &mut Mail, event: &Event, ready: R
 /// A peer takes an event, and what it sends is put behind the other packets.
 pub(crate) fn hand(
     alloc: Global,
+    views: &mut Views,
     peer: &mut Peer,
     mail: &mut Mail,
     event: &Event,
@@ -87,13 +95,14 @@ pub(crate) fn hand(
     ensures mail_unchanged { OnErr result (mail.new.packets ≡ mail.old.packets) }
 {
     let ready = prepare(alloc, peer, mail)?;
-    Ok(take(alloc, peer, mail, event, ready))
+    Ok(take(alloc, views, peer, mail, event, ready))
 }
 
 /// A peer has a further result of a probe of its edge to a process; where the edge is down its node is told.
 #[tactic(auto, unfolding(crate::specs::Handed::told))]
 pub(crate) fn probe(
     alloc: Global,
+    views: &mut Views,
     peer: &mut Peer,
     mail: &mut Mail,
     ring: u8,
@@ -115,8 +124,9 @@ pub(crate) fn probe(
     let ready = prepare(alloc, peer, mail)?;
     if peer.probe(alloc, ring, ok)? {
         let event = Event::EdgeDown(config, ring, subject);
-        Ok(take(alloc, peer, mail, &event, ready))
+        Ok(take(alloc, views, peer, mail, &event, ready))
     } else {
+        peer.keep(ready);
         Ok(Told {
             halts: false,
             report: None,

@@ -1,11 +1,12 @@
 // Nodes by their identifiers and endpoints.
 
-ghost use Rattle.std.specs.Prelude.{◌≡◌, ◌&&◌, ◌++◌, position, map, filter, flat_map, IfOk, OnOk};
+ghost use Rattle.std.specs.Prelude.{◌≡◌, ◌&&◌, ◌++◌, position, map, filter, flat_map, slice_get, if◌then◌else◌, IfOk, OnOk, Some, None};
 ghost use Rattle.std.specs.List.{list_any, find};
-ghost use Rattle.std.specs.Option.{option_map};
+ghost use Rattle.std.specs.Option.{option_map, option_and_then};
 ghost use Rattle.rapid_model.specs.InOrder.{in_order};
 ghost use Rattle.rapid_model.specs.Process.{bytes_cmp, identifier};
 ghost use Rattle.rapid_model.specs.World.{is_running, has_identifier, has_endpoint};
+ghost use Rattle.rapid_world.specs.Found.{IsOnlyAt};
 ghost use Rattle.rapid_world.specs.Worlds.{running_id};
 
 use crate::peer::Peer;
@@ -14,7 +15,7 @@ use rapid_node::Node;
 use std::alloc::{AllocError, Global};
 
 /// Whether the peer has the identifier.
-pub(crate) fn is_under(peer: &Peer, id: &ProcessId) -> bool
+fn is_under(peer: &Peer, id: &ProcessId) -> bool
     ensures { result ≡ has_identifier id.now peer.now }
 {
     *id == peer.node().process().id()
@@ -34,33 +35,85 @@ fn runs_at(peer: &Peer, endpoint: &Endpoint) -> bool
     peer.is_running() && *endpoint == peer.node().process().endpoint()
 }
 
-/// Whether a peer has the identifier.
-pub(crate) fn is_used(peers: &[Peer], id: &ProcessId) -> bool
+/// The peer at a place, if there is one.
+fn peer_at(peers: &[Peer], place: Option<usize>) -> Option<&Peer>
+    ensures { option_map (λ p. p.now) result ≡ option_and_then (slice_get peers.now) place }
+{
+    match place {
+        Some(place) => peers.get(place),
+        None => None,
+    }
+}
+
+/// Whether a peer has the identifier. No other could have it than the one at this place.
+pub(crate) fn is_used(peers: &[Peer], place: Option<usize>, id: &ProcessId) -> bool
+    requires { IsOnlyAt (has_identifier id.now) peers.now place }
     ensures { result ≡ list_any (has_identifier id.now) peers.now }
 {
-    peers.iter().any(|peer| is_under(peer, id))
+    match peer_at(peers, place) {
+        Some(peer) => is_under(peer, id),
+        None => false,
+    }
 }
 
-/// The place of the peer that runs under the identifier.
-pub(crate) fn place_under(peers: &[Peer], id: &ProcessId) -> Option<usize>
+/// The place of a peer, if it runs under the identifier.
+fn if_under(peer: &Peer, place: Option<usize>, id: &ProcessId) -> Option<usize>
+    ensures { result ≡ (if is_running peer.now && has_identifier id.now peer.now then place else None) }
+{
+    if runs_under(peer, id) { place } else { None }
+}
+
+/// The place of the peer that runs under the identifier. No other could have it than the one at this place.
+pub(crate) fn place_under(peers: &[Peer], place: Option<usize>, id: &ProcessId) -> Option<usize>
+    requires { IsOnlyAt (has_identifier id.now) peers.now place }
     ensures { result ≡ position (λ p. is_running p && has_identifier id.now p) peers.now }
 {
-    peers.iter().position(|peer| runs_under(peer, id))
+    match peer_at(peers, place) {
+        Some(peer) => if_under(peer, place, id),
+        None => None,
+    }
 }
 
-/// The place of the peer that runs at the endpoint.
-pub(crate) fn place_at(peers: &[Peer], endpoint: &Endpoint) -> Option<usize>
+/// The place of a peer, if it runs at the endpoint.
+fn if_at(peer: &Peer, place: Option<usize>, endpoint: &Endpoint) -> Option<usize>
+    ensures { result ≡ (if is_running peer.now && has_endpoint endpoint.now peer.now then place else None) }
+{
+    if runs_at(peer, endpoint) { place } else { None }
+}
+
+/// The place of the peer that runs at the endpoint. No other could run there than the one at this place.
+pub(crate) fn place_at(peers: &[Peer], place: Option<usize>, endpoint: &Endpoint) -> Option<usize>
+    requires { IsOnlyAt (λ p. is_running p && has_endpoint endpoint.now p) peers.now place }
     ensures { result ≡ position (λ p. is_running p && has_endpoint endpoint.now p) peers.now }
 {
-    peers.iter().position(|peer| runs_at(peer, endpoint))
+    match peer_at(peers, place) {
+        Some(peer) => if_at(peer, place, endpoint),
+        None => None,
+    }
 }
 
-/// The node of the first peer that has the identifier.
-pub(crate) fn find_under<'a>(peers: &'a [Peer], id: &ProcessId) -> Option<&'a Node>
+/// The node of a peer, if it has the identifier.
+fn node_if_under<'a>(peer: &'a Peer, id: &ProcessId) -> Option<&'a Node>
+    ensures { option_map (λ n. n.now) result ≡ (if has_identifier id.now peer.now then Some peer.now.node else None) }
+{
+    if is_under(peer, id) {
+        Some(peer.node())
+    } else {
+        None
+    }
+}
+
+/// The node of the peer that has the identifier. No other could have it than the one at this place.
+pub(crate) fn find_under<'a>(
+    peers: &'a [Peer],
+    place: Option<usize>,
+    id: &ProcessId,
+) -> Option<&'a Node>
+    requires { IsOnlyAt (has_identifier id.now) peers.now place }
     ensures { option_map (λ n. n.now) result ≡ option_map (λ p. p.node) (find (has_identifier id.now) peers.now) }
 {
-    match peers.iter().find(|peer| is_under(peer, id)) {
-        Some(peer) => Some(peer.node()),
+    match peer_at(peers, place) {
+        Some(peer) => node_if_under(peer, id),
         None => None,
     }
 }

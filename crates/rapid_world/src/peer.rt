@@ -20,7 +20,7 @@ use crate::windows::Windows;
 use rapid_config::{ConfigId, Configuration};
 use rapid_endpoint::{Endpoint, Process};
 use rapid_monitor::{Monitors, Verdict};
-use rapid_node::{Event, Node, NodeFault, Phase};
+use rapid_node::{Event, Node, NodeFault, Phase, Views};
 use std::alloc::{AllocError, Global};
 use std::marker::Model;
 use std::mem;
@@ -31,6 +31,8 @@ pub(crate) struct Peer {
     node: Node,
     crashed: bool,
     windows: Windows,
+    // what has to be there before its next step, if it was not used up
+    ready: Option<Box<Ready>>,
 }
 
 impl Model for Peer {
@@ -44,18 +46,37 @@ impl Model for Peer {
     ghost use Rattle.rapid_world.specs.Windows.{windows_of};
 
     ghost view = { λ p. record { node = p.node; crashed = p.crashed; edges = windows_of p.windows p.node } };
+
+    ghost use Rattle.std.specs.Prelude.{IfSome};
+    ghost use Rattle.rapid_world.specs.Ready.{IsReady};
+
+    ghost invariant = { λ p. IfSome p.ready (λ r. IsReady p.node r.value) };
 }
 
-/// What has to be there before a node takes an event, so that nothing is wanting afterwards.
+/// What has to be there before a node takes an event, so that nothing is wanting afterwards. It serves for all steps
+/// until one sends something or installs.
 #[derive(Drop)]
 pub(crate) struct Ready {
     // to whom its words go that are for the others
     recipients: Recipients,
     // the node as it is if it halts
     halted: Node,
-    was_member: bool,
-    // how many packets were sent before
-    first: u64,
+    is_member: bool,
+}
+
+impl Ready {
+    /// What has to be there before this node takes an event.
+    fn of(alloc: Global, node: &Node) -> Result<Ready, AllocError>
+        ensures { IfOk result (IsReady node.now) }
+    {
+        let recipients = Recipients::of(alloc, node)?;
+        let halted = halted_copy(node)?;
+        Ok(Ready {
+            recipients,
+            halted,
+            is_member: is_in_a_configuration(node),
+        })
+    }
 }
 
 /// The node as it is if it halts.
@@ -82,20 +103,22 @@ fn is_want_of_memory(fault: NodeFault) -> bool
 }
 
 impl Peer {
-    /// The peer of a founder.
+    /// The peer of a founder, by views that nodes share.
     pub(crate) fn founder(
         alloc: Global,
+        views: &mut Views,
         configuration: &Configuration,
         process: Process,
     ) -> Result<Peer, AllocError>
         requires { is_member configuration.now process ≡ true }
         ensures { IfOk result (λ peer. peer ≡ step.added (model.seed_node configuration.now process)) }
     {
-        let node = Node::seed(alloc, configuration, process)?;
+        let node = Node::seed_in(alloc, views, configuration, process)?;
         Ok(Peer {
             node,
             crashed: false,
             windows: Windows::Fresh,
+            ready: None,
         })
     }
 
@@ -112,6 +135,7 @@ impl Peer {
             node,
             crashed: false,
             windows: Windows::Fresh,
+            ready: None,
         })
     }
 
@@ -136,54 +160,72 @@ impl Peer {
         self.crashed = true;
     }
 
-    /// What has to be there before its node takes an event, after so many packets were sent.
-    pub(crate) fn ready(&self, alloc: Global, first: u64) -> Result<Ready, AllocError>
-        ensures ready { IfOk result (IsReady self.now) }
-        ensures first { IfOk result (λ ready. ready.first ≡ first) }
+    /// What has to be there before its node takes an event.
+    pub(crate) fn ready(&mut self, alloc: Global) -> Result<Box<Ready>, AllocError>
+        ensures ready { IfOk result (λ ready. IsReady self.old.node ready.value) }
+        ensures unchanged { self.new ≡ self.old }
     {
-        let recipients = Recipients::of(alloc, &self.node)?;
-        let halted = halted_copy(&self.node)?;
-        Ok(Ready {
-            recipients,
-            halted,
-            was_member: is_in_a_configuration(&self.node),
-            first,
-        })
+        match self.ready.take() {
+            Some(ready) => Ok(ready),
+            None => Ok(Box::new(alloc, Ready::of(alloc, &self.node)?)?),
+        }
     }
 
-    /// Its node takes an event.
-    pub(crate) fn take(&mut self, alloc: Global, event: &Event, ready: Ready) -> Taken
-        requires ready { IsReady self.old ready }
+    /// Keeps for its next step what was not used up.
+    pub(crate) fn keep(&mut self, ready: Box<Ready>)
+        requires { IsReady self.old.node ready.value }
+        ensures { self.new ≡ self.old }
+    {
+        self.ready = Some(ready);
+    }
+
+    /// Its node takes an event, after so many packets were sent, by views that nodes share.
+    pub(crate) fn take(
+        &mut self,
+        alloc: Global,
+        views: &mut Views,
+        event: &Event,
+        first: u64,
+        ready: Box<Ready>,
+    ) -> Taken
+        requires ready { IsReady self.old.node ready.value }
         requires runs { model.is_halted self.old.node ≡ false }
         requires keeps { KeepsAt self.old.node (event_of event.now) }
         ensures peer { self.new ≡ (handed self.old (event_of event.now) result.halts).peer }
         ensures sending { packets_in result.sending ≡ (handed self.old (event_of event.now) result.halts).packets }
         ensures report { option_to_list (option_map report_of result.report) ≡ (handed self.old (event_of event.now) result.halts).reports }
-        ensures first { IfSome result.sending (λ s. s.first ≡ ready.first) }
+        ensures first { IfSome result.sending (λ s. s.first ≡ first) }
     {
-        let Ready {
-            recipients,
-            halted,
-            was_member,
-            first,
-        } = ready;
+        self.ready = None;
         let id = self.node.process().id();
         let before = self.node.installed().len();
-        match self.node.step(event) {
-            Ok(outputs) => match Taken::of(alloc, &self.node, before, first, recipients, outputs) {
-                Ok(taken) => {
-                    self.windows.enter(before < self.node.installed().len());
-                    taken
+        match self.node.step_in(views, event) {
+            Ok(outputs) => {
+                let has_entered = before < self.node.installed().len();
+                if !has_entered && outputs.is_empty() {
+                    self.ready = Some(ready);
+                    return Taken::nothing();
                 }
-                Err(AllocError) => {
-                    self.node = halted;
-                    self.windows.leave(was_member);
-                    Taken::halted(id, true)
+                let Ready {
+                    recipients,
+                    halted,
+                    is_member,
+                } = Box::into_inner(ready);
+                match Taken::of(alloc, &self.node, before, first, recipients, outputs) {
+                    Ok(taken) => {
+                        self.windows.enter(has_entered);
+                        taken
+                    }
+                    Err(AllocError) => {
+                        self.node = halted;
+                        self.windows.leave(is_member);
+                        Taken::halted(id, true)
+                    }
                 }
-            },
+            }
             Err(fault) => {
-                mem::drop(recipients);
-                self.windows.leave(was_member);
+                self.windows.leave(ready.is_member);
+                mem::drop(ready);
                 Taken::halted(id, is_want_of_memory(fault))
             }
         }

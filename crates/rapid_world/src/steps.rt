@@ -13,7 +13,6 @@ ghost use Rattle.rapid_node.specs.Steps.{event_of as taken_of};
 ghost use Rattle.rapid_world.specs.Does.{Hands, Probes};
 ghost use Rattle.rapid_world.specs.Events.{event_of, report_of, Refuses};
 
-use crate::lookups::{is_used, place_at, place_under};
 use crate::report::Report;
 use crate::{World, WorldError, WorldEvent};
 use rapid_config::ConfigId;
@@ -30,14 +29,14 @@ impl World {
     pub(crate) fn running_under(&self, id: &ProcessId) -> Option<usize>
         ensures { result ≡ model.running_under (world_of self.now) id.now }
     {
-        place_under(self.peers(), id)
+        self.peers().place_under(id)
     }
 
     /// The place of the node that runs at an endpoint.
     pub(crate) fn running_at(&self, endpoint: Endpoint) -> Option<usize>
         ensures { result ≡ model.running_at (world_of self.now) endpoint }
     {
-        place_at(self.peers(), &endpoint)
+        self.peers().place_at(&endpoint)
     }
 
     /// The node at a place takes another event by this one.
@@ -136,7 +135,7 @@ impl World {
         ensures refused { IfErr result (Refuses (event_refusal self.old (model.Start process seed))) }
         ensures unchanged { OnErr result (self.new ≡ self.old) }
     {
-        if is_used(self.peers(), &process.id()) {
+        if self.peers().is_used(&process.id()) {
             return Err(WorldError::IdentifierUsed);
         }
         if self.running_at(process.endpoint()).is_some() {
@@ -162,7 +161,7 @@ impl World {
     {
         self.tell();
         match self.running_under(id) {
-            Some(place) => match self.peers()[place].observed(ring) {
+            Some(place) => match self.peers().as_slice()[place].observed(ring) {
                 Ok(Some((config, subject))) => Ok((place, config, subject)),
                 Ok(None) => Err(WorldError::NotObserved),
                 Err(AllocError) => Err(WorldError::OutOfMemory),

@@ -8,7 +8,7 @@ ghost use Rattle.rapid_model.specs.World as model;
 ghost use Rattle.rapid_world.specs.Events.{marked_of};
 ghost use Rattle.rapid_world.specs.Worlds.{observed_by};
 
-use crate::lookups::{find_under, running_ids};
+use crate::lookups::running_ids;
 use crate::{World, WorldEvent};
 use rapid_endpoint::{Process, ProcessId};
 use rapid_node::Node;
@@ -26,14 +26,14 @@ impl World {
     pub fn node(&self, id: &ProcessId) -> Option<&Node>
         ensures { option_map (λ node. node.now) result ≡ model.node_of (world_of self.now) id.now }
     {
-        find_under(self.peers(), id)
+        self.peers().find_under(id)
     }
 
     /// The identifiers of all nodes that run, ascending: they were not made to crash, and have not halted.
     pub fn running(&self) -> Result<Vec<ProcessId>, AllocError>
         ensures { IfOk result (λ ids. ids.items ≡ model.running (world_of self.now)) }
     {
-        running_ids(self.alloc(), self.peers())
+        running_ids(self.alloc(), self.peers().as_slice())
     }
 
     /// How many packets were sent so far.
@@ -58,7 +58,7 @@ impl World {
         ensures { IfOk result (λ subject. subject ≡ observed_by (world_of self.now) id.now ring) }
     {
         match self.running_under(id) {
-            Some(place) => self.peers()[place].node().observed(ring),
+            Some(place) => self.peers().as_slice()[place].node().observed(ring),
             None => Ok(None),
         }
     }

@@ -18,10 +18,9 @@ ghost use Rattle.rapid_world.specs.Does.{Does, Hands, Probes};
 ghost use Rattle.rapid_world.specs.Handed.{crash_of};
 ghost use Rattle.rapid_world.specs.Worlds.{IsRunOf};
 
-use crate::handing::{hand, probe};
-use crate::lookups::{is_used, place_at, place_under};
 use crate::mail::{Mail, push_within};
 use crate::peer::Peer;
+use crate::peers::Peers;
 use crate::report::Report;
 use crate::{WorldError, WorldEvent};
 use rapid_config::{ConfigId, Configuration};
@@ -41,8 +40,7 @@ pub struct World {
     founding: Configuration,
     // all events that it accepted, with their marks
     events: Vec<(WorldEvent, bool)>,
-    // all that ever started, in order
-    peers: Vec<Peer>,
+    peers: Peers,
     mail: Mail,
     alloc: Global,
 }
@@ -61,13 +59,13 @@ impl Model for World {
 
     ghost view = { λ w. record { founding = w.founding; events = map marked_of w.events.items } };
 
-    ghost invariant = { λ w. IsRunOf (record { founding = w.founding; events = map marked_of w.events.items }) w.peers.items w.mail.packets };
+    ghost invariant = { λ w. IsRunOf (record { founding = w.founding; events = map marked_of w.events.items }) w.peers w.mail.packets };
 }
 
 impl World {
     /// The world of these parts.
-    pub(crate) fn of(alloc: Global, founding: Configuration, peers: Vec<Peer>) -> World
-        requires { IsRunOf (new_world founding) peers.items [] }
+    pub(crate) fn of(alloc: Global, founding: Configuration, peers: Peers) -> World
+        requires { IsRunOf (new_world founding) peers [] }
         ensures { result ≡ new_world founding }
     {
         World {
@@ -92,10 +90,10 @@ impl World {
     }
 
     /// All that ever started, in order.
-    pub(crate) fn peers(&self) -> &[Peer]
+    pub(crate) fn peers(&self) -> &Peers
         ensures { result.now ≡ (world_of self.now).peers }
     {
-        self.peers.as_slice()
+        &self.peers
     }
 
     /// All packets.
@@ -144,7 +142,7 @@ impl World {
     {
         self.events.reserve(1)?;
         let reports = Vec::with_capacity(self.alloc, 1)?;
-        let told = hand(self.alloc, &mut self.peers[place], &mut self.mail, taken)?;
+        let told = self.peers.hand(place, &mut self.mail, taken)?;
         push_within(&mut self.events, (event, told.halts));
         Ok(with_report(reports, told.report))
     }
@@ -160,7 +158,7 @@ impl World {
         ensures unchanged { OnErr result (self.new ≡ self.old) }
     {
         self.events.reserve(1)?;
-        self.peers[place].crash();
+        self.peers.crash(place);
         push_within(&mut self.events, (event, false));
         Ok(Vec::new(self.alloc))
     }
@@ -178,9 +176,8 @@ impl World {
         ensures unchanged { OnErr result (self.new ≡ self.old) }
     {
         self.events.reserve(1)?;
-        self.peers.reserve(1)?;
         let peer = Peer::joiner(self.alloc, process, seed)?;
-        push_within(&mut self.peers, peer);
+        self.peers.add(peer)?;
         push_within(&mut self.events, (WorldEvent::Start(process, seed), false));
         Ok(Vec::new(self.alloc))
     }
@@ -201,15 +198,9 @@ impl World {
     {
         self.events.reserve(1)?;
         let reports = Vec::with_capacity(self.alloc, 1)?;
-        let told = probe(
-            self.alloc,
-            &mut self.peers[place],
-            &mut self.mail,
-            ring,
-            ok,
-            config,
-            subject,
-        )?;
+        let told = self
+            .peers
+            .probe(place, &mut self.mail, ring, ok, config, subject)?;
         push_within(&mut self.events, (event, told.halts));
         Ok(with_report(reports, told.report))
     }

@@ -4,4 +4,4 @@ use Rattle.rapid_model.specs.WorldStep.{added}
 use Rattle.rapid_world.proofs.founding.founders_of.Given as goal
 
 abbrev pub invariant-loop-process : goal.invariant-loop-process
-invariant-loop-process l = l.peers.items ≡ map (λ p. added (seed_node l.configuration p)) (take l.process-index l.members)
+invariant-loop-process l = l.peers ≡ map (λ p. added (seed_node l.configuration p)) (take l.process-index l.members)

@@ -1,9 +1,8 @@
-use Rattle.std.proofs.Common.{◌<◌, false, length, ap, ◌∙◌, arith}
+use Rattle.std.proofs.Common.{false}
 use Rattle.std.proofs.lemmas.Result.{err_from_is_err_and}
-use Rattle.rapid_model.specs.World.{Peer}
-use Rattle.rapid_model.specs.StoredWorld.{StoredWorld, world_of}
+use Rattle.std.proofs.lemmas.Option.{slice_get_within}
 use Rattle.rapid_world.specs.Handed.{crash_of}
-use Rattle.rapid_world.proofs.Giving.{same_room, read_there, there_within, given_run, given_stored, no_reports, nothing_more}
+use Rattle.rapid_world.proofs.Giving.{same_room, at_place, given_run, given_stored, no_reports, nothing_more}
 use Rattle.rapid_world.proofs.world.World.crash_at.Goals as goal
 
 pub invariant_of-self : goal.invariant_of-self
@@ -14,17 +13,15 @@ returns-in_err-reserve-clause-unchanged c =
     let p = err_from_is_err_and c.from_residual.result c.from_residual.ensures.1 in
     rw (p.1) (same_room _ _ _ _ c.self.view_is c.reserve.ensures.items)
 
-pub index_mut-requires : goal.index_mut-requires
-index_mut-requires c =
-    let l : c.args.place < length c.self.inside.peers.items = there_within c.args.self.now _ _ _ (c.self.invariant.peers ∙ ap (λ (s : StoredWorld). (world_of s).peers) c.self.view_is) c.requires.1.at in
-    omega (arith, l, c.self.inside.peers.ok)
+pub crash-requires : goal.crash-requires
+crash-requires c = slice_get_within _ _ _ (at_place _ _ _ _ _ _ c.self.invariant c.self.view_is c.requires.1.at)
 
 pub invariant_of-self-2 : goal.invariant_of-self-2
 invariant_of-self-2 c =
-    let is = read_there c.args.self.now _ _ _ _ (c.self.invariant.peers ∙ ap (λ (s : StoredWorld). (world_of s).peers) c.self.view_is) c.requires.1.at c.index_mut.ensures.value in
+    let at = at_place _ _ _ _ _ _ c.self.invariant c.self.view_is c.requires.1.at in
     given_run c.args.self.now _ _ _ _ (c.args.event, false) _ _ _ _ _ _ (crash_of c.requires.0)
     c.self.view_is c.reserve.ensures.items c.push_within.ensures c.self.invariant c.requires.1
-    (c.crash.ensures ∙ ap (λ (p : Peer). (crash_of p false).peer) is) (nothing_more c.self.inside.mail.packets)
+    (c.crash.ensures c.requires.0 at) (nothing_more c.self.inside.mail.packets)
 
 pub returns-clause-stored : goal.returns-clause-stored
 returns-clause-stored c =

@@ -1,18 +1,30 @@
-use Rattle.std.proofs.Common.{◌++◌, false, List, [], ◌∷◌, ap, sym, subst, refl, ◌∙◌}
-use Rattle.rapid_model.specs.World.{Peer}
+use Rattle.std.proofs.Common.{◌≡◌, ◌&&◌, false, List, ap, sym, subst, refl, ◌∙◌}
+use Rattle.std.specs.Prelude.{is_some, position}
+use Rattle.std.specs.List.{list_any}
+use Rattle.rapid_model.specs.Process.{identifier, endpoint}
+use Rattle.rapid_model.specs.StoredWorld.{StoredWorld, world_of}
+use Rattle.rapid_model.specs.World.{Peer, is_running, has_identifier, has_endpoint}
 use Rattle.rapid_world.specs.declared.event.WorldEvent.TheVariants.{Start}
 use Rattle.rapid_world.specs.Worlds.{IsRunOf}
+use Rattle.rapid_world.proofs.Finding.{starts_new}
 use Rattle.rapid_world.proofs.Giving.{stored_of, joined_run, joined_stored, no_reports}
 use Rattle.rapid_world.proofs.world.World.join.Goals as goal
 
+pub add-requires : goal.add-requires
+add-requires c =
+    let peers : c.self.inside.peers ≡ (world_of c.args.self.now).peers = c.self.invariant.peers ∙ ap (λ (s : StoredWorld). (world_of s).peers) c.self.view_is in
+    starts_new _ _ c.args.process (ap (λ (p : Peer). p.node.me) c.in_ok-peer.ensures)
+    (ap (λ (l : List Peer). list_any (has_identifier (identifier c.args.process)) l) peers ∙ c.requires.unused)
+    (ap (λ (l : List Peer). is_some (position (λ q. is_running q && has_endpoint (endpoint c.args.process) q) l)) peers ∙ c.requires.free)
+
 pub invariant_of-self-2 : goal.invariant_of-self-2
 invariant_of-self-2 c =
-    subst (λ (l : List Peer). IsRunOf (stored_of c.self.inside.founding c.push_within-2.new.elements.items) l c.self.inside.mail.packets)
-    (sym (c.push_within.ensures ∙ ap (λ (l : List Peer). l ++ c.in_ok-peer.peer ∷ []) c.reserve-2.ensures.items))
+    subst (λ (l : List Peer). IsRunOf (stored_of c.self.inside.founding c.push_within.new.elements.items) l c.self.inside.mail.packets)
+    (sym c.in_ok-add.ensures.added)
     (joined_run c.args.self.now _ _ _ _ c.args.process c.args.seed (Start c.args.process c.args.seed, false) _ _ _
-    c.self.view_is c.reserve.ensures.items c.push_within-2.ensures refl c.self.invariant c.requires.open c.requires.unused c.requires.free c.in_ok-peer.ensures)
+    c.self.view_is c.reserve.ensures.items c.push_within.ensures refl c.self.invariant c.requires.open c.requires.unused c.requires.free c.in_ok-peer.ensures)
 
 pub returns-clause-stored : goal.returns-clause-stored
 returns-clause-stored c =
     joined_stored c.args.self.now _ _ _ _ c.args.process c.args.seed (Start c.args.process c.args.seed, false) _
-    c.self.view_is c.reserve.ensures.items c.push_within-2.ensures refl c.requires.open c.requires.unused c.requires.free (no_reports _ c.new.ensures.items)
+    c.self.view_is c.reserve.ensures.items c.push_within.ensures refl c.requires.open c.requires.unused c.requires.free (no_reports _ c.new.ensures.items)

@@ -1,17 +1,9 @@
-use Rattle.std.proofs.Common.{◌≡◌, ◌<◌, ◌++◌, true, List, length, ap, sym, subst, ◌∙◌, arith}
-use Rattle.std.specs.Prelude.{slice_set, is_some}
+use Rattle.std.proofs.Common.{ap, ◌∙◌}
 use Rattle.std.proofs.lemmas.Result.{err_from_is_err_and}
-use Rattle.rapid_model.specs.Node as node
-use Rattle.rapid_model.specs.World.{Peer, Packet}
-use Rattle.rapid_model.specs.StoredWorld.{StoredWorld, world_of}
-use Rattle.rapid_model.specs.Edge.{probed}
-use Rattle.rapid_model.specs.Monitors.{edge_at}
 use Rattle.rapid_model.specs.Node.{EdgeDown}
-use Rattle.rapid_model.specs.WorldStep.{edge_on}
-use Rattle.rapid_world.specs.Handed.{told, KeepsAt}
-use Rattle.rapid_world.specs.Worlds.{IsRunOf}
+use Rattle.rapid_world.specs.Handed.{told}
 use Rattle.rapid_world.proofs.Doing.{told_marks}
-use Rattle.rapid_world.proofs.Giving.{stored_of, same_room, read_there, there_within, put_back, given_run, given_stored, one_report}
+use Rattle.rapid_world.proofs.Giving.{stored_of, same_room, at_place, kept_run, given_run, given_stored, one_report}
 use Rattle.rapid_world.proofs.world.World.probe_at.Goals as goal
 
 pub invariant_of-self : goal.invariant_of-self
@@ -30,53 +22,35 @@ returns-in_err-reports-clause-unchanged c =
     let p = err_from_is_err_and c.from_residual-in_err-reports.result c.from_residual-in_err-reports.ensures.1 in
     rw (p.1) (same_room _ _ _ _ c.self.view_is c.reserve.ensures.items)
 
-pub index_mut-requires : goal.index_mut-requires
-index_mut-requires c =
-    let l : c.args.place < length c.self.inside.peers.items = there_within c.args.self.now _ _ _ (c.self.invariant.peers ∙ ap (λ (s : StoredWorld). (world_of s).peers) c.self.view_is) c.requires.1.does.at in
-    omega (arith, l, c.self.inside.peers.ok)
-
-pub probe-requires-clause-runs : goal.probe-requires-clause-runs
-probe-requires-clause-runs c =
-    let is = read_there c.args.self.now _ _ _ _ (c.self.invariant.peers ∙ ap (λ (s : StoredWorld). (world_of s).peers) c.self.view_is) c.requires.1.does.at c.index_mut.ensures.value in
-    ap (λ (p : Peer). node.is_halted p.node) is ∙ c.requires.1.up
-
-pub probe-requires-clause-member : goal.probe-requires-clause-member
-probe-requires-clause-member c =
-    let is = read_there c.args.self.now _ _ _ _ (c.self.invariant.peers ∙ ap (λ (s : StoredWorld). (world_of s).peers) c.self.view_is) c.requires.1.does.at c.index_mut.ensures.value in
-    ap (λ (p : Peer). is_some (node.member_in p.node)) is ∙ c.requires.1.member
-
-pub probe-requires-clause-edge : goal.probe-requires-clause-edge
-probe-requires-clause-edge c =
-    let is = read_there c.args.self.now _ _ _ _ (c.self.invariant.peers ∙ ap (λ (s : StoredWorld). (world_of s).peers) c.self.view_is) c.requires.1.does.at c.index_mut.ensures.value in
-    (c.requires.1.edge.0, ap (λ (p : Peer). edge_at p.edges c.args.ring) is ∙ c.requires.1.edge.1)
-
-pub probe-requires-clause-keeps : goal.probe-requires-clause-keeps
-probe-requires-clause-keeps c =
-    let is = read_there c.args.self.now _ _ _ _ (c.self.invariant.peers ∙ ap (λ (s : StoredWorld). (world_of s).peers) c.self.view_is) c.requires.1.does.at c.index_mut.ensures.value in
-    subst (λ (p : Peer). (probed (edge_on p.edges c.args.ring) c.args.ok).is_down ≡ true → KeepsAt p.node (EdgeDown c.args.config c.args.ring c.args.subject)) (sym is) c.requires.1.keeps
+pub probe-requires : goal.probe-requires
+probe-requires c =
+    record {
+      peer = c.requires.0;
+      at = at_place _ _ _ _ _ _ c.self.invariant c.self.view_is c.requires.1.does.at;
+      up = c.requires.1.up;
+      member = c.requires.1.member;
+      edge = c.requires.1.edge;
+      keeps = c.requires.1.keeps;
+    }
 
 pub invariant_of-self-2 : goal.invariant_of-self-2
 invariant_of-self-2 c =
-    let is = read_there c.args.self.now _ _ _ _ (c.self.invariant.peers ∙ ap (λ (s : StoredWorld). (world_of s).peers) c.self.view_is) c.requires.1.does.at c.index_mut.ensures.value in
+    let at = at_place _ _ _ _ _ _ c.self.invariant c.self.view_is c.requires.1.does.at in
     given_run c.args.self.now _ _ _ _ (c.args.event, c.in_ok-told.told.halts) _ _ _ _ _ _ (told c.requires.0 c.args.ring c.args.ok (EdgeDown c.args.config c.args.ring c.args.subject))
     c.self.view_is c.reserve.ensures.items c.push_within.ensures c.self.invariant c.requires.1.does
-    (c.in_ok-told.ensures.peer ∙ ap (λ (p : Peer). (told p c.args.ring c.args.ok (EdgeDown c.args.config c.args.ring c.args.subject) c.in_ok-told.told.halts).peer) is)
-    (c.in_ok-told.ensures.packets ∙ ap (λ (p : Peer). c.self.inside.mail.packets ++ (told p c.args.ring c.args.ok (EdgeDown c.args.config c.args.ring c.args.subject) c.in_ok-told.told.halts).packets) is)
+    (c.in_ok-told.ensures.peers c.requires.0 at) (c.in_ok-told.ensures.packets c.requires.0 at)
 
 pub returns-clause-stored : goal.returns-clause-stored
 returns-clause-stored c =
-    let is = read_there c.args.self.now _ _ _ _ (c.self.invariant.peers ∙ ap (λ (s : StoredWorld). (world_of s).peers) c.self.view_is) c.requires.1.does.at c.index_mut.ensures.value in
+    let at = at_place _ _ _ _ _ _ c.self.invariant c.self.view_is c.requires.1.does.at in
     given_stored c.args.self.now _ _ _ _ (c.args.event, c.in_ok-told.told.halts) _ _ (told c.requires.0 c.args.ring c.args.ok (EdgeDown c.args.config c.args.ring c.args.subject)) _
     c.self.view_is c.reserve.ensures.items c.push_within.ensures c.requires.1.does
-    (one_report _ _ _ c.with_report.ensures c.in_ok-reports.ensures.items ∙ c.in_ok-told.ensures.reports ∙ ap (λ (p : Peer). (told p c.args.ring c.args.ok (EdgeDown c.args.config c.args.ring c.args.subject) c.in_ok-told.told.halts).reports) is)
-    (told_marks c.requires.0 c.args.ring c.args.ok (EdgeDown c.args.config c.args.ring c.args.subject) c.in_ok-told.told.halts
-    (λ up. c.in_ok-told.ensures.quiet (ap (λ (p : Peer). (probed (edge_on p.edges c.args.ring) c.args.ok).is_down) is ∙ up)))
+    (one_report _ _ _ c.with_report.ensures c.in_ok-reports.ensures.items ∙ c.in_ok-told.ensures.reports c.requires.0 at)
+    (told_marks c.requires.0 c.args.ring c.args.ok (EdgeDown c.args.config c.args.ring c.args.subject) c.in_ok-told.told.halts (c.in_ok-told.ensures.quiet c.requires.0 at))
 
 pub invariant_of-self-in_err-told : goal.invariant_of-self-in_err-told
 invariant_of-self-in_err-told c =
-    let back = put_back _ _ _ _ c.index_mut.ensures.value c.in_err-told.ensures.peer_unchanged in
-    subst (λ (l : List Packet). IsRunOf (stored_of c.self.inside.founding c.reserve.new.self.items) (slice_set c.self.inside.peers.items c.args.place c.probe.new.peer) l) (sym c.in_err-told.ensures.mail_unchanged)
-    (subst (λ (l : List Peer). IsRunOf (stored_of c.self.inside.founding c.reserve.new.self.items) l c.self.inside.mail.packets) (sym back) (rw c.reserve.ensures.items c.self.invariant))
+    kept_run _ _ _ _ _ _ c.self.invariant (ap (stored_of c.self.inside.founding) c.reserve.ensures.items) c.in_err-told.ensures.unchanged c.in_err-told.ensures.mail_unchanged
 
 pub returns-in_err-told-clause-unchanged : goal.returns-in_err-told-clause-unchanged
 returns-in_err-told-clause-unchanged c =

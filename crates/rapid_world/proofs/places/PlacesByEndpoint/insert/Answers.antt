@@ -1,0 +1,14 @@
+use Rattle.std.proofs.Common.{ap, ◌∙◌, cond, Some, ℕ, List}
+use Rattle.std.specs.FinMap as finmap
+use Rattle.std.specs.HashMap.{get}
+use Rattle.std.proofs.lemmas.Cmp.{nat_list_cmp_total}
+use Rattle.rapid_model.specs.Process.{same_bytes}
+use Rattle.rapid_model.proofs.Orders.{processes_exact}
+use Rattle.rapid_rings.proofs.Sets.{map_insert_seen}
+use Rattle.rapid_world.proofs.places.PlacesByEndpoint.insert.Goals as goal
+
+pub returns-clause-ok : goal.returns-clause-ok
+returns-clause-ok c =
+    map_insert_seen nat_list_cmp_total processes_exact c.self.inside.places.entries c.insert.new.self.entries c.args.endpoint c.args.place
+    (λ q. c.in_ok-insert.ensures.updates.0 q ∙ ap (λ (x : List ℕ). cond (same_bytes x q) (Some c.args.place) (get same_bytes c.self.inside.places q)) c.new.ensures)
+    ∙ ap (λ m. finmap.insert m c.args.endpoint c.args.place) c.self.view_is

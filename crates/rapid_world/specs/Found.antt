@@ -1,0 +1,35 @@
+-- By what the peers of a world are found.
+use Rattle.std.proofs.Common.{ap}
+use Rattle.std.specs.Prelude.{◌≡◌, ℕ, Bool, true, List, [], ◌∷◌, IsTrue, slice_get, Option, Some}
+use Rattle.std.specs.Coded.{Coded, coded_ℕ}
+use Rattle.std.specs.FinMap as finmap
+use Rattle.rapid_model.proofs.Orders.{same_bytes_decides}
+use Rattle.rapid_model.specs.Codes.{bytes_code}
+use Rattle.rapid_model.specs.Process.{bytes_cmp, same_bytes, identifier, endpoint}
+use Rattle.rapid_model.specs.World.{Peer, is_running}
+
+-- Equal keys are hashed alike.
+pub same_input : (x y : List ℕ) → IsTrue (same_bytes x y) → ◌≡◌ {A = List (List ℕ)} (x ∷ []) (y ∷ [])
+same_input x y h = ap (λ (z : List ℕ). let l : List (List ℕ) = z ∷ [] in l) ((same_bytes_decides x y).0 h)
+
+-- Places by identifiers, or by endpoints.
+abbrev pub Places : Type 0
+Places = finmap.FinMap bytes_cmp ℕ
+
+-- The code of places, by which a proof tells them apart.
+abbrev pub places_code : Coded Places
+places_code = finmap.code bytes_code coded_ℕ
+
+-- Each peer is found by its identifier, and by its endpoint if it runs.
+pub record AreFound (by_id by_endpoint : Places) (ps : List Peer) : Type 0 where
+  pub ids : (i : ℕ) (p : Peer) → slice_get ps i ≡ Some p → finmap.get by_id (identifier p.node.me) ≡ Some i
+  pub endpoints : (i : ℕ) (p : Peer) → slice_get ps i ≡ Some p → is_running p ≡ true → finmap.get by_endpoint (endpoint p.node.me) ≡ Some i
+
+-- If an element passes the test, it stands at the place.
+abbrev pub IsOnlyAt : {A : Type 0} → (A → Bool) → List A → Option ℕ → Type 0
+IsOnlyAt {A} f xs place = (i : ℕ) (x : A) → slice_get xs i ≡ Some x → f x ≡ true → place ≡ Some i
+
+-- No peer has the identifier of this one, and none runs at its endpoint.
+pub record IsNew (ps : List Peer) (p : Peer) : Type 0 where
+  pub unused : (i : ℕ) (q : Peer) → slice_get ps i ≡ Some q → identifier q.node.me ≡ identifier p.node.me → ⊥
+  pub free : (i : ℕ) (q : Peer) → slice_get ps i ≡ Some q → is_running q ≡ true → endpoint q.node.me ≡ endpoint p.node.me → ⊥
