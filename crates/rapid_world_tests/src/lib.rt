@@ -4,4 +4,8 @@
 #[cfg(test)]
 mod joins;
 #[cfg(test)]
+mod memory;
+#[cfg(test)]
+mod refusals;
+#[cfg(test)]
 mod worlds;
