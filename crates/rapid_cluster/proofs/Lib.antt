@@ -1,0 +1,5 @@
+pub mod Founding
+pub mod Noting
+pub mod Reports
+pub mod Texts
+pub mod Views

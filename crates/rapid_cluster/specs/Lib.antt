@@ -1,0 +1,3 @@
+pub mod ClusterText
+pub mod Noting
+pub mod Written

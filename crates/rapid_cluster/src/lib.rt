@@ -1,0 +1,10 @@
+//! `cluster`: many threads drive one simulated cluster, and what its nodes hold at the end is written.
+#![tactic(auto)]
+
+mod agreement;
+mod cluster;
+mod output;
+mod report;
+mod text;
+
+pub use cluster::run_cluster;
