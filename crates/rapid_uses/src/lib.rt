@@ -1,10 +1,16 @@
-//! How each library is used alone: small functions as an application would have them.
+//! How each library is used alone: small functions as an application would have them. All of it is
+//! tests, so that nothing is proved twice.
 #![tactic(auto)]
 
-pub mod desk;
-pub mod detector;
-pub mod fast_round;
-pub mod frames;
+#[cfg(test)]
+mod desk;
+#[cfg(test)]
+mod detector;
+#[cfg(test)]
+mod fast_round;
+#[cfg(test)]
+mod frames;
 #[cfg(test)]
 mod tests;
-pub mod world;
+#[cfg(test)]
+mod world;
