@@ -1,0 +1,5 @@
+pub mod NodeLine
+pub mod ViewText
+pub mod Options
+pub mod Statuses
+pub mod Watching

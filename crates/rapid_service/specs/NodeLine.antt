@@ -1,0 +1,38 @@
+-- The lines of `node`.
+use Rattle.std.specs.Prelude.{List, [], ◌∷◌, bytes_eq, codes, if◌then◌else◌, Option, Some, None}
+use Rattle.std.specs.Option.{option_map}
+use Rattle.rapid_model.specs.Bytes.{Line, Word}
+use Rattle.rapid_model.specs.Lines.{line_words}
+use Rattle.rapid_model.specs.SimLine.{count_in}
+use Rattle.rapid_service.specs.declared.command.Command.{Command}
+use Rattle.rapid_service.specs.declared.command.Command.TheVariants.{Ticks, View, Quit}
+use Rattle.rapid_service.specs.declared.command.Asked.{Asked}
+use Rattle.rapid_service.specs.declared.command.Asked.TheVariants.{Nothing, Unknown, Taken}
+
+-- A command that has no words but its name.
+abbrev pub alone : Command → List Word → Option Command
+alone c [] = Some c
+alone c _ = None
+
+-- The command of a name and its words, if there is one: ticks are counted as those of a simulated node are.
+abbrev pub command_named : Word → List Word → Option Command
+command_named name ws =
+    if bytes_eq name (codes "tick") then option_map Ticks (count_in ws)
+    else if bytes_eq name (codes "view") then alone View ws
+    else if bytes_eq name (codes "quit") then alone Quit ws
+    else None
+
+-- A command, if there is one.
+abbrev pub asked_command : Option Command → Asked
+asked_command None = Unknown
+asked_command (Some c) = Taken c
+
+-- What the words of a line ask for: nothing that is known where the line is bad, and nothing where it is passed over.
+abbrev pub asked_words : Option (List Word) → Asked
+asked_words None = Unknown
+asked_words (Some []) = Nothing
+asked_words (Some (name ∷ ws)) = asked_command (command_named name ws)
+
+-- What a line asks for.
+unfoldable pub asked : Line → Asked
+asked line = asked_words (line_words line)

@@ -1,0 +1,68 @@
+-- What the words of `node` are read as.
+use Rattle.std.specs.Prelude.{◌≡◌, Bool, ◌&&◌, ◌==◌, drop, slice_index, nat_le, if◌then◌else◌, Option, Some, None, Result, Ok, Err}
+use Rattle.std.specs.Int.{w16, from_be_bytes}
+use Rattle.rapid_model.specs.Bytes.{Identifier, Endpoint, Text}
+use Rattle.rapid_model.specs.Configuration.{Params, AreParams}
+use Rattle.rapid_endpoint.specs.Texts.{endpoint_from, identifier_from}
+use Rattle.rapid_endpoint.specs.declared.parse_error.ParseError.{ParseError}
+use Rattle.rapid_service.specs.declared.options.OptionsError.{OptionsError}
+use Rattle.rapid_service.specs.declared.options.OptionsError.TheVariants.{BadParams, Unreadable, NotLocal}
+
+-- An endpoint at which a node can be: on the loopback network, with a port from 1.
+abbrev pub is_local : Endpoint → Bool
+is_local e = (slice_index e 0 == 127) && nat_le 1 (from_be_bytes w16 (drop 4 e))
+
+-- Such an endpoint, where this is one.
+abbrev pub when_local : Result Endpoint ParseError → Result Endpoint OptionsError
+when_local (Ok e) = if is_local e then Ok e else Err NotLocal
+when_local (Err fault) = Err (Unreadable fault)
+
+-- What a text is read as where it is to be such an endpoint.
+abbrev pub local_from : Text → Result Endpoint OptionsError
+local_from text = when_local (endpoint_from text)
+
+-- What was read, where something was.
+abbrev pub readable : {X : Type 0} → Result X ParseError → Result (Option X) OptionsError
+readable (Ok x) = Ok (Some x)
+readable (Err fault) = Err (Unreadable fault)
+
+-- What a text is read as where it is to be an identifier, if there is one.
+abbrev pub identifier_of : Option Text → Result (Option Identifier) OptionsError
+identifier_of None = Ok None
+identifier_of (Some text) = readable (identifier_from text)
+
+-- An endpoint, where there is one.
+abbrev pub perhaps : {X : Type 0} → Result X OptionsError → Result (Option X) OptionsError
+perhaps (Ok x) = Ok (Some x)
+perhaps (Err fault) = Err fault
+
+-- What a text is read as where it is to be an endpoint at which a node can be, if there is one.
+abbrev pub endpoint_of : Option Text → Result (Option Endpoint) OptionsError
+endpoint_of None = Ok None
+endpoint_of (Some text) = perhaps (local_from text)
+
+-- Why there is no value, if there is none.
+abbrev pub fault_of : {X : Type 0} → Result X OptionsError → Option OptionsError
+fault_of (Ok x) = None
+fault_of (Err fault) = Some fault
+
+-- The first of two faults.
+abbrev pub or_then : Option OptionsError → Option OptionsError → Option OptionsError
+or_then None other = other
+or_then (Some fault) other = Some fault
+
+-- Why the texts behind `--listen`, `--join` and `--id` are refused, if they are: the first that holds.
+abbrev pub texts_fault : Text → Option Text → Option Text → Option OptionsError
+texts_fault listen join id = or_then (fault_of (local_from listen)) (or_then (fault_of (endpoint_of join)) (fault_of (identifier_of id)))
+
+-- Why words are refused: the parameters come first.
+abbrev pub IsRefusal : Params → Text → Option Text → Option Text → OptionsError → Type 0
+IsRefusal params listen join id BadParams = ¬ AreParams params
+IsRefusal params listen join id (Unreadable fault) = AreParams params × (texts_fault listen join id ≡ Some (Unreadable fault))
+IsRefusal params listen join id NotLocal = AreParams params × (texts_fault listen join id ≡ Some NotLocal)
+
+-- What the texts are read as.
+pub record AreRead (listen : Text) (join id : Option Text) (place : Endpoint) (seed : Option Endpoint) (identifier : Option Identifier) : Type 0 where
+  pub listens : local_from listen ≡ Ok place
+  pub joins : endpoint_of join ≡ Ok seed
+  pub goes_by : identifier_of id ≡ Ok identifier

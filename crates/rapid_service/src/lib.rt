@@ -1,0 +1,32 @@
+//! The membership service of one process: a node at a desk, its probes, its lines and its threads.
+#![tactic(auto)]
+
+mod command;
+mod console;
+mod ending;
+mod fault;
+mod identity;
+mod options;
+mod post;
+mod rounds;
+mod service;
+mod session;
+mod shared;
+mod ticker;
+mod view_text;
+mod watch;
+
+pub use command::{Asked, Command, read_line};
+pub use console::Console;
+pub use ending::Ending;
+pub use fault::NodeFault;
+pub use identity::identify;
+pub use options::{NodeOptions, NodeWords, OptionsError, judge};
+pub use post::Post;
+pub use rounds::Rounds;
+pub use service::Service;
+pub use session::run_lines;
+pub use shared::Shared;
+pub use ticker::run_ticker;
+pub use view_text::{BAD_LINE, NO_VIEW, write_view};
+pub use watch::Watch;

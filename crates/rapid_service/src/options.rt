@@ -1,0 +1,141 @@
+// What the words of `node` ask for.
+
+ghost use Rattle.std.specs.Prelude.{◌≡◌, IfOk, IfErr, OnOk, Ok, Err};
+ghost use Rattle.std.specs.Option.{option_map};
+ghost use Rattle.std.specs.Int.{w16, from_be_bytes};
+ghost use Rattle.rapid_service.specs.Options.{is_local, local_from, identifier_of, endpoint_of, IsRefusal, AreRead};
+
+use rapid_config::Params;
+use rapid_endpoint::{Endpoint, ParseError, ProcessId};
+use thiserror::Error;
+
+/// The words of `node` that stand behind its options. The numbers are in their ranges.
+#[derive(Clone, Copy, Debug)]
+pub struct NodeWords<'a> {
+    /// Behind `--listen`.
+    pub listen: &'a str,
+    /// Behind `--id`.
+    pub id: Option<&'a str>,
+    /// Behind `--join`.
+    pub join: Option<&'a str>,
+    /// The number of rings.
+    pub k: u8,
+    /// From so many reports on a process is stable.
+    pub h: u8,
+    /// From so many reports on it is unstable.
+    pub l: u8,
+    /// How many milliseconds lie between two ticks; no ticker runs at 0.
+    pub tick_ms: u16,
+}
+
+/// What the words of `node` ask for.
+#[derive(Clone, Copy, Debug)]
+pub struct NodeOptions {
+    /// Where the node is.
+    pub listen: Endpoint,
+    /// Its identifier; one is drawn where there is none.
+    pub id: Option<ProcessId>,
+    /// Where the seed is by which it joins; it founds a cluster where there is none.
+    pub join: Option<Endpoint>,
+    /// K, H and L of a cluster that it founds.
+    pub params: Params,
+    /// How many milliseconds lie between two ticks; no ticker runs at 0.
+    pub tick_ms: u16,
+}
+
+/// Why the words of `node` are refused.
+#[derive(Clone, Copy, Debug, PartialEq, Eq, Error)]
+pub enum OptionsError {
+    /// K, H and L are not in order.
+    #[error("K, H and L are not 1 <= L <= H <= K <= 16")]
+    BadParams,
+    /// An endpoint or the identifier cannot be read.
+    #[error("{0}")]
+    Unreadable(ParseError),
+    /// An endpoint is not 127.x.x.x with a port from 1.
+    #[error("an endpoint is not 127.x.x.x with a port from 1")]
+    NotLocal,
+}
+
+/// Whether a node can be at this endpoint.
+fn is_local(endpoint: Endpoint) -> bool
+    ensures { result ≡ is_local endpoint }
+{
+    let [first, _, _, _] = endpoint.address();
+    first == 127 && 1 <= endpoint.port()
+}
+
+/// The endpoint that a text spells, where a node can be at it.
+fn local_endpoint(text: &str) -> Result<Endpoint, OptionsError>
+    ensures { result ≡ local_from text.now }
+{
+    match Endpoint::parse(text) {
+        Ok(endpoint) if is_local(endpoint) => Ok(endpoint),
+        Ok(_) => Err(OptionsError::NotLocal),
+        Err(fault) => Err(OptionsError::Unreadable(fault)),
+    }
+}
+
+/// The endpoint that a text spells, if there is one, where a node can be at it.
+fn seed(text: Option<&str>) -> Result<Option<Endpoint>, OptionsError>
+    ensures { result ≡ endpoint_of (option_map (λ t. t.now) text.entry) }
+{
+    match text {
+        None => Ok(None),
+        Some(text) => match local_endpoint(text) {
+            Ok(endpoint) => Ok(Some(endpoint)),
+            Err(fault) => Err(fault),
+        },
+    }
+}
+
+/// The identifier that a text spells, if there is one.
+fn identifier(text: Option<&str>) -> Result<Option<ProcessId>, OptionsError>
+    ensures { result ≡ identifier_of (option_map (λ t. t.now) text.entry) }
+{
+    match text {
+        None => Ok(None),
+        Some(text) => match ProcessId::parse(text) {
+            Ok(id) => Ok(Some(id)),
+            Err(fault) => Err(OptionsError::Unreadable(fault)),
+        },
+    }
+}
+
+/// Judges the words of `node`.
+///
+/// # Errors
+///
+/// `BadParams` where K, H and L are not in order, else `Unreadable` and `NotLocal` of the endpoint
+/// behind `--listen`, else of that behind `--join`, else `Unreadable` of the identifier.
+pub fn judge(words: NodeWords) -> Result<NodeOptions, OptionsError>
+    ensures texts { IfOk result (λ o. AreRead words.entry.listen.now (option_map (λ t. t.now) words.entry.join) (option_map (λ t. t.now) words.entry.id) o.listen o.join o.id) }
+    ensures params { IfOk result (λ o. o.params ≡ record { k = words.entry.k; h = words.entry.h; l = words.entry.l }) }
+    ensures tick { IfOk result (λ o. o.tick_ms ≡ words.entry.tick_ms) }
+    ensures refused { IfErr result (IsRefusal (record { k = words.entry.k; h = words.entry.h; l = words.entry.l }) words.entry.listen.now (option_map (λ t. t.now) words.entry.join) (option_map (λ t. t.now) words.entry.id)) }
+{
+    let NodeWords {
+        listen,
+        id,
+        join,
+        k,
+        h,
+        l,
+        tick_ms,
+    } = words;
+    let Ok(params) = Params::new(k, h, l) else {
+        return Err(OptionsError::BadParams);
+    };
+    let listen = local_endpoint(listen)?;
+    let join = seed(join)?;
+    match identifier(id) {
+        Ok(id) => Ok(NodeOptions {
+            listen,
+            id,
+            join,
+            params,
+            tick_ms,
+        }),
+        Err(fault) => Err(fault),
+    }
+}

@@ -1,0 +1,270 @@
+// One node at its desk, with its probes.
+
+ghost use Rattle.std.specs.Prelude.{◌≡◌, ◌<◌};
+
+use crate::fault::NodeFault;
+use crate::post::Post;
+use crate::rounds::Rounds;
+use crate::view_text::write_view;
+use crate::watch::Watch;
+use bytes::Bytes;
+use rapid_config::{ConfigId, Configuration, Params};
+use rapid_desk::{Desk, Probing, Subscription, Taken};
+use rapid_endpoint::{Endpoint, Process};
+use rapid_node::{Body, Destination, Event, Message, Output};
+use rapid_view::{View, ViewSeat};
+use rapid_wire::encode;
+use std::alloc::{AllocError, Global};
+use std::mem;
+use std::sync::Wait;
+
+/// How many changes of the view wait for the service: it takes each at once.
+const CHANGES: usize = 4;
+
+/// A node at its desk, with the probes of those whom it observes in its present view. It is kept under
+/// a lock, and whoever holds it hands it ticks and messages.
+#[derive(Drop)]
+pub struct Service<R: Wait + Copy + Drop, P: Post + Drop> {
+    rt: R,
+    alloc: Global,
+    me: Process,
+    desk: Desk<R>,
+    changes: Subscription,
+    present: Option<Present>,
+    seat: Option<ViewSeat>,
+    rounds: Rounds,
+    /// The lines of the views that were entered since they were last taken.
+    lines: Vec<u8>,
+    post: P,
+}
+
+/// The present view, and what is done about those who are observed in it.
+#[derive(Drop)]
+struct Present {
+    view: View,
+    watch: Watch,
+}
+
+/// The frame of a message.
+fn frame_of(alloc: Global, message: &Message) -> Result<Bytes, AllocError> {
+    Ok(Bytes::from_vec(encode(alloc, message)?)?)
+}
+
+/// Hands a frame on to each member but one.
+fn broadcast<R: Wait, P: Post>(
+    rt: &R,
+    post: &mut P,
+    members: &[Process],
+    me: &Process,
+    frame: &Bytes,
+) -> Result<(), AllocError> {
+    for member in members {
+        if *member != *me {
+            post.post(rt, member.endpoint(), frame.clone()?);
+        }
+    }
+    Ok(())
+}
+
+/// Hands the frame of a probe on to the subject of each edge.
+fn probe_all<R: Wait, P: Post>(
+    rt: &R,
+    post: &mut P,
+    edges: &[Probing],
+    frame: &Bytes,
+) -> Result<(), AllocError> {
+    for edge in edges {
+        post.post(rt, edge.subject.endpoint(), frame.clone()?);
+    }
+    Ok(())
+}
+
+/// The edges that went down by what became of their last probes: rings and subjects.
+fn gone_down(
+    alloc: Global,
+    watch: &mut Watch,
+    edges: &[Probing],
+) -> Result<Vec<(u8, Process)>, AllocError> {
+    let mut down = Vec::new(alloc);
+    for edge in edges {
+        if watch.judge(edge) {
+            down.push((edge.ring, edge.subject))?;
+        }
+    }
+    Ok(down)
+}
+
+impl<R: Wait + Copy + Drop, P: Post + Drop> Service<R, P> {
+    /// The service at a desk.
+    fn at(
+        rt: R,
+        alloc: Global,
+        me: Process,
+        mut desk: Desk<R>,
+        post: P,
+    ) -> Result<Service<R, P>, NodeFault> {
+        let changes = desk.subscribe(CHANGES)?;
+        Ok(Service {
+            rt,
+            alloc,
+            me,
+            desk,
+            changes,
+            present: None,
+            seat: None,
+            rounds: Rounds::new(),
+            lines: Vec::new(alloc),
+            post,
+        })
+    }
+
+    /// The service of a process that founds a cluster, in which it is alone. Its first view is entered
+    /// at once.
+    pub fn found(
+        rt: R,
+        alloc: Global,
+        params: Params,
+        me: Process,
+        post: P,
+    ) -> Result<Service<R, P>, NodeFault> {
+        let Ok(configuration) = Configuration::seed(alloc, params, &[me]) else {
+            return Err(NodeFault::OutOfMemory);
+        };
+        if !configuration.is_member(&me) {
+            return Err(NodeFault::Halted);
+        }
+        let desk = Desk::seed(rt, alloc, &configuration, me, 1)?;
+        let mut service = Service::at(rt, alloc, me, desk, post)?;
+        service.enter(View::new(configuration))?;
+        Ok(service)
+    }
+
+    /// The service of a process that joins a cluster by the seed at this endpoint.
+    pub fn join(
+        rt: R,
+        alloc: Global,
+        me: Process,
+        seed: Endpoint,
+        post: P,
+    ) -> Result<Service<R, P>, NodeFault> {
+        let desk = Desk::joiner(rt, alloc, me, seed, 1)?;
+        Service::at(rt, alloc, me, desk, post)
+    }
+
+    /// A tick of the node. After every tenth the observed members are probed, and edges of which too
+    /// many probes were not acknowledged are handed to the node.
+    pub fn tick(&mut self) -> Result<(), NodeFault> {
+        self.step(Event::Tick)?;
+        if self.rounds.tick() {
+            self.probe()?;
+        }
+        Ok(())
+    }
+
+    /// A message has come.
+    pub fn receive(&mut self, message: Message) -> Result<(), NodeFault> {
+        if let Body::ProbeAck(_) = message.body() {
+            self.ack(&message.sender());
+        }
+        self.step(Event::Receive(message))
+    }
+
+    /// A seat at the published view, once there is a view.
+    pub fn take_seat(&mut self) -> Option<ViewSeat> {
+        self.seat.take()
+    }
+
+    /// The lines of the views that were entered since this was last asked.
+    pub fn take_lines(&mut self) -> Vec<u8> {
+        mem::replace(&mut self.lines, Vec::new(self.alloc))
+    }
+
+    /// What takes the frames that it sends.
+    pub fn post(&self) -> &P {
+        &self.post
+    }
+
+    /// A process has acknowledged a probe.
+    fn ack(&mut self, process: &Process) {
+        if let Some(present) = &mut self.present {
+            present.watch.ack(process);
+        }
+    }
+
+    /// One event at the desk: what is sent goes out, and a new view is entered.
+    fn step(&mut self, event: Event) -> Result<(), NodeFault> {
+        let sent = self.desk.step(event)?;
+        for output in sent.as_slice() {
+            self.send(output)?;
+        }
+        self.follow()
+    }
+
+    /// Sends a message to where it goes: the other members are those of the view before the step.
+    fn send(&mut self, output: &Output) -> Result<(), AllocError> {
+        let frame = frame_of(self.alloc, output.message())?;
+        match output.to() {
+            Destination::To(endpoint) => {
+                self.post.post(&self.rt, endpoint, frame);
+                Ok(())
+            }
+            Destination::Others => self.send_others(&frame),
+        }
+    }
+
+    /// Sends a frame to the other members.
+    fn send_others(&mut self, frame: &Bytes) -> Result<(), AllocError> {
+        match &self.present {
+            Some(present) => broadcast(
+                &self.rt,
+                &mut self.post,
+                present.view.configuration().members(),
+                &self.me,
+                frame,
+            ),
+            None => Ok(()),
+        }
+    }
+
+    /// Enters the view that the desk has published, if there is a new one.
+    fn follow(&mut self) -> Result<(), NodeFault> {
+        match self.changes.take(&self.rt) {
+            Taken::Change(view) => self.enter(view),
+            Taken::Empty => Ok(()),
+            Taken::Lagged | Taken::Closed => Err(NodeFault::OutOfMemory),
+        }
+    }
+
+    /// Enters a view: its line is shown, and probes begin anew.
+    fn enter(&mut self, view: View) -> Result<(), NodeFault> {
+        write_view(view.configuration(), &mut self.lines)?;
+        let watch = Watch::new(self.alloc, view.configuration(), &self.me)?;
+        self.present = Some(Present { view, watch });
+        if let Some(mut seats) = self.desk.take_seats() {
+            self.seat = seats.pop();
+        }
+        Ok(())
+    }
+
+    /// A round of probes.
+    fn probe(&mut self) -> Result<(), NodeFault> {
+        let Some(present) = &mut self.present else {
+            return Ok(());
+        };
+        let id = present.view.configuration().id();
+        let edges = present.watch.round(self.alloc)?;
+        let down = gone_down(self.alloc, &mut present.watch, edges.as_slice())?;
+        self.hand_down(id, down.as_slice())?;
+        let frame = frame_of(self.alloc, &Message::new(self.me, Body::Probe(id)))?;
+        probe_all(&self.rt, &mut self.post, edges.as_slice(), &frame)?;
+        Ok(())
+    }
+
+    /// Tells the node which edges went down in a configuration.
+    fn hand_down(&mut self, id: ConfigId, down: &[(u8, Process)]) -> Result<(), NodeFault> {
+        for edge in down {
+            self.step(Event::EdgeDown(id, edge.0, edge.1))?;
+        }
+        Ok(())
+    }
+}

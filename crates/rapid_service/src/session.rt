@@ -1,0 +1,131 @@
+// The lines that drive a node.
+
+ghost use Rattle.std.specs.Prelude.{◌≡◌, ℕ, ◌<◌, List, [], ◌∷◌, length, OnOk, OnErr};
+
+use crate::command::{Asked, Command, read_line};
+use crate::fault::NodeFault;
+use crate::post::Post;
+use crate::shared::Shared;
+use crate::view_text::{BAD_LINE, NO_VIEW, write_view};
+use rapid_text::{Engine, RunFault, run};
+use rapid_view::{View, ViewError, ViewSeat};
+use std::alloc::{AllocError, Global};
+use std::io::Read;
+use std::sync::Wait;
+use std::thread;
+
+/// What answers the lines of a node: it prints at the node's console, among the views that are entered
+/// meanwhile, and nothing by itself.
+#[derive(Drop)]
+struct Session<'a, W: Wait, R: Wait + Copy + Drop, P: Post + Drop> {
+    rt: &'a W,
+    alloc: Global,
+    shared: &'a Shared<R, P>,
+    seat: Option<ViewSeat>,
+}
+
+/// The present view. It is asked for again while the list of members is still older than its stamp.
+fn present<W: Wait>(rt: &W, seat: &mut ViewSeat) -> Result<View, NodeFault> {
+    for _ in rt.forever() {
+        match seat.members(rt) {
+            Ok(view) => return Ok(view),
+            Err(ViewError::Behind(_)) => thread::yield_now(),
+            Err(_) => return Err(NodeFault::OutOfMemory),
+        }
+    }
+    unreachable!()
+}
+
+/// So many ticks, or fewer where the node ends.
+fn tick<W: Wait, R: Wait + Copy + Drop, P: Post + Drop>(
+    rt: &W,
+    shared: &Shared<R, P>,
+    count: u64,
+) -> Result<(), NodeFault> {
+    for _ in 0..count {
+        if shared.ending().has_come(rt) {
+            return Ok(());
+        }
+        shared.tick(rt)?;
+    }
+    Ok(())
+}
+
+impl<W: Wait, R: Wait + Copy + Drop, P: Post + Drop> Session<'_, W, R, P> {
+    /// Prints the present view.
+    fn view(&mut self) -> Result<(), NodeFault> {
+        if self.seat.is_none() {
+            self.seat = self.shared.take_seat(self.rt);
+        }
+        let mut line = Vec::new(self.alloc);
+        match &mut self.seat {
+            None => line.extend_from_slice(NO_VIEW)?,
+            Some(seat) => write_view(present(self.rt, seat)?.configuration(), &mut line)?,
+        }
+        self.shared.console().add(self.rt, line.as_slice())?;
+        Ok(())
+    }
+
+    /// Does what a line asks for.
+    fn obey(&mut self, asked: Asked) -> Result<(), NodeFault> {
+        match asked {
+            Asked::Nothing => Ok(()),
+            Asked::Unknown => {
+                self.shared.console().add(self.rt, BAD_LINE)?;
+                Ok(())
+            }
+            Asked::Taken(Command::Ticks(count)) => tick(self.rt, self.shared, count),
+            Asked::Taken(Command::View) => self.view(),
+            Asked::Taken(Command::Quit) => {
+                self.shared.ending().end(self.rt, None);
+                Ok(())
+            }
+        }
+    }
+}
+
+impl<W: Wait, R: Wait + Copy + Drop, P: Post + Drop> Engine for Session<'_, W, R, P> {
+    ghost prints = { λ s lines text n. Unit {0} };
+
+    ghost met = { λ s. 0 };
+
+    /// Does what a line asks for. Where the node ends the input is read no further.
+    fn answer(&mut self, line: &[u8], output: &mut Vec<u8>) -> Result<(), AllocError> {
+        let _ = &output;
+        let done = self.obey(read_line(line));
+        if self.shared.goes_on(self.rt, done) {
+            Ok(())
+        } else {
+            Err(AllocError)
+        }
+    }
+
+    ghost ends = { λ s. tt };
+
+    ghost too_long = { λ s line other later text n h k p. tt };
+
+    ghost speaks = { λ s lines. ([], 0, tt) };
+}
+
+/// Answers the lines of an input until it ends or the node does, and then ends the node.
+pub fn run_lines<W: Wait, R: Wait + Copy + Drop, P: Post + Drop, I: Read>(
+    rt: &W,
+    alloc: Global,
+    shared: &Shared<R, P>,
+    reader: &mut I,
+) {
+    let mut session = Session {
+        rt,
+        alloc,
+        shared,
+        seat: None,
+    };
+    let mut nothing = Vec::new(alloc);
+    let fault = match run(alloc, &mut session, reader, &mut nothing) {
+        Ok(()) => None,
+        Err(RunFault::Read) => Some(NodeFault::Read),
+        Err(RunFault::Write) => Some(NodeFault::Write),
+        Err(RunFault::OutOfMemory) => Some(NodeFault::OutOfMemory),
+    };
+    shared.ending().end(rt, fault);
+}
