@@ -1,22 +1,36 @@
 -- What the commands of the program print.
-use Rattle.std.specs.Prelude.{◌≡◌, ℕ, List, Option, IfSome}
+use Rattle.std.specs.Prelude.{◌≡◌, ◌≤◌, ℕ, List, [], Option, IfSome}
 use Rattle.std.specs.Io.KnownBytes.{Appends}
 use Rattle.rapid_model.specs.DetectText.{detect_text}
+use Rattle.rapid_cluster.specs.ClusterText.{IsReport}
+use Rattle.rapid_cluster.specs.Written.{Ended}
 use Rattle.rapid_text.specs.Underway.{AppendsFront}
+use Rattle.rapid_text.specs.declared.fault.RunFault.{RunFault}
 use Rattle.rapid_sim.specs.Wants.{SimPrints}
 use Rattle.rapidd.specs.declared.words.Job.{Job}
-use Rattle.rapidd.specs.declared.words.Job.TheVariants.{Detect, Sim}
+use Rattle.rapidd.specs.declared.words.Job.TheVariants.{Detect, Sim, Cluster}
+
+-- A cluster has at most 32 clerks.
+abbrev pub CanRun : Job → Type 0
+CanRun Detect = Unit {0}
+CanRun Sim = Unit {0}
+CanRun (Cluster s) = s.workers ≤ 32
 
 -- What a command may print for an input: `detect` one text, `sim` one for each way in which want of memory may be met, and where it
--- is never met one text.
+-- is never met one text. `cluster` reads no input, and prints a report.
 abbrev pub JobPrints : Job → List ℕ → List ℕ → Type 0
 JobPrints Detect input text = text ≡ detect_text input
 JobPrints Sim input text = (met : ℕ) × SimPrints input text met
+JobPrints (Cluster s) input text = IsReport s.nodes text
 
--- What the input prints was written, and nothing else.
+-- What the input prints was written, and nothing else; of a cluster a report, whatever the input.
 abbrev pub Wrote : Job → Option (List ℕ) → Option (List ℕ) → Option (List ℕ) → Type 0
-Wrote job known old new = IfSome known (λ input. (text : List ℕ) × JobPrints job input text × Appends old new text)
+Wrote Detect known old new = IfSome known (λ input. (text : List ℕ) × JobPrints Detect input text × Appends old new text)
+Wrote Sim known old new = IfSome known (λ input. (text : List ℕ) × JobPrints Sim input text × Appends old new text)
+Wrote (Cluster s) known old new = (text : List ℕ) × JobPrints (Cluster s) [] text × Appends old new text
 
--- A beginning of what the input prints was written, and nothing else.
+-- A beginning of what the input prints was written, and nothing else; of a cluster what a fault leaves: a beginning of a report, or nothing.
 abbrev pub WroteFront : Job → Option (List ℕ) → Option (List ℕ) → Option (List ℕ) → Type 0
-WroteFront job known old new = IfSome known (λ input. (text : List ℕ) × JobPrints job input text × AppendsFront old new text)
+WroteFront Detect known old new = IfSome known (λ input. (text : List ℕ) × JobPrints Detect input text × AppendsFront old new text)
+WroteFront Sim known old new = IfSome known (λ input. (text : List ℕ) × JobPrints Sim input text × AppendsFront old new text)
+WroteFront (Cluster s) known old new = (fault : RunFault) × Ended s.nodes old new fault

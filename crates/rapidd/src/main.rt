@@ -1,6 +1,6 @@
 //! The program of the membership service (Rapid, USENIX ATC 2018): `rapidd detect` reads who observes
-//! whom and alerts, and prints the cuts that they make; `rapidd sim` drives a simulated cluster, and
-//! prints its views.
+//! whom and alerts, and prints the cuts that they make; `rapidd sim` drives a simulated cluster by lines, and
+//! prints its views; `rapidd cluster` lets many threads drive one.
 #![tactic(auto)]
 
 mod words;
@@ -11,6 +11,7 @@ use std::{env, io};
 fn main(rt: HostRuntime) -> ExitCode {
     match arguments(&rt) {
         Ok(words) => ExitCode::from(words::run_words(
+            &rt,
             rt.alloc(),
             words.as_slice(),
             &mut rt.reader(),

@@ -4,6 +4,8 @@ use crate::words::{run_words, without_words};
 use std::alloc::Global;
 use std::io;
 use std::io::{ErrorKind, Read, Write};
+use std::sync::Wait;
+use std::thread::Threads;
 
 /// A reader that gives its bytes once, and then fails.
 #[derive(Drop)]
@@ -46,17 +48,23 @@ impl Write for Narrow {
 }
 
 /// The status and the two outputs of these words on this input.
-fn ran(alloc: Global, words: &[&str], input: &[u8]) -> (u8, Vec<u8>, Vec<u8>) {
+fn ran<R: Threads + Wait + Sync>(
+    rt: &R,
+    alloc: Global,
+    words: &[&str],
+    input: &[u8],
+) -> (u8, Vec<u8>, Vec<u8>) {
     let mut reader = input;
     let mut out = Vec::new(alloc);
     let mut err = Vec::new(alloc);
-    let status = run_words(alloc, words, &mut reader, &mut out, &mut err);
+    let status = run_words(rt, alloc, words, &mut reader, &mut out, &mut err);
     (status, out, err)
 }
 
 #[test]
 fn answers_with_its_statuses(rt: HostRuntime) {
     let (status, out, err) = ran(
+        &rt,
         rt.alloc(),
         &["rapidd", "detect"],
         b"watermarks 4 3 2\nbatch\n",
@@ -65,6 +73,7 @@ fn answers_with_its_statuses(rt: HostRuntime) {
     assert_eq!(rt; out.as_slice(), b"none\n".as_slice());
     assert!(rt; err.is_empty());
     let (status, out, err) = ran(
+        &rt,
         rt.alloc(),
         &["rapidd", "sim"],
         b"params 3 3 1\nfound 1\npackets\n",
@@ -76,31 +85,79 @@ fn answers_with_its_statuses(rt: HostRuntime) {
     );
     assert!(rt; err.is_empty());
     for words in [["rapidd", "--help"], ["rapidd", "help"]] {
-        let (status, out, err) = ran(rt.alloc(), &words, b"");
+        let (status, out, err) = ran(&rt, rt.alloc(), &words, b"");
         assert_eq!(rt; status, 0);
         assert!(rt; !out.is_empty() && err.is_empty());
     }
-    for command in ["detect", "sim"] {
-        let (status, out, err) = ran(rt.alloc(), &["rapidd", command, "--help"], b"");
+    for command in ["detect", "sim", "cluster"] {
+        let (status, out, err) = ran(&rt, rt.alloc(), &["rapidd", command, "--help"], b"");
         assert_eq!(rt; status, 0);
         assert!(rt; out.len() > 400 && err.is_empty());
     }
     for words in [
-        ["rapidd", "cluster"],
+        ["rapidd", "clusters"],
         ["rapidd", "--faster"],
         ["rapidd", ""],
         ["rapidd", "Detect"],
     ] {
-        let (status, out, err) = ran(rt.alloc(), &words, b"batch\n");
+        let (status, out, err) = ran(&rt, rt.alloc(), &words, b"batch\n");
         assert_eq!(rt; status, 2);
         assert!(rt; out.is_empty() && !err.is_empty());
     }
-    let (status, out, err) = ran(rt.alloc(), &["rapidd"], b"batch\n");
+    let (status, out, err) = ran(&rt, rt.alloc(), &["rapidd"], b"batch\n");
     assert_eq!(rt; status, 2);
     assert!(rt; out.is_empty() && !err.is_empty());
-    let (status, out, err) = ran(rt.alloc(), &["rapidd", "detect", "more"], b"batch\n");
+    let (status, out, err) = ran(&rt, rt.alloc(), &["rapidd", "detect", "more"], b"batch\n");
     assert_eq!(rt; status, 2);
     assert!(rt; out.is_empty() && !err.is_empty());
+}
+
+/// What a cluster of three nodes comes to.
+const THREE_NODES: &str = "events 42
+node 1 height 1 members 1 2 3
+node 2 height 1 members 1 2 3
+node 3 height 1 members 1 2 3
+agree yes
+";
+
+#[test]
+fn a_cluster_lets_all_nodes_in(rt: HostRuntime) {
+    let (status, out, err) = ran(
+        &rt,
+        rt.alloc(),
+        &["rapidd", "cluster", "--nodes", "3", "--workers", "4"],
+        b"",
+    );
+    assert_eq!(rt; status, 0);
+    assert_eq!(rt; out.as_slice(), THREE_NODES.as_bytes());
+    assert!(rt; err.is_empty());
+}
+
+#[test]
+fn a_cluster_has_its_ranges(rt: HostRuntime) {
+    for (words, wanted) in [
+        (["rapidd", "cluster", "--nodes", "0", "--turns", "1"], 2),
+        (["rapidd", "cluster", "--nodes", "65", "--turns", "1"], 2),
+        (["rapidd", "cluster", "--nodes", "64", "--turns", "1"], 0),
+        (["rapidd", "cluster", "--workers", "0", "--turns", "1"], 2),
+        (["rapidd", "cluster", "--workers", "33", "--turns", "1"], 2),
+        (["rapidd", "cluster", "--workers", "32", "--turns", "1"], 0),
+        (["rapidd", "cluster", "--turns", "0", "--workers", "1"], 2),
+        (
+            ["rapidd", "cluster", "--turns", "10001", "--workers", "1"],
+            2,
+        ),
+        (["rapidd", "cluster", "--k", "17", "--turns", "1"], 2),
+        (["rapidd", "cluster", "--k", "256", "--turns", "1"], 2),
+        (["rapidd", "cluster", "--l", "4", "--h", "3"], 2),
+        (["rapidd", "cluster", "--l", "0", "--h", "3"], 2),
+        (["rapidd", "cluster", "--h", "3", "--l", "3"], 0),
+    ] {
+        let (status, out, err) = ran(&rt, rt.alloc(), &words, b"");
+        assert_eq!(rt; status, wanted);
+        assert_eq!(rt; out.is_empty(), wanted == 2);
+        assert_eq!(rt; err.is_empty(), wanted == 0);
+    }
 }
 
 #[test]
@@ -112,6 +169,7 @@ fn answers_1_where_the_input_fails(rt: HostRuntime) {
     let mut err = Vec::new(rt.alloc());
     let words = ["rapidd", "detect"];
     let status = run_words(
+        &rt,
         rt.alloc(),
         words.as_slice(),
         &mut reader,
@@ -138,7 +196,7 @@ fn answers_1_where_the_output_fails(rt: HostRuntime) {
         };
         let mut err = Vec::new(rt.alloc());
         assert_eq!(rt;
-            run_words(rt.alloc(), words, &mut input, &mut narrow, &mut err),
+            run_words(&rt, rt.alloc(), words, &mut input, &mut narrow, &mut err),
             1
         );
         let front: &[u8] = if words.len() == detect.len() && words[1] == "detect" {

@@ -1,12 +1,14 @@
 //! The command line.
 
-ghost use Rattle.std.specs.Prelude.{◌≡◌, ◌≢◌, ◌≤◌, ◌<◌, ◌⊎◌, OnOk, OnErr};
+ghost use Rattle.std.specs.Prelude.{◌≡◌, ◌≢◌, ◌≤◌, ◌<◌, ◌⊎◌, IfSome, OnOk, OnErr};
 ghost use Rattle.clap.specs.Words.{kind_of};
-ghost use Rattle.rapidd.specs.Jobs.{Wrote, WroteFront};
+ghost use Rattle.rapidd.specs.Jobs.{CanRun, Wrote, WroteFront};
 ghost use Rattle.rapidd.specs.Statuses.{run_status};
 
 use clap::error::ErrorKind;
-use clap::{ArgMatches, Command, Error};
+use clap::{Arg, ArgAction, ArgMatches, Command, Error, value_parser};
+use rapid_cluster::run_cluster;
+use rapid_config::Params;
 use rapid_detect::run_detect;
 use rapid_sim::run_sim;
 use rapid_text::RunFault;
@@ -14,6 +16,8 @@ use std::alloc::{AllocError, Global};
 use std::convert::AsStr;
 use std::io;
 use std::io::{Read, Write};
+use std::sync::Wait;
+use std::thread::Threads;
 
 /// All went well.
 const DONE: u8 = 0;
@@ -66,6 +70,30 @@ reason; of a repeated event what came before stands. A view that a node enters p
 Status: 0 at the end of the input and after help, 1 where standard input or output failed,
 2 where the words were refused, 3 for want of memory.";
 
+/// What `cluster --help` says of what it does.
+const CLUSTER_TURNS: &str =
+    "Process 1 is the founder, and the others ask it to let them in. A turn delivers the least packet
+that no turn has delivered or passed over and at whose endpoint a node runs, or where there is none
+lets the clock of the next node tick. At the end it prints
+  events E                       how many starts and turns there were
+  node N height H members ..     for each member; node N joining for one that has no view
+  agree yes|no                   no where two nodes hold different identifiers at one height
+
+Status: 0 at the end and after help, 1 where standard output failed, 2 where the words were refused,
+3 for want of memory.";
+
+/// The most clerks of a cluster.
+const MOST_WORKERS: u16 = 32;
+
+/// What the words of `cluster` ask for.
+#[derive(Clone, Copy, Debug)]
+struct Setting {
+    params: Params,
+    nodes: u16,
+    workers: u16,
+    turns: u16,
+}
+
 /// The commands of the program.
 #[derive(Clone, Copy, Debug)]
 enum Job {
@@ -73,6 +101,47 @@ enum Job {
     Detect,
     /// The simulator over lines.
     Sim,
+    /// A simulated cluster that threads drive.
+    Cluster(Setting),
+}
+
+/// An option whose value is a number.
+fn number<'a>(alloc: Global, name: &'a str, default: &'a str, help: &'a str) -> Arg<'a> {
+    Arg::new(alloc, name)
+        .long(name)
+        .value_name("NUMBER")
+        .action(ArgAction::Set)
+        .default_value(default)
+        .help(help)
+}
+
+/// The words that `cluster` takes.
+fn cluster<'a>(alloc: Global) -> Result<Command<'a>, AllocError> {
+    let nodes = number(alloc, "nodes", "3", "How many nodes, 1 to 64");
+    let workers = number(alloc, "workers", "4", "How many threads, 1 to 32");
+    let turns = number(
+        alloc,
+        "turns",
+        "10",
+        "How many turns each thread takes, 1 to 10000",
+    );
+    let k = number(alloc, "k", "10", "K, how many rings there are");
+    let h = number(alloc, "h", "9", "H, how many reports make a process stable");
+    let l = number(
+        alloc,
+        "l",
+        "3",
+        "L, how many reports make a process unstable",
+    );
+    Command::new(alloc, "cluster")
+        .about("Lets threads drive a simulated cluster, and prints what its nodes hold at the end")
+        .after_help(CLUSTER_TURNS)
+        .arg(nodes.value_parser(value_parser!(u16).range(1..=64)))?
+        .arg(workers.value_parser(value_parser!(u16).range(1..=32)))?
+        .arg(turns.value_parser(value_parser!(u16).range(1..=10_000)))?
+        .arg(k.value_parser(value_parser!(u8)))?
+        .arg(h.value_parser(value_parser!(u8)))?
+        .arg(l.value_parser(value_parser!(u8)))
 }
 
 /// The words that the program takes.
@@ -90,7 +159,8 @@ fn grammar<'a>(alloc: Global) -> Result<Command<'a>, AllocError> {
         .after_help(STATUSES)
         .subcommand_required(true)
         .subcommand(detect)?
-        .subcommand(sim)
+        .subcommand(sim)?
+        .subcommand(cluster(alloc)?)
 }
 
 /// The status of a run.
@@ -105,12 +175,14 @@ fn status_of(ran: Result<(), RunFault>) -> u8
 }
 
 /// Runs a command over the input.
-fn run_job<R: Read, O: Write>(
+fn run_job<T: Threads + Wait + Sync, R: Read, O: Write>(
+    rt: &T,
     alloc: Global,
     job: Job,
     reader: &mut R,
     out: &mut O,
 ) -> Result<(), RunFault>
+    requires { CanRun job }
     ensures written { OnOk result (Wrote job (R.remaining reader.old) (O.contents out.old) (O.contents out.new)) }
     ensures begun { OnErr result (WroteFront job (R.remaining reader.old) (O.contents out.old) (O.contents out.new)) }
 {
@@ -120,24 +192,35 @@ fn run_job<R: Read, O: Write>(
             run_sim(alloc, reader, out)?;
             Ok(())
         }
+        Job::Cluster(setting) => run_cluster(
+            rt,
+            alloc,
+            out,
+            setting.params,
+            setting.nodes,
+            usize::from(setting.workers),
+            usize::from(setting.turns),
+        ),
     }
 }
 
 /// Runs a command over the input, and tells of a fault. Where the status is 0, what the input prints
 /// was written, and nothing else; else a beginning of that was.
-fn run<R: Read, O: Write, E: Write>(
+fn run<T: Threads + Wait + Sync, R: Read, O: Write, E: Write>(
+    rt: &T,
     alloc: Global,
     job: Job,
     reader: &mut R,
     out: &mut O,
     err: &mut E,
 ) -> u8
+    requires { CanRun job }
     ensures written { result ≡ 0 → Wrote job (R.remaining reader.old) (O.contents out.old) (O.contents out.new) }
     ensures begun { result ≢ 0 → WroteFront job (R.remaining reader.old) (O.contents out.old) (O.contents out.new) }
     ensures status { result ≤ 3 }
     ensures taken { result ≢ 2 }
 {
-    let ran = run_job(alloc, job, reader, out);
+    let ran = run_job(rt, alloc, job, reader, out);
     if let Err(fault) = &ran {
         let _ = writeln!(err, "error: {fault}");
     }
@@ -182,13 +265,49 @@ fn matches_of<'a, S: AsStr>(alloc: Global, words: &'a [S]) -> Result<ArgMatches<
     grammar(alloc)?.try_get_matches_from(words)
 }
 
-/// The command of a name.
-fn job_named(name: &str) -> Option<Job> {
-    match name {
-        "detect" => Some(Job::Detect),
-        "sim" => Some(Job::Sim),
+/// The setting of a cluster, where K, H and L are in order.
+fn setting_of(words: &ArgMatches) -> Option<Setting>
+    ensures { IfSome result (λ setting. setting.workers ≤ 32) }
+{
+    let k = words.get_one::<u8>("k")?;
+    let h = words.get_one::<u8>("h")?;
+    let l = words.get_one::<u8>("l")?;
+    let params = Params::new(k, h, l).ok()?;
+    let nodes = words.get_one::<u16>("nodes")?;
+    let turns = words.get_one::<u16>("turns")?;
+    let workers = words.get_one::<u16>("workers")?;
+    if workers > MOST_WORKERS {
+        return None;
+    }
+    Some(Setting {
+        params,
+        nodes,
+        workers,
+        turns,
+    })
+}
+
+/// The command that the words name, where K, H and L are in order.
+fn job_of(words: &ArgMatches) -> Option<Job>
+    ensures { IfSome result CanRun }
+{
+    match words.subcommand()? {
+        ("detect", _) => Some(Job::Detect),
+        ("sim", _) => Some(Job::Sim),
+        ("cluster", more) => Some(Job::Cluster(setting_of(more)?)),
         _ => None,
     }
+}
+
+/// Tells that K, H and L are refused.
+fn refuse<E: Write>(err: &mut E) -> u8
+    ensures { result ≡ 2 }
+{
+    let _ = writeln!(
+        err,
+        "error: K, H and L are not in order: 1 <= L <= H <= K <= 16"
+    );
+    REFUSED
 }
 
 /// Does what the words ask for, of which the first is the program's name, and answers the status.
@@ -196,7 +315,8 @@ fn job_named(name: &str) -> Option<Job> {
 /// input was not read, as for help. Where it is 1, a beginning of that was written, or the input was
 /// not read and help could not be written. Where it is 2 nothing was written, and where it is 3 a
 /// beginning of what the input prints.
-pub fn run_words<S: AsStr, R: Read, O: Write, E: Write>(
+pub fn run_words<T: Threads + Wait + Sync, S: AsStr, R: Read, O: Write, E: Write>(
+    rt: &T,
     alloc: Global,
     words: &[S],
     reader: &mut R,
@@ -214,9 +334,9 @@ pub fn run_words<S: AsStr, R: Read, O: Write, E: Write>(
 {
     match matches_of(alloc, words) {
         Err(error) => tell(&error, out, err),
-        Ok(matches) => match matches.subcommand_name().and_then(job_named) {
-            Some(job) => run(alloc, job, reader, out, err),
-            None => REFUSED,
+        Ok(matches) => match job_of(&matches) {
+            Some(job) => run(rt, alloc, job, reader, out, err),
+            None => refuse(err),
         },
     }
 }

@@ -1,5 +1,8 @@
-use Rattle.rapidd.proofs.Fronts.{detect_front}
+use Rattle.rapidd.proofs.Fronts.{detect_front, cluster_front}
 use Rattle.rapidd.proofs.words.run_job.Goals as goal
 
 pub returns-in-Detect-clause-begun : goal.returns-in-Detect-clause-begun
 returns-in-Detect-clause-begun g c = detect_front c.run_detect.result c.args.job _ _ _ c.in-Detect.is c.run_detect.ensures.begun
+
+pub returns-in-Cluster-clause-begun : goal.returns-in-Cluster-clause-begun
+returns-in-Cluster-clause-begun g c = cluster_front c.run_cluster.result c.args.job _ _ _ _ c.in-Cluster.is c.run_cluster.ensures.ended
