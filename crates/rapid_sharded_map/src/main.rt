@@ -130,23 +130,56 @@ fn decision(alloc: Global, id: ConfigId, number: u16) -> Result<Event> {
     Ok(Event::Receive(Message::new(process(2), Body::Decision(id, cut))))
 }
 
-fn main(rt: HostRuntime) -> Result<()> {
-    let alloc = rt.alloc();
+/// The desk of a founder that is alone.
+fn open<R: Wait + Copy + Drop>(rt: R, alloc: Global) -> Result<Box<Desk<R>>> {
     let me = process(1);
     let founding = Configuration::seed(alloc, Params::new(3, 3, 1)?, &[me])?;
     if !founding.is_member(&me) {
         bail!("the founder is no member");
     }
-    let mut desk = Box::new(alloc, Desk::seed(&rt, alloc, &founding, me, 1)?)?;
-    let mut changes = desk.subscribe(8)?;
+    let desk = Desk::seed(rt, alloc, &founding, me, 1)?;
+    Ok(Box::new(alloc, desk)?)
+}
+
+/// The seat at the published views.
+fn seat<R: Wait + Copy + Drop>(desk: &mut Desk<R>) -> Result<ViewSeat> {
     let mut seats = desk.take_seats().context("the desk has no seats")?;
-    let mut seat = seats.pop().context("the desk has no seat")?;
-    let view = seat.members(&rt)?;
-    ShardedMap::deal(alloc, &view)?.print(&rt, &view)?;
+    seats.pop().context("the desk has no seat")
+}
+
+/// Tells the desk that this process was decided to come or to go. What the node would send is dropped
+/// here: nobody listens.
+fn decide<R: Wait + Copy + Drop>(
+    desk: &mut Desk<R>,
+    alloc: Global,
+    id: ConfigId,
+    number: u16,
+) -> Result<()> {
+    let _sent = desk.step(decision(alloc, id, number)?)?;
+    Ok(())
+}
+
+/// Deals the keys to the members of the last view, and prints who owns them.
+fn show<R: Wait + Print>(rt: &R, alloc: Global, seat: &mut ViewSeat) -> Result<()> {
+    let view = seat.members(rt)?;
+    ShardedMap::deal(alloc, &view)?.print(rt, &view)
+}
+
+/// Follows a desk through the changes.
+fn run<R: Wait + Print + Copy + Drop>(rt: R, alloc: Global, desk: &mut Desk<R>) -> Result<()> {
+    let mut changes = desk.subscribe(8)?;
+    let mut seat = seat(desk)?;
+    show(&rt, alloc, &mut seat)?;
     for number in CHANGES {
         let present = seat.stamp();
-        desk.step(decision(alloc, present.id(), number)?)?;
+        decide(desk, alloc, present.id(), number)?;
         follow(&rt, alloc, &mut changes, &mut seat)?;
     }
     Ok(())
+}
+
+fn main(rt: HostRuntime) -> Result<()> {
+    let alloc = rt.alloc();
+    let mut desk = open(&rt, alloc)?;
+    run(&rt, alloc, &mut desk)
 }
