@@ -134,33 +134,6 @@ fn a_cluster_lets_all_nodes_in(rt: HostRuntime) {
 }
 
 #[test]
-fn a_cluster_has_its_ranges(rt: HostRuntime) {
-    for (words, wanted) in [
-        (["rapidd", "cluster", "--nodes", "0", "--turns", "1"], 2),
-        (["rapidd", "cluster", "--nodes", "65", "--turns", "1"], 2),
-        (["rapidd", "cluster", "--nodes", "64", "--turns", "1"], 0),
-        (["rapidd", "cluster", "--workers", "0", "--turns", "1"], 2),
-        (["rapidd", "cluster", "--workers", "33", "--turns", "1"], 2),
-        (["rapidd", "cluster", "--workers", "32", "--turns", "1"], 0),
-        (["rapidd", "cluster", "--turns", "0", "--workers", "1"], 2),
-        (
-            ["rapidd", "cluster", "--turns", "10001", "--workers", "1"],
-            2,
-        ),
-        (["rapidd", "cluster", "--k", "17", "--turns", "1"], 2),
-        (["rapidd", "cluster", "--k", "256", "--turns", "1"], 2),
-        (["rapidd", "cluster", "--l", "4", "--h", "3"], 2),
-        (["rapidd", "cluster", "--l", "0", "--h", "3"], 2),
-        (["rapidd", "cluster", "--h", "3", "--l", "3"], 0),
-    ] {
-        let (status, out, err) = ran(&rt, rt.alloc(), &words, b"");
-        assert_eq!(rt; status, wanted);
-        assert_eq!(rt; out.is_empty(), wanted == 2);
-        assert_eq!(rt; err.is_empty(), wanted == 0);
-    }
-}
-
-#[test]
 fn answers_1_where_the_input_fails(rt: HostRuntime) {
     let mut reader = Faulty {
         input: b"batch\nbat",
