@@ -134,6 +134,20 @@ fn a_cluster_lets_all_nodes_in(rt: HostRuntime) {
 }
 
 #[test]
+fn a_cluster_has_its_ranges(rt: HostRuntime) {
+    for words in [
+        ["rapidd", "cluster", "--nodes", "65"],
+        ["rapidd", "cluster", "--workers", "33"],
+        ["rapidd", "cluster", "--turns", "10001"],
+        ["rapidd", "cluster", "--l", "10"],
+    ] {
+        let (status, out, err) = ran(&rt, rt.alloc(), &words, b"");
+        assert_eq!(rt; status, 2);
+        assert!(rt; out.is_empty() && !err.is_empty());
+    }
+}
+
+#[test]
 fn answers_1_where_the_input_fails(rt: HostRuntime) {
     let mut reader = Faulty {
         input: b"batch\nbat",
