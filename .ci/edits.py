@@ -1,11 +1,12 @@
 """Tries the edits crates/NAME/must-fail/*.edit: the prover must refuse each of them.
 
-The command `rt must-fail` tries them one by one, and each time it reads again all that the crate stands on. Here all
-edits of a crate that change different functions are tried in one check, and an edit counts as
-refused where the prover says that the very function which it changes is not proved, and names no
-function that it calls as the reason. What is left then, since a function calls another that is
-changed too, is tried again without the edits that are refused already. An edit that this leaves
-undecided, or that changes no function, is tried alone, as that command does it.
+The command `rt must-fail` tries them one by one, and each time reads again all that a crate stands
+on. Here the edits of a crate that change bodies of different functions are tried in one check, and
+an edit counts as refused where the prover says that the very function which it changes is not
+proved, and names no function that it calls as the reason. What is left then, since a function calls
+another that is changed too, is tried again without the edits that are refused already. An edit that
+this leaves undecided, or that changes more than bodies, is tried alone, as that command does it.
+That each crate is proved without any edit was seen before, by `rt ci` on the same tree.
 
 The commands, the edits and their checks are those of the toolchain's own rt, which is read as a
 library.
@@ -32,8 +33,8 @@ NAME = re.compile(r"`([^`]+)`")
 NAMES_GONE = re.compile(r"has no field|is not in scope|has no `|was not admitted")
 SAYS_LITTLE = "(only because a proof names what the edit took away, so this says little)"
 
-# An edit, the texts that it puts in place of others by file, and the functions that it changes: each
-# a module, the type of its impl, if any, and its name.
+# An edit, the texts that it puts in place of others by file, and the functions whose bodies it
+# changes: each a module, the type of its impl, if any, and its name.
 Edit = namedtuple("Edit", "path pairs functions")
 
 
@@ -136,8 +137,8 @@ def taken_apart(file, text):
 
 
 def changed_bodies(file, old, new):
-    """The functions whose bodies alone differ in two texts of a source file, of which the second may
-    have functions more; none where something else differs."""
+    """The functions whose bodies differ in two texts of a source file, of which the second may have
+    functions more; none where something else differs."""
     if not file.startswith("src/"):
         return set()
     (before, outside), (after, now) = taken_apart(file, old), taken_apart(file, new)
@@ -179,16 +180,17 @@ def applied(edits, folder):
 
 
 def is_of(function, crate, verdict):
-    """Whether a verdict's name is that of a function, or of a closure within it."""
+    """Whether a verdict's name is that of a function, or of a closure within it. The prover names
+    the methods of a type by the module of the type."""
     module, owner, name = function
-    path = f"{crate}::{module}::" if module else f"{crate}::"
+    modules = r"(?:\w+::)*" if owner else re.escape(f"{module}::" if module else "")
     owner = rf"{owner}\w*::" if owner else ""
-    inner = rf"(?:\+\w+::\w+|::\S+)?"
-    return re.fullmatch(rf"{re.escape(path)}(?:fn::)?{owner}{name}{inner}", verdict) is not None
+    inner = r"(?:\+\w+::\w+|::\S+)?"
+    return re.fullmatch(rf"{crate}::{modules}(?:fn::)?{owner}{name}{inner}", verdict) is not None
 
 
 def why_refused(edit, crate, said):
-    """What the prover says where it refuses a function that the edit changes, for no other's sake."""
+    """What the prover says where it refuses a function that the edit changes for its own sake."""
     for verdict, state, rest in VERDICT.findall(said):
         if state not in ("not proved", "no proof"):
             continue
@@ -236,7 +238,6 @@ def tried_together(rt, crate, edits, kept):
         whys = {it.path: why_refused(it, crate.name, ran.stdout) for it in done}
         found = {path: why for path, why in whys.items() if why}
         refused.update(found)
-        if os.environ.get("DEBUG_EDITS"): print(crate.name, len(left), len(done), len(found), len(only), [p.name for p,w in whys.items() if not w], flush=True)
         if not found:
             break
         left = [it for it in left if it.path not in found]
@@ -244,11 +245,10 @@ def tried_together(rt, crate, edits, kept):
 
 
 def try_edits(rt, crate, home):
-    """Whether each edit of a crate is refused, and what to say of it. The edits stand in the crate of
-    this name at home."""
+    """Whether each edit of a crate is refused, and what to say of it. Its edits stand at home."""
     at_home = type("AtHome", (), {"folder": str(home / "crates" / crate.name)})
     good, bad = rt.edits_of(at_home)
-    results = [(False, f"must-fail {crate.name}/{os.path.basename(it)}: BAD EDIT: no *.edit") for it in bad]
+    results = [(False, f"must-fail {crate.name}/{os.path.basename(it)}: no *.edit") for it in bad]
     well = [it for it in good if not rt.read_edit(it, crate.folder)[1]]
     edits = [read(Path(it), Path(crate.folder)) for it in well]
     many = [it for it in edits if it.functions]
@@ -284,5 +284,6 @@ def try_all(root, home, names=()):
 def in_lane(rt, crate, home, _given, _jobs):
     """Tries the edits of a crate and says what came of them; whether each was refused."""
     results = try_edits(rt, crate, home)
-    rt.say("\nrt: ".join([f"{crate.name}: its must-fail edits ({len(results)})", *(text for _, text in results)]))
+    lines = [f"{crate.name}: its must-fail edits ({len(results)})", *(text for _, text in results)]
+    rt.say("\nrt: ".join(lines))
     return [is_well for is_well, _ in results]
