@@ -1,4 +1,5 @@
-//! Tests of clerks. The crate has nothing else, so that they are not proved a second time for their tests.
+//! Tests of clerks. The crate has nothing else, so that they are not proved a second time for their
+//! tests.
 #![tactic(auto)]
 
 #[cfg(test)]
