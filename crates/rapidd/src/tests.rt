@@ -4,8 +4,11 @@ use crate::words::{run_words, without_words};
 use std::alloc::Global;
 use std::io;
 use std::io::{ErrorKind, Read, Write};
+use std::net::{Net, TcpListener, TcpStream};
+use std::random::RandomSource;
 use std::sync::Wait;
 use std::thread::Threads;
+use std::time::Clock;
 
 /// A reader that gives its bytes once, and then fails.
 #[derive(Drop)]
@@ -48,12 +51,15 @@ impl Write for Narrow {
 }
 
 /// The status and the two outputs of these words on this input.
-fn ran<R: Threads + Wait + Sync>(
-    rt: &R,
-    alloc: Global,
-    words: &[&str],
-    input: &[u8],
-) -> (u8, Vec<u8>, Vec<u8>) {
+fn ran<R>(rt: &R, alloc: Global, words: &[&str], input: &[u8]) -> (u8, Vec<u8>, Vec<u8>)
+where
+    R: Net<Listener = TcpListener, Stream = TcpStream>
+        + Threads
+        + Wait
+        + Clock
+        + RandomSource
+        + Sync,
+{
     let mut reader = input;
     let mut out = Vec::new(alloc);
     let mut err = Vec::new(alloc);
@@ -89,7 +95,7 @@ fn answers_with_its_statuses(rt: HostRuntime) {
         assert_eq!(rt; status, 0);
         assert!(rt; !out.is_empty() && err.is_empty());
     }
-    for command in ["detect", "sim", "cluster"] {
+    for command in ["detect", "sim", "cluster", "node"] {
         let (status, out, err) = ran(&rt, rt.alloc(), &["rapidd", command, "--help"], b"");
         assert_eq!(rt; status, 0);
         assert!(rt; out.len() > 400 && err.is_empty());

@@ -1,10 +1,12 @@
 //! The command line.
 
-ghost use Rattle.std.specs.Prelude.{◌≡◌, ◌≢◌, ◌≤◌, ◌<◌, ◌⊎◌, IfSome, OnOk, OnErr};
+ghost use Rattle.std.specs.Prelude.{◌≡◌, ◌≢◌, ◌≤◌, ◌<◌, ◌⊎◌, map, IfSome, OnOk, OnErr};
 ghost use Rattle.clap.specs.Words.{kind_of};
 ghost use Rattle.rapidd.specs.Jobs.{CanRun, Wrote, WroteFront};
+ghost use Rattle.rapidd.specs.NodeWords.{NamesNode};
 ghost use Rattle.rapidd.specs.Statuses.{run_status};
 
+use crate::node::{names_node, node, node_words, run_as_node};
 use clap::error::ErrorKind;
 use clap::{Arg, ArgAction, ArgMatches, Command, Error, value_parser};
 use rapid_cluster::run_cluster;
@@ -16,17 +18,20 @@ use std::alloc::{AllocError, Global};
 use std::convert::AsStr;
 use std::io;
 use std::io::{Read, Write};
+use std::net::{Net, TcpListener, TcpStream};
+use std::random::RandomSource;
 use std::sync::Wait;
 use std::thread::Threads;
+use std::time::Clock;
 
 /// All went well.
-const DONE: u8 = 0;
+pub(crate) const DONE: u8 = 0;
 
 /// Standard input or output failed.
 const FAILED: u8 = 1;
 
 /// The words were refused.
-const REFUSED: u8 = 2;
+pub(crate) const REFUSED: u8 = 2;
 
 /// There was no memory.
 const NO_MEMORY: u8 = 3;
@@ -34,7 +39,7 @@ const NO_MEMORY: u8 = 3;
 /// What `--help` says of the statuses.
 const STATUSES: &str =
     "Status: 0 at the end of the input and after help, 1 where standard input or output failed,
-2 where the words were refused, 3 for want of memory.";
+2 where the words were refused, 3 for want of memory. Of node see node --help.";
 
 /// What `detect --help` says of the lines.
 const DETECT_LINES: &str = "Lines:
@@ -106,7 +111,7 @@ enum Job {
 }
 
 /// An option whose value is a number.
-fn number<'a>(alloc: Global, name: &'a str, default: &'a str, help: &'a str) -> Arg<'a> {
+pub(crate) fn number<'a>(alloc: Global, name: &'a str, default: &'a str, help: &'a str) -> Arg<'a> {
     Arg::new(alloc, name)
         .long(name)
         .value_name("NUMBER")
@@ -160,7 +165,8 @@ fn grammar<'a>(alloc: Global) -> Result<Command<'a>, AllocError> {
         .subcommand_required(true)
         .subcommand(detect)?
         .subcommand(sim)?
-        .subcommand(cluster(alloc)?)
+        .subcommand(cluster(alloc)?)?
+        .subcommand(node(alloc)?)
 }
 
 /// The status of a run.
@@ -310,12 +316,8 @@ fn refuse<E: Write>(err: &mut E) -> u8
     REFUSED
 }
 
-/// Does what the words ask for, of which the first is the program's name, and answers the status.
-/// Where that is 0, either what the input prints by a command was written, and nothing else, or the
-/// input was not read, as for help. Where it is 1, a beginning of that was written, or the input was
-/// not read and help could not be written. Where it is 2 nothing was written, and where it is 3 a
-/// beginning of what the input prints.
-pub fn run_words<T: Threads + Wait + Sync, S: AsStr, R: Read, O: Write, E: Write>(
+/// Runs a node as the words of the program ask, and answers the status.
+fn run_node_words<T, S, R, O, E>(
     rt: &T,
     alloc: Global,
     words: &[S],
@@ -323,15 +325,65 @@ pub fn run_words<T: Threads + Wait + Sync, S: AsStr, R: Read, O: Write, E: Write
     out: &mut O,
     err: &mut E,
 ) -> u8
-    ensures written { result ≡ 0 →
-        ((job : Job) × Wrote job (R.remaining reader.old) (O.contents out.old) (O.contents out.new)) ⊎ (reader.new ≡ reader.old) }
-    ensures failed { result ≡ 1 →
-        ((job : Job) × WroteFront job (R.remaining reader.old) (O.contents out.old) (O.contents out.new)) ⊎ (reader.new ≡ reader.old) }
+where
+    T: Net<Listener = TcpListener, Stream = TcpStream>
+        + Threads
+        + Wait
+        + Clock
+        + RandomSource
+        + Sync,
+    S: AsStr,
+    R: Read + Send,
+    O: Write + Send,
+    E: Write,
     ensures refused { result ≡ 2 → out.new ≡ out.old }
-    ensures memory { result ≡ 3 →
-        (job : Job) × WroteFront job (R.remaining reader.old) (O.contents out.old) (O.contents out.new) }
     ensures status { result ≤ 3 }
 {
+    match matches_of(alloc, words) {
+        Err(error) => tell(&error, out, err),
+        Ok(matches) => match node_words(&matches) {
+            Some(asked) => run_as_node(rt, alloc, asked, reader, out, err),
+            None => refuse(err),
+        },
+    }
+}
+
+/// Does what the words ask for, of which the first is the program's name, and answers the status.
+/// Where that is 0, either what the input prints by a command was written, and nothing else, or the
+/// input was not read, as for help. Where it is 1, a beginning of that was written, or the input was
+/// not read and help could not be written. Where it is 2 nothing was written, and where it is 3 a
+/// beginning of what the input prints. Of what `node` writes nothing is said, unless it is refused.
+pub fn run_words<T, S, R, O, E>(
+    rt: &T,
+    alloc: Global,
+    words: &[S],
+    reader: &mut R,
+    out: &mut O,
+    err: &mut E,
+) -> u8
+where
+    T: Net<Listener = TcpListener, Stream = TcpStream>
+        + Threads
+        + Wait
+        + Clock
+        + RandomSource
+        + Sync,
+    S: AsStr,
+    R: Read + Send,
+    O: Write + Send,
+    E: Write,
+    ensures written { result ≡ 0 → NamesNode (map S.text words.now) ⊎
+        ((job : Job) × Wrote job (R.remaining reader.old) (O.contents out.old) (O.contents out.new)) ⊎ (reader.new ≡ reader.old) }
+    ensures failed { result ≡ 1 → NamesNode (map S.text words.now) ⊎
+        ((job : Job) × WroteFront job (R.remaining reader.old) (O.contents out.old) (O.contents out.new)) ⊎ (reader.new ≡ reader.old) }
+    ensures refused { result ≡ 2 → out.new ≡ out.old }
+    ensures memory { result ≡ 3 → NamesNode (map S.text words.now) ⊎
+        ((job : Job) × WroteFront job (R.remaining reader.old) (O.contents out.old) (O.contents out.new)) }
+    ensures status { result ≤ 3 }
+{
+    if names_node(words) {
+        return run_node_words(rt, alloc, words, reader, out, err);
+    }
     match matches_of(alloc, words) {
         Err(error) => tell(&error, out, err),
         Ok(matches) => match job_of(&matches) {

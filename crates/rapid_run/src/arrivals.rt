@@ -1,0 +1,22 @@
+// Messages from the peers.
+
+use rapid_node::Message;
+use rapid_service::{Post, Shared};
+use rapid_transport::Inbox;
+use std::sync::Wait;
+
+/// Hands the messages that come in on to the node, until it ends.
+#[derive(Drop)]
+pub(crate) struct Arrivals<'a, R: Wait + Copy + Drop, P: Post + Drop> {
+    pub shared: &'a Shared<R, P>,
+}
+
+impl<W: Wait, R: Wait + Copy + Drop, P: Post + Drop> Inbox<W> for Arrivals<'_, R, P> {
+    fn take(&self, rt: &W, message: Message) {
+        if self.shared.ending().has_come(rt) {
+            return;
+        }
+        let done = self.shared.receive(rt, message);
+        self.shared.goes_on(rt, done);
+    }
+}

@@ -1,0 +1,20 @@
+// Frames to the peers.
+
+use bytes::Bytes;
+use rapid_endpoint::Endpoint;
+use rapid_service::Post;
+use rapid_transport::Peers;
+use std::sync::Wait;
+
+/// Hands frames on to the senders of the peers. A frame that finds a queue full is lost, and the peers
+/// count it.
+#[derive(Drop)]
+pub(crate) struct Posts<'a> {
+    pub peers: &'a Peers,
+}
+
+impl Post for Posts<'_> {
+    fn post<W: Wait>(&mut self, rt: &W, to: Endpoint, frame: Bytes) {
+        let _ = self.peers.post(rt, to, frame);
+    }
+}

@@ -1,0 +1,109 @@
+// The threads of a node.
+
+use crate::arrivals::Arrivals;
+use rapid_service::{NodeFault, Post, Shared, run_lines, run_ticker};
+use rapid_transport::{Peers, SenderEnd};
+use std::alloc::Global;
+use std::io::{Read, Write};
+use std::net::{Net, TcpListener, TcpStream};
+use std::sync::Wait;
+use std::sync::atomic::{AtomicBool, Ordering};
+use std::thread::{self, Threads};
+use std::time::{Clock, Duration};
+
+/// Prints what is added to the console until that is closed. Where it cannot be written the node ends.
+fn print<W: Wait, R: Wait + Copy + Drop, P: Post + Drop, O: Write>(
+    rt: &W,
+    shared: &Shared<R, P>,
+    writer: &mut O,
+    unwritten: &AtomicBool,
+) {
+    if !shared.console().print(rt, writer) {
+        unwritten.store(true, Ordering::SeqCst);
+        shared.ending().end(rt, Some(NodeFault::Write));
+    }
+}
+
+/// Stops the peers once the node ends, whoever ends it.
+fn stop_at_the_end<W, R: Wait + Copy + Drop, P: Post + Drop>(
+    rt: &W,
+    shared: &Shared<R, P>,
+    peers: &Peers,
+) where
+    W: Net<Listener = TcpListener, Stream = TcpStream> + Wait + Clock,
+{
+    shared.ending().await_it(rt);
+    peers.stop(rt);
+}
+
+/// Ends the node since a thread of it was not to be had.
+fn give_up<W: Wait, R: Wait + Copy + Drop, P: Post + Drop>(rt: &W, shared: &Shared<R, P>) {
+    shared.ending().end(rt, Some(NodeFault::OutOfMemory));
+}
+
+/// Lets the node take lines, ticks and messages until it ends. It returns when the threads for that
+/// have ended; the caller's thread accepts connections.
+fn work<W, R, P, I>(
+    rt: &W,
+    alloc: Global,
+    peers: &Peers,
+    ends: Vec<SenderEnd>,
+    shared: &Shared<R, P>,
+    period: Duration,
+    reader: &mut I,
+) where
+    W: Net<Listener = TcpListener, Stream = TcpStream> + Threads + Wait + Clock + Sync,
+    R: Wait + Copy + Drop + Send + Sync,
+    P: Post + Drop + Send + Sync,
+    I: Read + Send,
+{
+    thread::scope(thread::scope_env(), rt, |scope| {
+        if scope.spawn(move || stop_at_the_end(rt, shared, peers)).is_err() {
+            return give_up(rt, shared);
+        }
+        if !period.is_zero() && scope.spawn(move || run_ticker(rt, shared, period)).is_err() {
+            return give_up(rt, shared);
+        }
+        if scope.spawn(move || run_lines(rt, alloc, shared, reader)).is_err() {
+            return give_up(rt, shared);
+        }
+        if peers.run(rt, alloc, ends, &Arrivals { shared }).is_err() {
+            give_up(rt, shared);
+        }
+    });
+}
+
+/// Runs the threads of a node until it ends, and says why it did. When it returns all have ended, and
+/// what was added to the console is printed.
+pub(crate) fn run_threads<W, R, P, I, O>(
+    rt: &W,
+    alloc: Global,
+    peers: &Peers,
+    ends: Vec<SenderEnd>,
+    shared: &Shared<R, P>,
+    period: Duration,
+    reader: &mut I,
+    writer: &mut O,
+) -> Result<(), NodeFault>
+where
+    W: Net<Listener = TcpListener, Stream = TcpStream> + Threads + Wait + Clock + Sync,
+    R: Wait + Copy + Drop + Send + Sync,
+    P: Post + Drop + Send + Sync,
+    I: Read + Send,
+    O: Write + Send,
+{
+    let unwritten = AtomicBool::new(false);
+    let failed = &unwritten;
+    thread::scope(thread::scope_env(), rt, |scope| {
+        if scope.spawn(move || print(rt, shared, writer, failed)).is_err() {
+            return give_up(rt, shared);
+        }
+        work(rt, alloc, peers, ends, shared, period, reader);
+        shared.console().close(rt);
+    });
+    shared.ending().outcome(rt)?;
+    if unwritten.load(Ordering::SeqCst) {
+        return Err(NodeFault::Write);
+    }
+    Ok(())
+}

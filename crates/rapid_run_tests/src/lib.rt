@@ -1,0 +1,6 @@
+//! Tests of running nodes. The crate has nothing else, so that the functions below it are not proved
+//! a second time for their tests.
+#![tactic(auto)]
+
+#[cfg(test)]
+mod rows;
