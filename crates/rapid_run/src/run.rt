@@ -3,7 +3,7 @@
 use crate::posts::Posts;
 use crate::threads::run_threads;
 use rapid_endpoint::Process;
-use rapid_service::{NodeFault, NodeOptions, Service, Shared, identify};
+use rapid_service::{NodeFault, NodeOptions, Post, Service, Shared, identify};
 use rapid_transport::{ListenError, Peers, SenderEnd};
 use std::alloc::Global;
 use std::io::{Read, Write};
@@ -30,13 +30,13 @@ where
 }
 
 /// The service of a process that founds a cluster or joins one.
-fn open<'a, R: Wait>(
+fn open<'a, 'b, R: Wait>(
     rt: &'a R,
     alloc: Global,
     options: &NodeOptions,
     me: Process,
-    peers: &'a Peers,
-) -> Result<Service<&'a R, Posts<'a>>, NodeFault> {
+    peers: &'b Peers,
+) -> Result<Service<&'a R, Posts<'b>>, NodeFault> {
     let posts = Posts { peers };
     match options.join {
         None => Service::found(rt, alloc, options.params, me, posts),
@@ -50,6 +50,38 @@ fn print_first<O: Write>(lines: &[u8], writer: &mut O) -> Result<(), NodeFault> 
         return Err(NodeFault::Write);
     }
     Ok(())
+}
+
+/// Runs the node of a service until it ends. The view with which it begins is printed first.
+fn serve<W, R, P, I, O>(
+    rt: &W,
+    alloc: Global,
+    peers: &Peers,
+    ends: Vec<SenderEnd>,
+    mut service: Service<R, P>,
+    period: Duration,
+    reader: &mut I,
+    writer: &mut O,
+) -> Result<(), NodeFault>
+where
+    W: Net<Listener = TcpListener, Stream = TcpStream> + Threads + Wait + Clock + Sync,
+    R: Wait + Copy + Drop + Send + Sync,
+    P: Post + Drop + Send + Sync,
+    I: Read + Send,
+    O: Write + Send,
+{
+    print_first(service.take_lines().as_slice(), writer)?;
+    let shared = Shared::new(alloc, service);
+    run_threads(
+        rt,
+        alloc,
+        peers,
+        ends,
+        &shared,
+        period,
+        &mut *reader,
+        &mut *writer,
+    )
 }
 
 /// Runs a node over loopback TCP until it ends: by the line `quit`, at the end of the input, or by a
@@ -81,11 +113,12 @@ where
     I: Read + Send,
     O: Write + Send,
 {
-    let me = Process::new(identify(options.id, source)?, options.listen);
+    let id = identify(options.id, source)?;
+    let me = Process::new(id, options.listen);
     let (peers, ends) = listen(rt, alloc, &options)?;
-    let mut service = open(rt, alloc, &options, me, &peers)?;
-    print_first(service.take_lines().as_slice(), writer)?;
-    let shared = Shared::new(alloc, service);
     let period = Duration::from_millis(u64::from(options.tick_ms));
-    run_threads(rt, alloc, &peers, ends, &shared, period, reader, writer)
+    match open(rt, alloc, &options, me, &peers) {
+        Ok(service) => serve(rt, alloc, &peers, ends, service, period, reader, writer),
+        Err(fault) => Err(fault),
+    }
 }

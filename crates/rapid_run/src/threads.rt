@@ -1,5 +1,7 @@
 // The threads of a node.
 
+ghost use Rattle.std.specs.Thread.{IsSend, IsSync};
+
 use crate::arrivals::Arrivals;
 use rapid_service::{NodeFault, Post, Shared, run_lines, run_ticker};
 use rapid_transport::{Peers, SenderEnd};
@@ -12,16 +14,26 @@ use std::thread::{self, Threads};
 use std::time::{Clock, Duration};
 
 /// Prints what is added to the console until that is closed. Where it cannot be written the node ends.
-fn print<W: Wait, R: Wait + Copy + Drop, P: Post + Drop, O: Write>(
+fn print<W: Wait, R: Wait + Copy + Drop, P: Post + Drop, O: Write + Drop>(
     rt: &W,
     shared: &Shared<R, P>,
-    writer: &mut O,
+    mut writer: O,
     unwritten: &AtomicBool,
 ) {
-    if !shared.console().print(rt, writer) {
+    if !shared.console().print(rt, &mut writer) {
         unwritten.store(true, Ordering::SeqCst);
         shared.ending().end(rt, Some(NodeFault::Write));
     }
+}
+
+/// Answers the lines of the input until it ends or the node does.
+fn answer<W: Wait, R: Wait + Copy + Drop, P: Post + Drop, I: Read + Drop>(
+    rt: &W,
+    alloc: Global,
+    shared: &Shared<R, P>,
+    mut reader: I,
+) {
+    run_lines(rt, alloc, shared, &mut reader);
 }
 
 /// Stops the peers once the node ends, whoever ends it.
@@ -29,7 +41,8 @@ fn stop_at_the_end<W, R: Wait + Copy + Drop, P: Post + Drop>(
     rt: &W,
     shared: &Shared<R, P>,
     peers: &Peers,
-) where
+)
+where
     W: Net<Listener = TcpListener, Stream = TcpStream> + Wait + Clock,
 {
     shared.ending().await_it(rt);
@@ -50,27 +63,40 @@ fn work<W, R, P, I>(
     ends: Vec<SenderEnd>,
     shared: &Shared<R, P>,
     period: Duration,
-    reader: &mut I,
-) where
+    reader: I,
+)
+where
     W: Net<Listener = TcpListener, Stream = TcpStream> + Threads + Wait + Clock + Sync,
     R: Wait + Copy + Drop + Send + Sync,
     P: Post + Drop + Send + Sync,
-    I: Read + Send,
+    I: Read + Send + Drop,
 {
-    thread::scope(thread::scope_env(), rt, |scope| {
-        if scope.spawn(move || stop_at_the_end(rt, shared, peers)).is_err() {
-            return give_up(rt, shared);
-        }
-        if !period.is_zero() && scope.spawn(move || run_ticker(rt, shared, period)).is_err() {
-            return give_up(rt, shared);
-        }
-        if scope.spawn(move || run_lines(rt, alloc, shared, reader)).is_err() {
-            return give_up(rt, shared);
-        }
-        if peers.run(rt, alloc, ends, &Arrivals { shared }).is_err() {
-            give_up(rt, shared);
-        }
-    });
+    thread::scope(
+        thread::scope_env(),
+        rt,
+        |scope|
+            requires { IsSync W.row × IsSend R.row × IsSync R.row × IsSend P.row × IsSync P.row × IsSend I.row }
+        {
+            if scope
+                .spawn(move || stop_at_the_end(rt, shared, peers))
+                .is_err()
+            {
+                return give_up(rt, shared);
+            }
+            if !period.is_zero() && scope.spawn(move || run_ticker(rt, shared, period)).is_err() {
+                return give_up(rt, shared);
+            }
+            if scope
+                .spawn(move || answer(rt, alloc, shared, reader))
+                .is_err()
+            {
+                return give_up(rt, shared);
+            }
+            if peers.run(rt, alloc, ends, &Arrivals { shared }).is_err() {
+                give_up(rt, shared);
+            }
+        },
+    );
 }
 
 /// Runs the threads of a node until it ends, and says why it did. When it returns all have ended, and
@@ -82,25 +108,34 @@ pub(crate) fn run_threads<W, R, P, I, O>(
     ends: Vec<SenderEnd>,
     shared: &Shared<R, P>,
     period: Duration,
-    reader: &mut I,
-    writer: &mut O,
+    reader: I,
+    writer: O,
 ) -> Result<(), NodeFault>
 where
     W: Net<Listener = TcpListener, Stream = TcpStream> + Threads + Wait + Clock + Sync,
     R: Wait + Copy + Drop + Send + Sync,
     P: Post + Drop + Send + Sync,
-    I: Read + Send,
-    O: Write + Send,
+    I: Read + Send + Drop,
+    O: Write + Send + Drop,
 {
     let unwritten = AtomicBool::new(false);
     let failed = &unwritten;
-    thread::scope(thread::scope_env(), rt, |scope| {
-        if scope.spawn(move || print(rt, shared, writer, failed)).is_err() {
-            return give_up(rt, shared);
-        }
-        work(rt, alloc, peers, ends, shared, period, reader);
-        shared.console().close(rt);
-    });
+    thread::scope(
+        thread::scope_env(),
+        rt,
+        |scope|
+            requires { IsSync W.row × IsSend R.row × IsSync R.row × IsSend P.row × IsSync P.row × IsSend I.row × IsSend O.row }
+        {
+            if scope
+                .spawn(move || print(rt, shared, writer, failed))
+                .is_err()
+            {
+                return give_up(rt, shared);
+            }
+            work(rt, alloc, peers, ends, shared, period, reader);
+            shared.console().close(rt);
+        },
+    );
     shared.ending().outcome(rt)?;
     if unwritten.load(Ordering::SeqCst) {
         return Err(NodeFault::Write);

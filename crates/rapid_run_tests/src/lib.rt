@@ -3,4 +3,8 @@
 #![tactic(auto)]
 
 #[cfg(test)]
+mod clusters;
+#[cfg(test)]
+mod devices;
+#[cfg(test)]
 mod rows;
