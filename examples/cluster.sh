@@ -55,6 +55,7 @@ echo "Five nodes, each of which prints every view that it enters:"
 show 0 1 2 3 4
 
 began=$(date +%s%N)
+disown "${pids[4]}"
 kill -9 "${pids[4]}"
 wait_for 4 0 1 2 3 || { echo "the others have not noticed:"; show 0 1 2 3; exit 1; }
 echo "Node 4 was killed. The others' last view, $((($(date +%s%N) - began) / 1000000)) ms later:"

@@ -1,6 +1,6 @@
 // The command `node`.
 
-ghost use Rattle.std.specs.Prelude.{◌≡◌, ◌≤◌, ◌<◌, map, IsTrue, IfSome};
+ghost use Rattle.std.specs.Prelude.{◌≡◌, ◌≤◌, true};
 ghost use Rattle.rapidd.specs.NodeWords.{NamesNode};
 
 use crate::words::{DONE, REFUSED, number};
@@ -83,11 +83,11 @@ pub(crate) fn node<'a>(alloc: Global) -> Result<Command<'a>, AllocError> {
 
 /// Whether the words of the program name the command `node`.
 pub(crate) fn names_node<S: AsStr>(words: &[S]) -> bool
-    ensures { IsTrue result (NamesNode (map S.text words.now)) }
+    ensures { result ≡ true → NamesNode S.text words.now }
 {
-    match words {
-        [_, command, ..] => command.as_str() == "node",
-        _ => false,
+    match words.get(1) {
+        Some(command) => command.as_str() == "node",
+        None => false,
     }
 }
 

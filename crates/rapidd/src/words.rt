@@ -1,6 +1,6 @@
 //! The command line.
 
-ghost use Rattle.std.specs.Prelude.{◌≡◌, ◌≢◌, ◌≤◌, ◌<◌, ◌⊎◌, map, IfSome, OnOk, OnErr};
+ghost use Rattle.std.specs.Prelude.{◌≡◌, ◌≢◌, ◌≤◌, ◌<◌, ◌⊎◌, IfSome, OnOk, OnErr};
 ghost use Rattle.clap.specs.Words.{kind_of};
 ghost use Rattle.rapidd.specs.Jobs.{CanRun, Wrote, WroteFront};
 ghost use Rattle.rapidd.specs.NodeWords.{NamesNode};
@@ -372,12 +372,12 @@ where
     R: Read + Send,
     O: Write + Send,
     E: Write,
-    ensures written { result ≡ 0 → NamesNode (map S.text words.now) ⊎
+    ensures written { result ≡ 0 → NamesNode S.text words.now ⊎
         ((job : Job) × Wrote job (R.remaining reader.old) (O.contents out.old) (O.contents out.new)) ⊎ (reader.new ≡ reader.old) }
-    ensures failed { result ≡ 1 → NamesNode (map S.text words.now) ⊎
+    ensures failed { result ≡ 1 → NamesNode S.text words.now ⊎
         ((job : Job) × WroteFront job (R.remaining reader.old) (O.contents out.old) (O.contents out.new)) ⊎ (reader.new ≡ reader.old) }
     ensures refused { result ≡ 2 → out.new ≡ out.old }
-    ensures memory { result ≡ 3 → NamesNode (map S.text words.now) ⊎
+    ensures memory { result ≡ 3 → NamesNode S.text words.now ⊎
         ((job : Job) × WroteFront job (R.remaining reader.old) (O.contents out.old) (O.contents out.new)) }
     ensures status { result ≤ 3 }
 {

@@ -1,0 +1,15 @@
+use lib.Pointwise.{bytes_decides}
+use Rattle.std.proofs.Common.{arith, ◌≡◌, ◌<◌, ◌∙◌, ap, codes, length, option_map, refl, slice_get, sym, Some, true, nat_lt}
+use Rattle.std.proofs.lemmas.Bool.Decides.{nat_tests}
+use Rattle.std.proofs.lemmas.Option.{slice_get_read}
+use Rattle.rapidd.proofs.node.names_node.Goals as goal
+
+pub returns-in-Some : goal.returns-in-Some
+returns-in-Some g c = λ named.
+    let inside : true ≡ nat_lt 1 (length c.args.words.now) = c.in-Some.ensures.lookup.0 in
+    let less : 1 < length c.args.words.now = grind (arith, nat_tests) in
+    let found : slice_get c.args.words.now 1 ≡ Some c.in-Some.command.now =
+        slice_get_read c.args.words.now (length c.args.words.now) 1 c.in-Some.command.now refl less c.in-Some.ensures.lookup.1 in
+    let text : g.S.AsStr.text c.in-Some.command.now ≡ codes "node" =
+        sym c.as_str.ensures ∙ (bytes_decides c.as_str.result.now (codes "node")).0 (sym c.eq.ensures ∙ named) in
+    ap (option_map g.S.AsStr.text) found ∙ ap Some text
