@@ -1,13 +1,36 @@
 //! The same work in plain Rust, as something to measure against: each figure is printed as `NAME NUMBER`, in nanoseconds for one unit of
 //! work or in bytes.
-use std::collections::BTreeMap;
 use std::hint::black_box;
 use std::time::Instant;
+use view::{Configuration, Params};
+use voting::FastRound;
 
+#[path = "plain/cluster.rs"]
+mod cluster;
+#[path = "plain/crashes.rs"]
+mod crashes;
+#[path = "plain/detect.rs"]
+mod detect;
+#[path = "plain/detector.rs"]
+mod detector;
 #[path = "plain/frames.rs"]
 mod frames;
+#[path = "plain/lines.rs"]
+mod lines;
 #[path = "plain/node.rs"]
 mod node;
+#[path = "plain/sim.rs"]
+mod sim;
+#[path = "plain/steps.rs"]
+mod steps;
+#[path = "plain/view.rs"]
+mod view;
+#[path = "plain/views.rs"]
+mod views;
+#[path = "plain/voting.rs"]
+mod voting;
+#[path = "plain/world.rs"]
+mod world;
 
 const ROUND_CONSTANTS: [u32; 64] = [
     0x428a2f98, 0x71374491, 0xb5c0fbcf, 0xe9b5dba5, 0x3956c25b, 0x59f111f1, 0x923f82a4, 0xab1c5ed5, 0xd807aa98, 0x12835b01, 0x243185be, 0x550c7dc3,
@@ -108,20 +131,13 @@ fn next_rings(old: &[Ring], gone: &Process, new: &Process) -> Vec<Ring> {
         .collect()
 }
 
-fn configuration_bytes(members: &[Process]) -> Vec<u8> {
-    let mut bytes = b"RPC1".to_vec();
-    bytes.extend([0; 40]);
-    bytes.extend([10, 9, 3]);
-    bytes.extend((members.len() as u16).to_be_bytes());
-    for p in members {
-        bytes.extend(p);
-    }
-    bytes
-}
-
 /// Reads a configuration, with its identifier; none where it is refused.
-fn from_bytes(bytes: &[u8]) -> Option<(Vec<Process>, [u8; 32])> {
+fn from_bytes(bytes: &[u8]) -> Option<Configuration> {
     if bytes.len() < 49 || &bytes[..4] != b"RPC1" {
+        return None;
+    }
+    let [k, h, l] = [bytes[44], bytes[45], bytes[46]];
+    if !(1 <= l && l <= h && h <= k && k <= 16) {
         return None;
     }
     let count = u16::from_be_bytes([bytes[47], bytes[48]]) as usize;
@@ -137,36 +153,13 @@ fn from_bytes(bytes: &[u8]) -> Option<(Vec<Process>, [u8; 32])> {
     if endpoints.windows(2).any(|w| w[0] == w[1]) {
         return None;
     }
-    let id = sha256(bytes);
-    Some((members, id))
-}
-
-/// The fast round of n members: a bit for each position heard and a counter for each value.
-#[derive(Clone)]
-struct FastRound {
-    size: usize,
-    heard: [u64; 16],
-    counts: BTreeMap<Vec<Process>, usize>,
-}
-
-impl FastRound {
-    fn hear(&mut self, position: usize, cut: &[Process]) -> bool {
-        if position >= self.size || self.heard[position / 64] >> (position % 64) & 1 == 1 {
-            return false;
-        }
-        self.heard[position / 64] |= 1 << (position % 64);
-        let count = match self.counts.get_mut(cut) {
-            Some(count) => {
-                *count += 1;
-                *count
-            }
-            None => {
-                self.counts.insert(cut.to_vec(), 1);
-                1
-            }
-        };
-        count == 3 * self.size / 4 + 1
-    }
+    Some(Configuration {
+        params: Params { k, h, l },
+        previous: bytes[4..36].try_into().unwrap(),
+        height: u64::from_be_bytes(bytes[36..44].try_into().unwrap()),
+        members,
+        id: sha256(bytes),
+    })
 }
 
 /// Prints how many nanoseconds one unit of the work takes, of which each run does so many, in the fastest of so many runs.
@@ -194,7 +187,7 @@ fn measure_bytes(name: &str, cuts: &[Vec<Process>]) {
     let mut rounds = Vec::with_capacity(ROUNDS as usize);
     let before = held();
     for _ in 0..ROUNDS {
-        let mut round = FastRound { size: 1024, heard: [0; 16], counts: BTreeMap::new() };
+        let mut round = FastRound::new(1024);
         for (position, cut) in (0..1024).zip(cuts.iter().cycle()) {
             black_box(round.hear(position, cut));
         }
@@ -203,10 +196,8 @@ fn measure_bytes(name: &str, cuts: &[Vec<Process>]) {
     println!("{name} {}", (held() - before) / ROUNDS);
 }
 
-fn main() {
-    if std::env::args().nth(1).as_deref() == Some("step_bytes") {
-        return node::measure_bytes();
-    }
+/// Prints the figures that need no process of their own.
+fn measure_all() {
     let members: Vec<Process> = (1..=1024).map(process).collect();
     measure("rings_new", 1, 20, || {
         black_box(rings(black_box(&members), 16));
@@ -215,14 +206,14 @@ fn main() {
     measure("rings_next", 1, 50, || {
         black_box(next_rings(black_box(&old), &members[500], &process(2000)));
     });
-    let bytes = configuration_bytes(&members);
+    let bytes = Configuration::seed(Params { k: 16, h: 9, l: 3 }, members).bytes();
     measure("from_bytes", 1, 500, || {
         black_box(from_bytes(black_box(&bytes)));
     });
     for size in [1, 10, 100] {
         let cut: Vec<Process> = (1..=size).map(process).collect();
         measure(&format!("votes_cut_{size}"), 1024, 200, || {
-            let mut round = FastRound { size: 1024, heard: [0; 16], counts: BTreeMap::new() };
+            let mut round = FastRound::new(1024);
             for position in 0..1024 {
                 black_box(round.hear(black_box(position), &cut));
             }
@@ -232,5 +223,27 @@ fn main() {
     measure_bytes("round_bytes_one_cut", &cuts[..1]);
     measure_bytes("round_bytes_own_cuts", &cuts);
     frames::measure_all();
-    node::measure_all();
+    steps::measure_all();
+}
+
+fn main() {
+    let words: Vec<String> = std::env::args().skip(1).collect();
+    let number = |place: usize| words[place].parse().unwrap();
+    match words.first().map(String::as_str) {
+        None => measure_all(),
+        Some("step_bytes") => steps::measure_bytes(),
+        Some("detect") => {
+            let mut run = detect::Run::default();
+            lines::answer_all(|line, out| run.answer(line, out));
+        }
+        Some("sim") => {
+            let mut run = sim::Simulator::default();
+            lines::answer_all(|line, out| run.answer(line, out));
+            eprintln!("events {}", run.accepted());
+        }
+        Some("cluster") => cluster::run(number(1), number(2) as usize, number(3) as usize),
+        Some("worlds") => crashes::measure(number(1), number(2)),
+        Some("views") => views::measure_all(),
+        Some(other) => panic!("no figure is called {other}"),
+    }
 }

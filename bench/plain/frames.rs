@@ -1,11 +1,9 @@
 //! Frames: messages as bytes, and a stream of bytes as messages.
-use crate::{configuration_bytes, from_bytes, measure, process, Process};
+use crate::view::{ConfigId, Configuration, Cut};
+use crate::voting::{Ballot, Vote};
+use crate::{from_bytes, measure, process, Process};
 use std::hint::black_box;
-
-pub type ConfigId = [u8; 32];
-
-/// From 1 to 1,536 processes, strictly ascending.
-pub type Cut = Vec<Process>;
+use std::sync::Arc;
 
 #[derive(Clone, Copy, PartialEq, Eq)]
 pub enum Kind {
@@ -22,12 +20,6 @@ pub struct Alert {
     pub config: ConfigId,
 }
 
-#[derive(Clone, Copy)]
-pub struct Ballot {
-    pub round: u8,
-    pub position: u16,
-}
-
 pub enum Answer {
     Safe(ConfigId, Vec<Process>),
     EndpointInUse,
@@ -39,14 +31,14 @@ pub enum Body {
     Batch(ConfigId, Vec<Alert>),
     FastVote(ConfigId, Cut),
     Prepare(ConfigId, Ballot),
-    Promise(ConfigId, Ballot, Option<(Ballot, Cut)>),
+    Promise(ConfigId, Ballot, Option<Vote>),
     Accept(ConfigId, Ballot, Cut),
     Accepted(ConfigId, Ballot, Cut),
     Decision(ConfigId, Cut),
     PreJoin,
     Reply(Process, Answer),
     JoinRequest(ConfigId, u8),
-    Confirm(Vec<Process>),
+    Confirm(Arc<Configuration>),
     Probe(ConfigId),
     ProbeAck(ConfigId),
 }
@@ -152,7 +144,7 @@ pub fn encode(message: &Message) -> Vec<u8> {
             out.extend_from_slice(id);
             out.push(*ring);
         }
-        Body::Confirm(members) => out.extend(configuration_bytes(members)),
+        Body::Confirm(config) => out.extend(config.bytes()),
         Body::Probe(id) | Body::ProbeAck(id) => out.extend_from_slice(id),
     }
     let length = out.len() as u32 - 4;
@@ -196,7 +188,7 @@ impl Reader<'_> {
         self.ballot().filter(|b| (2..=250).contains(&b.round) && b.position < 1024)
     }
 
-    fn report(&mut self) -> Option<Option<(Ballot, Cut)>> {
+    fn report(&mut self) -> Option<Option<Vote>> {
         match self.byte()? {
             0 => Some(None),
             1 => {
@@ -257,7 +249,7 @@ impl Reader<'_> {
             8 => Body::PreJoin,
             9 => Body::Reply(self.array()?, self.answer()?),
             10 => Body::JoinRequest(self.array()?, self.byte()?),
-            11 => Body::Confirm(from_bytes(std::mem::take(&mut self.0))?.0),
+            11 => Body::Confirm(Arc::new(from_bytes(std::mem::take(&mut self.0))?)),
             12 => Body::Probe(self.array()?),
             _ => Body::ProbeAck(self.array()?),
         })

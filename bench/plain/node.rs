@@ -1,356 +1,496 @@
-//! A member of a configuration: votes, batches of alerts and ticks. It takes part in no ballot and answers no joiners, and a
-//! decided cut is only kept: installing one is not measured.
-use crate::frames::{batch, every_ring, vote, Alert, Ballot, Body, ConfigId, Cut, Kind, Message};
-use crate::{configuration_bytes, held, key, process, rings, sha256, FastRound, Process, Ring};
-use std::collections::BTreeMap;
-use std::hint::black_box;
+//! One node of the service: how it joins, what it does as a member, and what it installs.
+use crate::frames::{Alert, Answer, Body, Kind, Message};
+use crate::detector::Detector;
+use crate::view::{collides, endpoint, ConfigId, Configuration, Cut, Endpoint, View, Views};
+use crate::voting::{Acceptor, Ballot, Coordinator, FastRound, Learner, Vote, FAST};
+use crate::Process;
+use std::collections::{BTreeMap, BTreeSet, HashSet, VecDeque};
 use std::sync::Arc;
-use std::time::Instant;
 
-const K: u8 = 16;
-const H: u32 = 9;
-const L: u32 = 3;
+const MOST_JOINERS: usize = 512;
+const MOST_ALERTS: usize = 2048;
+const KEPT_DECISIONS: usize = 64;
+const RESEND_PERIOD: u64 = 20;
+const ECHO_AGE: u8 = 40;
 
-/// A configuration, with who observes whom.
-struct View {
-    id: ConfigId,
-    members: Vec<Process>,
-    rings: Vec<Ring>,
-    // of each member, by ring
-    observers: Vec<[Process; K as usize]>,
-}
-
-impl View {
-    fn new(members: Vec<Process>) -> View {
-        let rings = rings(&members, K);
-        let mut observers = vec![[[0; 22]; K as usize]; members.len()];
-        for (number, ring) in rings.iter().enumerate() {
-            for (i, (_, subject)) in ring.iter().enumerate() {
-                let place = members.binary_search(subject).unwrap();
-                observers[place][number] = ring[(i + ring.len() - 1) % ring.len()].1;
-            }
-        }
-        View { id: sha256(&configuration_bytes(&members)), members, rings, observers }
-    }
-
-    fn position(&self, p: &Process) -> Option<usize> {
-        self.members.binary_search(p).ok()
-    }
-
-    fn observer(&self, number: u8, subject: &Process) -> Process {
-        if let Some(place) = self.position(subject) {
-            return self.observers[place][number as usize];
-        }
-        let ring = &self.rings[number as usize];
-        let seat = (key(number, subject), *subject);
-        let place = ring.partition_point(|x| *x < seat);
-        ring[(place + ring.len() - 1) % ring.len()].1
-    }
-
-    fn is_well_formed(&self, alert: &Alert) -> bool {
-        alert.config == self.id
-            && alert.ring < K
-            && (alert.kind == Kind::Remove) == self.position(&alert.subject).is_some()
-            && self.observer(alert.ring, &alert.subject) == alert.observer
-    }
-}
-
-/// The cut detector: a bit for each ring on which a process is reported or its report is implied.
-#[derive(Clone, Default)]
-struct Detector {
-    reports: BTreeMap<Process, u16>,
-    joiners: usize,
-    closed: bool,
-}
-
-impl Detector {
-    fn take(&mut self, view: &View, alert: &Alert) {
-        if !view.is_well_formed(alert) {
-            return;
-        }
-        if alert.kind == Kind::Join && !self.reports.contains_key(&alert.subject) {
-            if self.joiners == 512 {
-                return;
-            }
-            self.joiners += 1;
-        }
-        *self.reports.entry(alert.subject).or_default() |= 1 << alert.ring;
-    }
-
-    fn reaches_low(&self, p: &Process) -> bool {
-        self.reports.get(p).is_some_and(|rings| rings.count_ones() >= L)
-    }
-
-    /// Adds the reports that are implied: where the subject and its observer both have at least L.
-    fn close(&mut self, view: &View) {
-        loop {
-            let mut implied = Vec::new();
-            for (subject, rings) in self.reports.iter().filter(|(_, rings)| rings.count_ones() >= L) {
-                for ring in (0..K).filter(|ring| rings >> ring & 1 == 0) {
-                    if self.reaches_low(&view.observer(ring, subject)) {
-                        implied.push((*subject, ring));
-                    }
-                }
-            }
-            if implied.is_empty() {
-                return;
-            }
-            for (subject, ring) in implied {
-                *self.reports.entry(subject).or_default() |= 1 << ring;
-            }
-        }
-    }
-
-    fn unstable(&self) -> impl Iterator<Item = &Process> {
-        self.reports.iter().filter(|(_, rings)| (L..H).contains(&rings.count_ones())).map(|(p, _)| p)
-    }
-
-    fn batch(&mut self, view: &View, alerts: &[Alert]) -> Option<Cut> {
-        if self.closed {
-            return None;
-        }
-        for alert in alerts {
-            self.take(view, alert);
-        }
-        self.close(view);
-        if self.unstable().next().is_some() {
-            return None;
-        }
-        let stable: Cut = self.reports.iter().filter(|(_, rings)| rings.count_ones() >= H).map(|(p, _)| *p).collect();
-        self.closed = !stable.is_empty();
-        self.closed.then_some(stable)
-    }
-}
-
-enum Event {
+#[derive(Clone, Copy)]
+pub enum Event<'a> {
+    EdgeDown(ConfigId, u8, Process),
     Tick,
-    Receive(Message),
+    Receive(&'a Message),
 }
 
-/// A message to the other members.
-type Output = Message;
+pub enum Destination {
+    To(Endpoint),
+    /// To the other members of this view.
+    Others(Arc<View>),
+}
 
+/// What a node sends in a step.
+pub type Outputs = Vec<(Destination, Arc<Message>)>;
+
+/// The alerts of a member.
+#[derive(Clone, Default)]
+struct Outbox {
+    raised: Vec<Alert>,
+    seen: HashSet<(Process, u8)>,
+    joiners: BTreeSet<Process>,
+    flushed: usize,
+}
+
+/// A member in its configuration.
 #[derive(Clone)]
-struct Node {
+pub struct Member {
     me: Process,
     place: usize,
     view: Arc<View>,
     detector: Detector,
-    round: FastRound,
+    fast: FastRound,
+    acceptor: Acceptor,
+    coordinator: Coordinator,
+    learner: Learner,
+    outbox: Outbox,
+    // the joiners that wait for an answer here
+    pending: BTreeSet<Process>,
     proposal: Option<Cut>,
-    decided: Option<Cut>,
+    voted: bool,
     tick: u64,
     first_vote: Option<u64>,
     ages: BTreeMap<Process, u8>,
-    raised: Vec<Alert>,
-    flushed: usize,
-    round_begun: u8,
 }
 
-impl Node {
-    fn new(view: Arc<View>, me: Process) -> Node {
-        let round = FastRound { size: view.members.len(), heard: [0; 16], counts: BTreeMap::new() };
-        Node {
+/// The cut that was decided, if one was.
+type Decided = Option<Cut>;
+
+impl Member {
+    fn new(view: Arc<View>, me: Process) -> Member {
+        Member {
             me,
-            place: view.position(&me).unwrap(),
-            view,
+            place: view.config.position(&me).unwrap(),
             detector: Detector::default(),
-            round,
+            fast: FastRound::new(view.config.members.len()),
+            acceptor: Acceptor::new(),
+            coordinator: Coordinator::default(),
+            learner: Learner::default(),
+            outbox: Outbox::default(),
+            pending: BTreeSet::new(),
             proposal: None,
-            decided: None,
+            voted: false,
             tick: 0,
             first_vote: None,
             ages: BTreeMap::new(),
-            raised: Vec::new(),
-            flushed: 0,
-            round_begun: 0,
+            view,
         }
     }
 
-    fn take_vote(&mut self, place: usize, cut: &[Process]) {
-        self.first_vote.get_or_insert(self.tick);
-        if self.round.hear(place, cut) {
-            self.decided = Some(cut.to_vec());
+    fn id(&self) -> ConfigId {
+        self.view.config.id
+    }
+
+    fn size(&self) -> usize {
+        self.view.config.members.len()
+    }
+
+    fn say(&self, out: &mut Outputs, to: &Process, body: Body) {
+        out.push((Destination::To(endpoint(to)), Arc::new(Message { sender: self.me, body })));
+    }
+
+    fn say_all(&self, out: &mut Outputs, body: Body) {
+        let others = Destination::Others(self.view.clone());
+        out.push((others, Arc::new(Message { sender: self.me, body })));
+    }
+
+    fn raise(&mut self, alert: Alert) {
+        let view = &self.view;
+        let fits = (alert.kind == Kind::Remove) == view.is_member(&alert.subject);
+        let has_room = alert.kind == Kind::Remove
+            || self.outbox.joiners.contains(&alert.subject)
+            || self.outbox.joiners.len() < MOST_JOINERS;
+        let own = alert.ring < view.k() && view.observer(alert.ring, &alert.subject) == Some(self.me);
+        if alert.config != view.config.id || !own || !fits || !has_room {
+            return;
         }
-    }
-
-    fn say(&self, out: &mut Vec<Output>, body: Body) {
-        out.push(Message { sender: self.me, body });
-    }
-
-    fn take_batch(&mut self, out: &mut Vec<Output>, alerts: &[Alert]) {
-        if let Some(cut) = self.detector.batch(&self.view, alerts) {
-            self.say(out, Body::FastVote(self.view.id, cut.clone()));
-            self.take_vote(self.place, &cut);
-            self.proposal = Some(cut);
-        }
-    }
-
-    fn receive(&mut self, out: &mut Vec<Output>, message: &Message) {
-        match &message.body {
-            Body::Batch(id, alerts) if *id == self.view.id => self.take_batch(out, alerts),
-            Body::FastVote(id, cut) if *id == self.view.id => {
-                if let Some(place) = self.view.position(&message.sender) {
-                    self.take_vote(place, cut);
-                }
+        if self.outbox.seen.insert((alert.subject, alert.ring)) {
+            if alert.kind == Kind::Join {
+                self.outbox.joiners.insert(alert.subject);
             }
-            _ => {}
+            self.outbox.raised.push(alert);
         }
     }
 
-    fn raise_on(&mut self, subject: Process) {
-        for ring in (0..K).filter(|ring| self.view.observer(*ring, &subject) == self.me) {
-            let kind = if self.view.position(&subject).is_some() { Kind::Remove } else { Kind::Join };
-            let alert = Alert { observer: self.me, subject, ring, kind, config: self.view.id };
-            if !self.raised.iter().any(|a| a.ring == ring && a.subject == subject) {
-                self.raised.push(alert);
+    fn raise_on(&mut self, subject: Process, ring: u8) {
+        let kind = if self.view.is_member(&subject) { Kind::Remove } else { Kind::Join };
+        self.raise(Alert { observer: self.me, subject, ring, kind, config: self.id() });
+    }
+
+    fn take_vote(&mut self, place: usize, cut: &Cut) -> Decided {
+        self.first_vote.get_or_insert(self.tick);
+        self.fast.hear(place, cut).then(|| cut.clone())
+    }
+
+    fn take_batch(&mut self, out: &mut Outputs, alerts: &[Alert]) -> Decided {
+        let cut = self.detector.batch(&self.view, alerts)?;
+        self.proposal = Some(cut.clone());
+        if !self.acceptor.accept(FAST, &cut) {
+            return None;
+        }
+        self.voted = true;
+        self.say_all(out, Body::FastVote(self.id(), cut.clone()));
+        self.take_vote(self.place, &cut)
+    }
+
+    fn take_accepted(&mut self, place: usize, ballot: Ballot, cut: &Cut) -> Decided {
+        self.learner.hear(self.size(), place, ballot, cut).then(|| cut.clone())
+    }
+
+    fn take_accept(&mut self, out: &mut Outputs, ballot: Ballot, cut: &Cut) -> Decided {
+        if !self.acceptor.accept(ballot, cut) {
+            return None;
+        }
+        self.say_all(out, Body::Accepted(self.id(), ballot, cut.clone()));
+        self.take_accepted(self.place, ballot, cut)
+    }
+
+    fn take_promise(
+        &mut self,
+        out: &mut Outputs,
+        place: usize,
+        ballot: Ballot,
+        vote: Option<Vote>,
+    ) -> Decided {
+        let (size, own) = (self.size(), self.proposal.as_ref());
+        let cut = self.coordinator.hear(size, place, ballot, vote, own)?;
+        self.say_all(out, Body::Accept(self.id(), ballot, cut.clone()));
+        self.take_accept(out, ballot, &cut)
+    }
+
+    fn take_prepare(&mut self, out: &mut Outputs, from: &Process, ballot: Ballot) -> Decided {
+        let vote = self.acceptor.promise(ballot)?;
+        if *from == self.me {
+            return self.take_promise(out, self.place, ballot, vote);
+        }
+        self.say(out, from, Body::Promise(self.id(), ballot, vote));
+        None
+    }
+
+    /// Takes a message about its configuration.
+    fn take(&mut self, out: &mut Outputs, from: &Process, body: &Body) -> Decided {
+        let position = self.view.config.position(from);
+        let is_of = |ballot: &Ballot| position == Some(ballot.position as usize);
+        match body {
+            Body::Batch(_, alerts) => self.take_batch(out, alerts),
+            Body::FastVote(_, cut) => self.take_vote(position?, cut),
+            Body::Prepare(_, ballot) if is_of(ballot) => self.take_prepare(out, from, *ballot),
+            Body::Promise(_, ballot, vote) => self.take_promise(out, position?, *ballot, vote.clone()),
+            Body::Accept(_, ballot, cut) if is_of(ballot) => self.take_accept(out, *ballot, cut),
+            Body::Accepted(_, ballot, cut) => self.take_accepted(position?, *ballot, cut),
+            Body::Decision(_, cut) => Some(cut.clone()),
+            _ => None,
+        }
+    }
+
+    /// Answers a joiner, if there is an answer that is the same on every ring.
+    fn answer(&self, joiner: &Process) -> Option<Answer> {
+        if collides(&self.view.config.members, joiner) {
+            return Some(Answer::EndpointInUse);
+        }
+        let is_full = !self.pending.contains(joiner) && self.pending.len() >= MOST_JOINERS;
+        is_full.then_some(Answer::TooManyJoiners)
+    }
+
+    fn reply(&self, out: &mut Outputs, joiner: &Process, answer: Answer) {
+        self.say(out, joiner, Body::Reply(*joiner, answer));
+    }
+
+    fn confirm(&self, out: &mut Outputs, joiner: &Process, config: &Arc<Configuration>) {
+        self.say(out, joiner, Body::Confirm(config.clone()));
+    }
+
+    fn pre_join(&self, out: &mut Outputs, joiner: &Process) {
+        if self.view.is_member(joiner) {
+            return self.confirm(out, joiner, &self.view.config);
+        }
+        let safe = || Answer::Safe(self.id(), self.view.observers(joiner));
+        self.reply(out, joiner, self.answer(joiner).unwrap_or_else(safe));
+    }
+
+    fn join_request(&mut self, out: &mut Outputs, joiner: &Process, id: &ConfigId, ring: u8) {
+        if self.view.is_member(joiner) {
+            return self.confirm(out, joiner, &self.view.config);
+        }
+        if *id != self.id() {
+            return self.reply(out, joiner, Answer::ConfigurationChanged);
+        }
+        let observes = ring < self.view.k() && self.view.observer(ring, joiner) == Some(self.me);
+        match self.answer(joiner) {
+            Some(Answer::EndpointInUse) => self.reply(out, joiner, Answer::EndpointInUse),
+            _ if !observes => {}
+            Some(answer) => self.reply(out, joiner, answer),
+            None => {
+                self.pending.insert(*joiner);
+                self.raise_on(*joiner, ring);
             }
         }
     }
 
     fn age(&mut self) {
-        let ages = self.detector.unstable().map(|p| (*p, self.ages.get(p).map_or(1, |age| (age + 1).min(41))));
-        self.ages = ages.collect();
-        let due: Vec<Process> = self.ages.iter().filter(|(_, age)| **age == 40).map(|(p, _)| *p).collect();
+        let older = |p: &Process| self.ages.get(p).map_or(1, |age| (age + 1).min(ECHO_AGE + 1));
+        let ages = self.detector.unstable(&self.view).map(|p| (*p, older(p))).collect();
+        self.ages = ages;
+        let is_due = |age: &u8| *age == ECHO_AGE;
+        let due: Vec<Process> =
+            self.ages.iter().filter(|(_, age)| is_due(age)).map(|(p, _)| *p).collect();
         for subject in due {
-            self.raise_on(subject);
+            for ring in 0..self.view.k() {
+                if self.view.observer(ring, &subject) == Some(self.me) {
+                    self.raise_on(subject, ring);
+                }
+            }
         }
     }
 
-    fn on_tick(&mut self, out: &mut Vec<Output>) {
+    fn repeat(&mut self, out: &mut Outputs) {
+        self.outbox.flushed = 0;
+        if let (true, Some(cut)) = (self.voted, &self.proposal) {
+            self.say_all(out, Body::FastVote(self.id(), cut.clone()));
+        }
+    }
+
+    fn send_batch(&mut self, out: &mut Outputs) -> Decided {
+        let end = self.outbox.raised.len().min(self.outbox.flushed + MOST_ALERTS);
+        if self.outbox.flushed == end {
+            return None;
+        }
+        let alerts = self.outbox.raised[self.outbox.flushed..end].to_vec();
+        self.outbox.flushed = end;
+        self.say_all(out, Body::Batch(self.id(), alerts.clone()));
+        self.take_batch(out, &alerts)
+    }
+
+    fn recover(&mut self, out: &mut Outputs) -> Decided {
+        let patience = RESEND_PERIOD + 4 * self.place as u64;
+        let first = self.first_vote?;
+        if first >= self.tick || (self.tick - first) % patience != 0 {
+            return None;
+        }
+        let ballot = self.coordinator.begin(self.place, self.acceptor.promised)?;
+        self.say_all(out, Body::Prepare(self.id(), ballot));
+        let me = self.me;
+        self.take_prepare(out, &me, ballot)
+    }
+
+    fn on_tick(&mut self, out: &mut Outputs) -> Decided {
         self.tick = self.tick.saturating_add(1);
         self.age();
-        if self.tick % 20 == 0 {
-            self.flushed = 0;
-            if let Some(cut) = &self.proposal {
-                self.say(out, Body::FastVote(self.view.id, cut.clone()));
+        if self.tick % RESEND_PERIOD == 0 {
+            self.repeat(out);
+        }
+        self.send_batch(out).or_else(|| self.recover(out))
+    }
+
+    /// Tells the pending joiners what comes after its configuration.
+    fn confirm_all(&self, out: &mut Outputs, next: &Arc<Configuration>) {
+        for joiner in &self.pending {
+            if next.position(joiner).is_some() {
+                self.confirm(out, joiner, next);
+            } else {
+                self.reply(out, joiner, Answer::ConfigurationChanged);
             }
         }
-        let end = self.raised.len().min(self.flushed + 2048);
-        if self.flushed < end {
-            let alerts = self.raised[self.flushed..end].to_vec();
-            self.flushed = end;
-            self.take_batch(out, &alerts);
-            self.say(out, Body::Batch(self.view.id, alerts));
-        }
-        let patience = 20 + 4 * self.place as u64;
-        if self.first_vote.is_some_and(|first| first < self.tick && (self.tick - first) % patience == 0) && self.round_begun < 250 {
-            self.round_begun = self.round_begun.max(1) + 1;
-            self.say(out, Body::Prepare(self.view.id, Ballot { round: self.round_begun, position: self.place as u16 }));
+    }
+}
+
+#[derive(Clone)]
+pub enum Phase {
+    Joining { seed: Endpoint, ticks: u8 },
+    Member(Box<Member>),
+    Removed(Arc<Configuration>),
+}
+
+/// What is kept of a configuration that was installed.
+#[derive(Clone)]
+pub struct Stamp {
+    pub height: u64,
+    pub id: ConfigId,
+}
+
+#[derive(Clone)]
+pub struct Node {
+    pub me: Process,
+    phase: Phase,
+    pub installed: Vec<Stamp>,
+    decisions: VecDeque<(ConfigId, Cut)>,
+}
+
+/// The configuration for which a message is answered with a decision, once that was left.
+fn about(body: &Body) -> Option<ConfigId> {
+    match body {
+        Body::Batch(id, _)
+        | Body::FastVote(id, _)
+        | Body::Prepare(id, _)
+        | Body::Promise(id, ..)
+        | Body::Accept(id, ..)
+        | Body::Accepted(id, ..)
+        | Body::Probe(id) => Some(*id),
+        _ => None,
+    }
+}
+
+impl Node {
+    fn new(me: Process, phase: Phase) -> Node {
+        Node { me, phase, installed: Vec::new(), decisions: VecDeque::new() }
+    }
+
+    /// The node of a founder.
+    pub fn founder(view: Arc<View>, me: Process) -> Node {
+        let stamp = Stamp { height: view.config.height, id: view.config.id };
+        let mut node = Node::new(me, Phase::Member(Box::new(Member::new(view, me))));
+        node.installed.push(stamp);
+        node
+    }
+
+    /// The node of a process that asks a seed to let it in.
+    pub fn joiner(me: Process, seed: Endpoint) -> Node {
+        Node::new(me, Phase::Joining { seed, ticks: 0 })
+    }
+
+    /// What it is a member of, and its place there.
+    pub fn membership(&self) -> Option<(&Arc<View>, usize)> {
+        match &self.phase {
+            Phase::Member(member) => Some((&member.view, member.place)),
+            _ => None,
         }
     }
 
-    fn step(&mut self, event: &Event) -> Vec<Output> {
+    pub fn configuration(&self) -> Option<&Arc<Configuration>> {
+        match &self.phase {
+            Phase::Joining { .. } => None,
+            Phase::Member(member) => Some(&member.view.config),
+            Phase::Removed(config) => Some(config),
+        }
+    }
+
+    fn install(&mut self, views: &mut Views, out: &mut Outputs, cut: Cut) {
+        let Phase::Member(member) = &self.phase else {
+            return;
+        };
+        let next = views.after(&member.view, &cut);
+        member.confirm_all(out, &next.config);
+        if self.decisions.len() == KEPT_DECISIONS {
+            self.decisions.pop_front();
+        }
+        self.decisions.push_back((member.id(), cut));
+        self.installed.push(Stamp { height: next.config.height, id: next.config.id });
+        self.phase = if next.is_member(&self.me) {
+            Phase::Member(Box::new(Member::new(next, self.me)))
+        } else {
+            Phase::Removed(next.config.clone())
+        };
+    }
+
+    /// Answers a message for a configuration that was left with the cut decided there.
+    fn catch_up(&self, out: &mut Outputs, message: &Message) {
+        let Some(id) = about(&message.body) else {
+            return;
+        };
+        if let Some((_, cut)) = self.decisions.iter().find(|(left, _)| *left == id) {
+            let body = Body::Decision(id, cut.clone());
+            let answer = Message { sender: self.me, body };
+            out.push((Destination::To(endpoint(&message.sender)), Arc::new(answer)));
+        }
+    }
+
+    fn member_receives(&mut self, out: &mut Outputs, message: &Message) -> Decided {
+        let Phase::Member(member) = &mut self.phase else {
+            return None;
+        };
+        let from = &message.sender;
+        match &message.body {
+            Body::PreJoin => member.pre_join(out, from),
+            Body::JoinRequest(id, ring) => member.join_request(out, from, id, *ring),
+            Body::Decision(id, cut) if *id == member.id() => return Some(cut.clone()),
+            Body::Decision(..) => {}
+            body => {
+                if let Body::Probe(_) = body {
+                    member.say(out, from, Body::ProbeAck(member.id()));
+                }
+                if about(body) == Some(member.id()) {
+                    return member.take(out, from, body);
+                }
+                self.catch_up(out, message);
+            }
+        }
+        None
+    }
+
+    fn joiner_receives(&mut self, views: &mut Views, out: &mut Outputs, message: &Message) {
+        let Phase::Joining { seed, .. } = &self.phase else {
+            return;
+        };
+        let mut say = |to: Endpoint, body: Body| {
+            out.push((Destination::To(to), Arc::new(Message { sender: self.me, body })))
+        };
+        match &message.body {
+            Body::Reply(who, Answer::Safe(id, observers)) if *who == self.me => {
+                for (ring, observer) in (0..).zip(observers) {
+                    say(endpoint(observer), Body::JoinRequest(*id, ring));
+                }
+            }
+            Body::Reply(who, Answer::ConfigurationChanged) if *who == self.me => {
+                say(*seed, Body::PreJoin);
+            }
+            Body::Confirm(config) if config.position(&self.me).is_some() => {
+                *self = Node::founder(views.of(config), self.me);
+            }
+            _ => {}
+        }
+    }
+
+    fn receive(&mut self, views: &mut Views, out: &mut Outputs, message: &Message) -> Decided {
+        match &self.phase {
+            Phase::Joining { .. } => self.joiner_receives(views, out, message),
+            Phase::Member(_) => return self.member_receives(out, message),
+            Phase::Removed(_) => self.catch_up(out, message),
+        }
+        None
+    }
+
+    fn on_tick(&mut self, out: &mut Outputs) -> Decided {
+        match &mut self.phase {
+            Phase::Joining { seed, ticks } => {
+                if *ticks == 0 {
+                    let asks = Message { sender: self.me, body: Body::PreJoin };
+                    out.push((Destination::To(*seed), Arc::new(asks)));
+                }
+                *ticks = (*ticks + 1) % 10;
+                None
+            }
+            Phase::Member(member) => member.on_tick(out),
+            Phase::Removed(_) => None,
+        }
+    }
+
+    fn on_edge_down(&mut self, config: ConfigId, ring: u8, subject: Process) {
+        if let Phase::Member(member) = &mut self.phase {
+            let observer = member.me;
+            member.raise(Alert { observer, subject, ring, kind: Kind::Remove, config });
+        }
+    }
+
+    /// Takes an event, by views that nodes share, and gives out what it sends.
+    pub fn step(&mut self, views: &mut Views, event: &Event) -> Outputs {
         let mut out = Vec::new();
-        match event {
+        let decided = match event {
+            Event::EdgeDown(config, ring, subject) => {
+                self.on_edge_down(*config, *ring, *subject);
+                None
+            }
             Event::Tick => self.on_tick(&mut out),
-            Event::Receive(message) => self.receive(&mut out, message),
+            Event::Receive(message) => self.receive(views, &mut out, message),
+        };
+        if let Some(cut) = decided {
+            self.install(views, &mut out, cut);
         }
         out
-    }
-}
-
-/// Events that so many copies of a node take in a run, each from the same start.
-struct Steps {
-    name: String,
-    start: Node,
-    events: Vec<Event>,
-    copies: usize,
-}
-
-impl Steps {
-    fn new(name: String, start: &Node, events: Vec<Event>) -> Steps {
-        let copies = (1000 / events.len()).max(2);
-        Steps { name, start: start.clone(), events, copies }
-    }
-
-    fn take(&self, nodes: &mut [Node]) {
-        for node in nodes {
-            for event in &self.events {
-                black_box(node.step(black_box(event)));
-            }
-        }
-    }
-
-    fn count(&self) -> usize {
-        self.copies * self.events.len()
-    }
-
-    fn print_time(&self) {
-        let mut least = u128::MAX;
-        for _ in 0..50 {
-            let mut nodes = vec![self.start.clone(); self.copies];
-            let start = Instant::now();
-            self.take(&mut nodes);
-            least = least.min(start.elapsed().as_nanos());
-        }
-        println!("{} {}", self.name, least / self.count() as u128);
-    }
-
-    fn print_held(&self) {
-        let mut nodes = vec![self.start.clone(); self.copies];
-        let before = held();
-        self.take(&mut nodes);
-        println!("{}_bytes {}", self.name, (held() - before) / self.count() as u64);
-    }
-}
-
-fn founder(members: u16) -> Node {
-    let view = View::new((1..=members).map(process).collect());
-    Node::new(Arc::new(view), process(1))
-}
-
-fn one_batch(node: &Node, observer: Process, subjects: &[(u8, Process)]) -> Vec<Event> {
-    vec![Event::Receive(batch(observer, node.view.id, subjects))]
-}
-
-fn alerts_on_one(node: &Node) -> Vec<Event> {
-    let subject = process(3);
-    let observer = node.view.observer(0, &subject);
-    let subjects: Vec<_> = (0..K).filter(|ring| node.view.observer(*ring, &subject) == observer).map(|ring| (ring, subject)).collect();
-    one_batch(node, observer, &subjects)
-}
-
-/// The node after eight reports on each of the twenty members from 11 on, a batch each.
-fn reported(node: &Node) -> Node {
-    let mut node = node.clone();
-    for n in 11..=30 {
-        for ring in 0..8 {
-            let observer = node.view.observer(ring, &process(n));
-            for event in one_batch(&node, observer, &[(ring, process(n))]) {
-                node.step(&event);
-            }
-        }
-    }
-    node
-}
-
-fn all_steps() -> Vec<Steps> {
-    let mut all = Vec::new();
-    for members in [5, 100, 1024] {
-        let node = founder(members);
-        let votes = (2..members / 4 * 3 + 2).map(|n| Event::Receive(vote(process(n), node.view.id, 10))).collect();
-        all.push(Steps::new(format!("vote_step_{members}"), &node, votes));
-        all.push(Steps::new(format!("batch_step_{members}"), &node, alerts_on_one(&node)));
-        all.push(Steps::new(format!("tick_step_{members}"), &node, (0..19).map(|_| Event::Tick).collect()));
-    }
-    let node = founder(1024);
-    let start = reported(&node);
-    let events = alerts_on_one(&node);
-    all.push(Steps { name: "late_batch_step_1024".into(), start, events, copies: 20 });
-    let events = one_batch(&node, process(3), &every_ring());
-    all.push(Steps { name: "great_batch_step_1024".into(), start: node, events, copies: 20 });
-    all
-}
-
-pub fn measure_all() {
-    for steps in all_steps() {
-        steps.print_time();
-    }
-}
-
-pub fn measure_bytes() {
-    for steps in all_steps() {
-        steps.print_held();
     }
 }

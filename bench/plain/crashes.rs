@@ -1,0 +1,70 @@
+//! A world of founders of which some crash, until all others have installed the next view.
+use crate::process;
+use crate::sim::losing;
+use crate::view::Params;
+use crate::world::{id_of, ProcessId, World, WorldEvent};
+use std::time::Instant;
+
+/// The parameters of the world.
+const PARAMS: Params = Params { k: 10, h: 9, l: 3 };
+
+/// The greatest memory that the process held, in bytes.
+fn peak() -> u64 {
+    let status = std::fs::read_to_string("/proc/self/status").unwrap();
+    let kibibytes = status.split_whitespace().skip_while(|word| *word != "VmHWM:").nth(1).unwrap();
+    kibibytes.parse::<u64>().unwrap() * 1024
+}
+
+/// Makes an event happen, and answers how many installed by it.
+fn step(world: &mut World, event: &WorldEvent) -> usize {
+    world.step(event).unwrap().is_some() as usize
+}
+
+/// Those of the crashed: evenly spread over the founders.
+fn crashed(founders: u16, crashes: u16) -> Vec<ProcessId> {
+    (0..crashes).map(|i| id_of(&process(i * (founders / crashes) + 7))).collect()
+}
+
+/// Some crash, and the others lose them; all tick, and packets are delivered in order until all have installed.
+fn run(world: &mut World, crashed: &[ProcessId]) {
+    for id in crashed {
+        step(world, &WorldEvent::Crash(*id));
+    }
+    for id in crashed {
+        for event in losing(world, PARAMS.k, id) {
+            step(world, &event);
+        }
+    }
+    let running: Vec<ProcessId> = world.running().iter().copied().collect();
+    let mut left = running.len();
+    for id in &running {
+        left -= step(world, &WorldEvent::Tick(*id));
+    }
+    let mut packet = 1;
+    while left > 0 {
+        if world.can_deliver(packet) {
+            left -= step(world, &WorldEvent::Deliver(packet));
+        }
+        packet += 1;
+    }
+}
+
+/// Prints the figures of so many founders of which so many crash.
+pub fn measure(founders: u16, crashes: u16) {
+    let mut least = u128::MAX;
+    let mut founding = u128::MAX;
+    let mut events = 0;
+    for _ in 0..3 {
+        let start = Instant::now();
+        let mut world = World::new(PARAMS, (1..=founders).map(process).collect());
+        founding = founding.min(start.elapsed().as_nanos());
+        let start = Instant::now();
+        run(&mut world, &crashed(founders, crashes));
+        least = least.min(start.elapsed().as_nanos());
+        events = world.accepted();
+    }
+    println!("world_{founders}_event {}", least / events as u128);
+    println!("world_{founders}_events {events}");
+    println!("world_{founders}_founding {founding}");
+    println!("world_{founders}_peak {}", peak());
+}

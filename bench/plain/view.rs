@@ -1,0 +1,214 @@
+//! Configurations, and who observes whom in them.
+use crate::{key, sha256, Process, Ring};
+use std::collections::HashMap;
+use std::sync::Arc;
+
+/// The identifier of a configuration.
+pub type ConfigId = [u8; 32];
+
+/// From 1 to 1,536 processes, strictly ascending.
+pub type Cut = Vec<Process>;
+
+/// The most members of a configuration.
+const MOST_MEMBERS: usize = 1024;
+
+/// An address and a port.
+pub type Endpoint = [u8; 6];
+
+/// How many rings there are, and how many reports make a process stable or unstable.
+#[derive(Clone, Copy, PartialEq, Eq)]
+pub struct Params {
+    pub k: u8,
+    pub h: u8,
+    pub l: u8,
+}
+
+/// Who the members are.
+#[derive(Clone)]
+pub struct Configuration {
+    pub params: Params,
+    pub height: u64,
+    pub previous: ConfigId,
+    pub members: Vec<Process>,
+    pub id: ConfigId,
+}
+
+/// The last bytes of a process.
+pub fn endpoint(p: &Process) -> Endpoint {
+    p[16..].try_into().unwrap()
+}
+
+/// Whether the process has the identifier or the endpoint of one of these.
+pub fn collides(members: &[Process], p: &Process) -> bool {
+    members.iter().any(|m| m[..16] == p[..16] || m[16..] == p[16..])
+}
+
+impl Configuration {
+    /// The configuration of height 0 with these members, which ascend.
+    pub fn seed(params: Params, members: Vec<Process>) -> Configuration {
+        Configuration::new(params, 0, [0; 32], members)
+    }
+
+    pub fn new(params: Params, height: u64, previous: ConfigId, members: Vec<Process>) -> Configuration {
+        let mut made = Configuration { params, height, previous, members, id: [0; 32] };
+        made.id = sha256(&made.bytes());
+        made
+    }
+
+    pub fn bytes(&self) -> Vec<u8> {
+        let mut bytes = b"RPC1".to_vec();
+        bytes.extend(self.previous);
+        bytes.extend(self.height.to_be_bytes());
+        bytes.extend([self.params.k, self.params.h, self.params.l]);
+        bytes.extend((self.members.len() as u16).to_be_bytes());
+        for p in &self.members {
+            bytes.extend(p);
+        }
+        bytes
+    }
+
+    pub fn position(&self, p: &Process) -> Option<usize> {
+        self.members.binary_search(p).ok()
+    }
+
+    /// The configuration after a cut.
+    fn after(&self, cut: &[Process]) -> Configuration {
+        let stays = |p: &&Process| cut.binary_search(p).is_err();
+        let mut members: Vec<Process> = self.members.iter().filter(stays).copied().collect();
+        for joiner in cut.iter().filter(|p| self.position(p).is_none()) {
+            if members.len() < MOST_MEMBERS && !collides(&members, joiner) {
+                let place = members.partition_point(|m| m < joiner);
+                members.insert(place, *joiner);
+            }
+        }
+        Configuration::new(self.params, self.height + 1, self.id, members)
+    }
+}
+
+/// Nobody's place.
+const NOBODY: u16 = u16::MAX;
+
+/// The places of members, by ring.
+pub type Places = [u16; 16];
+
+/// A configuration, with who observes whom.
+pub struct View {
+    pub config: Arc<Configuration>,
+    rings: Vec<Ring>,
+    // of each member, by ring: the place of its observer, and of whom it observes
+    observers: Vec<Places>,
+    subjects: Vec<Places>,
+}
+
+impl View {
+    pub fn new(config: Arc<Configuration>) -> View {
+        let rings = crate::rings(&config.members, config.params.k);
+        View::of(config, rings)
+    }
+
+    fn of(config: Arc<Configuration>, rings: Vec<Ring>) -> View {
+        let count = config.members.len();
+        let mut observers = vec![[NOBODY; 16]; count];
+        let mut subjects = vec![[NOBODY; 16]; count];
+        for (number, ring) in rings.iter().enumerate().filter(|_| count > 1) {
+            let places: Vec<usize> =
+                ring.iter().map(|(_, p)| config.position(p).unwrap()).collect();
+            for (i, subject) in places.iter().enumerate() {
+                let observer = places[(i + count - 1) % count];
+                observers[*subject][number] = observer as u16;
+                subjects[observer][number] = *subject as u16;
+            }
+        }
+        View { config, rings, observers, subjects }
+    }
+
+    /// The view of the configuration after this one: only newcomers are hashed.
+    fn next(&self, config: Arc<Configuration>) -> View {
+        let new: Vec<Process> =
+            config.members.iter().filter(|p| self.config.position(p).is_none()).copied().collect();
+        let next = |(number, old): (usize, &Ring)| {
+            let stays = |x: &&([u8; 32], Process)| config.position(&x.1).is_some();
+            let mut ring: Ring = old.iter().filter(stays).copied().collect();
+            ring.extend(new.iter().map(|p| (key(number as u8, p), *p)));
+            ring.sort();
+            ring
+        };
+        let rings = self.rings.iter().enumerate().map(next).collect();
+        View::of(config, rings)
+    }
+
+    pub fn k(&self) -> u8 {
+        self.config.params.k
+    }
+
+    pub fn is_member(&self, p: &Process) -> bool {
+        self.config.position(p).is_some()
+    }
+
+    /// The member at a place.
+    pub fn member(&self, place: u16) -> Option<Process> {
+        self.config.members.get(place as usize).copied()
+    }
+
+    /// Who observes a process, a member or not, on a ring that there is.
+    pub fn observer(&self, number: u8, subject: &Process) -> Option<Process> {
+        if let Some(place) = self.config.position(subject) {
+            return self.member(self.observers[place][number as usize]);
+        }
+        let ring = &self.rings[number as usize];
+        let seat = (key(number, subject), *subject);
+        let place = ring.partition_point(|x| *x < seat);
+        (!ring.is_empty()).then(|| ring[(place + ring.len() - 1) % ring.len()].1)
+    }
+
+    /// The places of the observers of a process, by ring.
+    pub fn observers_of(&self, subject: &Process) -> Places {
+        if let Some(place) = self.config.position(subject) {
+            return self.observers[place];
+        }
+        let mut places = [NOBODY; 16];
+        for ring in 0..self.k() {
+            let observer = self.observer(ring, subject);
+            let place = observer.and_then(|observer| self.config.position(&observer));
+            places[ring as usize] = place.map_or(NOBODY, |place| place as u16);
+        }
+        places
+    }
+
+    /// The observers of a process, by ring.
+    pub fn observers(&self, subject: &Process) -> Vec<Process> {
+        (0..self.k()).filter_map(|ring| self.observer(ring, subject)).collect()
+    }
+
+    /// Whom the member at a place observes on a ring.
+    pub fn subject(&self, place: usize, ring: u8) -> Option<Process> {
+        self.member(self.subjects[place][ring as usize])
+    }
+}
+
+/// The views that nodes of one process share.
+#[derive(Default)]
+pub struct Views {
+    by_id: HashMap<ConfigId, Arc<View>>,
+    after: HashMap<(ConfigId, Cut), Arc<View>>,
+}
+
+impl Views {
+    /// The view of a configuration.
+    pub fn of(&mut self, config: &Arc<Configuration>) -> Arc<View> {
+        let view = || Arc::new(View::new(config.clone()));
+        self.by_id.entry(config.id).or_insert_with(view).clone()
+    }
+
+    /// The view after a cut.
+    pub fn after(&mut self, view: &View, cut: &Cut) -> Arc<View> {
+        if let Some(next) = self.after.get(&(view.config.id, cut.clone())) {
+            return next.clone();
+        }
+        let config = Arc::new(view.config.after(cut));
+        let next = Arc::new(view.next(config));
+        self.by_id.insert(next.config.id, next.clone());
+        self.after.insert((view.config.id, cut.clone()), next.clone());
+        next
+    }
+}
