@@ -242,6 +242,7 @@ fn main() {
             eprintln!("events {}", run.accepted());
         }
         Some("cluster") => cluster::run(number(1), number(2) as usize, number(3) as usize),
+        Some("desks") => steps::measure_desks(),
         Some("worlds") => crashes::measure(number(1), number(2)),
         Some("views") => views::measure_all(),
         Some(other) => panic!("no figure is called {other}"),

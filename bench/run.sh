@@ -1,28 +1,69 @@
 #!/bin/bash
-# Prints each figure of the proved program, of the plain Rust body, and the ratio of the two. With words, the figures of those
-# words alone (votes, memory, rings_new, ..); with none, all.
+# Prints each figure of the proved programs, of the plain Rust body, and the ratio of the two. With words, the figures of those
+# words alone (votes, memory, rings_new, .., worlds, views, desks, detect, sim, cluster); with none, all.
 set -e
 cd "$(dirname "${BASH_SOURCE[0]}")/.."
-program=crates/rapid_bench/out/rapid_bench
-if [ ! -x "$program" ]; then
-    echo "rapid_bench is proved and built first" >&2
-    (cd crates/rapid_bench && rt run >/dev/null </dev/null)
-fi
 room=$(mktemp -d)
 trap 'rm -r "$room"' EXIT
 rustc -O --edition 2021 -o "$room/plain" bench/plain.rs
 rustc -O --edition 2021 --crate-type cdylib -C panic=abort -o "$room/allocated.so" bench/plain/allocated.rs
-[ $# -gt 0 ] || set -- votes memory rings_new rings_next from_bytes frames steps step_bytes
-"$room/plain" >"$room/plain.txt"
-LD_PRELOAD="$room/allocated.so" "$room/plain" step_bytes >>"$room/plain.txt"
+
+# The program of a crate, which is proved and built first where it is not there.
+program() {
+    local built=crates/$1/out/$1
+    if [ ! -x "$built" ]; then
+        echo "$1 is proved and built first" >&2
+        (cd "crates/$1" && rt run >/dev/null </dev/null)
+    fi
+    echo "$PWD/$built"
+}
+
+# Puts lines NAME NUMBER of both programs side by side: beside PLAIN PROVED.
+beside() {
+    awk 'NR == FNR { plain[$1] = $2; next }
+        !($1 in plain) { printf "%-24s %12d\n", $1, $2; next }
+        plain[$1] == 0 { printf "%-24s %12d %12d\n", $1, $2, 0; next }
+        { printf "%-24s %12d %12d %8.2f\n", $1, $2, plain[$1], $2 / plain[$1] }' "$1" "$2"
+}
+
+# Worlds: each in a process of its own, so that the greatest memory is its own.
+worlds() {
+    local worlds
+    worlds=$(program rapid_bench_worlds)
+    "$worlds" world_200 >"$room/proved"
+    "$worlds" world_1000 >>"$room/proved"
+    "$room/plain" worlds 200 2 >"$room/other"
+    "$room/plain" worlds 1000 10 >>"$room/other"
+    beside "$room/other" "$room/proved"
+}
+
+# The plain figures of rapid_bench's words are all taken at once, the first time that one is wanted.
+inner() {
+    local bench
+    bench=$(program rapid_bench)
+    if [ "$1" = step_bytes ]; then
+        LD_PRELOAD="$room/allocated.so" "$room/plain" step_bytes >"$room/plain_bytes"
+        LD_PRELOAD="$room/allocated.so" "$bench" step_bytes >"$room/proved"
+        beside "$room/plain_bytes" "$room/proved"
+        return
+    fi
+    [ -e "$room/plain_all" ] || "$room/plain" >"$room/plain_all"
+    "$bench" "$1" >"$room/proved"
+    beside "$room/plain_all" "$room/proved"
+}
+
+[ $# -gt 0 ] || set -- votes memory rings_new rings_next from_bytes frames steps step_bytes worlds views desks detect sim cluster
+printf "%-24s %12s %12s %8s\n" figure proved plain ratio
 for word in "$@"; do
     case $word in
-        step_bytes) LD_PRELOAD="$room/allocated.so" "$program" "$word" ;;
-        *) "$program" "$word" ;;
+        worlds) worlds ;;
+        views | desks)
+            views=$(program rapid_bench_views)
+            "$views" "$word" >"$room/proved"
+            "$room/plain" "$word" >"$room/other"
+            beside "$room/other" "$room/proved"
+            ;;
+        detect | sim | cluster) bench/outside.py "$(program rapidd)" "$room/plain" "$word" ;;
+        *) inner "$word" ;;
     esac
-done >"$room/proved.txt"
-awk 'BEGIN { printf "%-24s %12s %12s %8s\n", "figure", "proved", "plain", "ratio" }
-    NR == FNR { plain[$1] = $2; next }
-    !($1 in plain) { printf "%-24s %12d\n", $1, $2; next }
-    plain[$1] == 0 { printf "%-24s %12d %12d\n", $1, $2, 0; next }
-    { printf "%-24s %12d %12d %8.2f\n", $1, $2, plain[$1], $2 / plain[$1] }' "$room/plain.txt" "$room/proved.txt"
+done

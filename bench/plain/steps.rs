@@ -82,12 +82,16 @@ fn print_copy_held(name: &str, node: &Node) {
     drop(nodes);
 }
 
-/// The founder with the number 1 among so many, and what it is a member of.
-fn founder(members: u16) -> (Node, Arc<View>) {
+/// The founder with the number 1 among so many on so many rings, and what it is a member of.
+fn founder_on(rings: u8, members: u16) -> (Node, Arc<View>) {
     let members = (1..=members).map(process).collect();
-    let config = Configuration::seed(Params { k: K, h: 9, l: 3 }, members);
+    let config = Configuration::seed(Params { k: rings, h: 9, l: 3 }, members);
     let view = Arc::new(View::new(Arc::new(config)));
     (Node::founder(view.clone(), process(1)), view)
+}
+
+fn founder(members: u16) -> (Node, Arc<View>) {
+    founder_on(K, members)
 }
 
 fn one_batch(view: &View, observer: Process, subjects: &[(u8, Process)]) -> Vec<Happening> {
@@ -153,4 +157,13 @@ pub fn measure_bytes() {
     for members in SIZES {
         print_copy_held(&format!("copy_{members}"), &founder(members).0);
     }
+}
+
+/// Prints the figures of a node that stand beside those of a desk.
+pub fn measure_desks() {
+    let (node, view) = founder_on(10, 1000);
+    let votes = (2..502).map(|n| Some(vote(process(n), view.config.id, 10))).collect();
+    Steps::new("node_vote".into(), &node, votes).print_time();
+    let ticks = (0..500).map(|_| None).collect();
+    Steps::new("node_tick".into(), &node, ticks).print_time();
 }
