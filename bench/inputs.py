@@ -6,6 +6,7 @@ detect_grow     the same, where ever more members, at last 300, are unstable unt
 detect_edges    16,384 edges, and 1,024 alerts that are never handed over
 detect_worst    the same with their batch: L = 1 and H = 16, so that 1,024 first reports imply all 16,384
 sim_joins       500 nodes, one founder and three waves of joiners, and then five that crash
+sim_few         the same of 100 nodes
 """
 import random
 import sys
@@ -67,8 +68,8 @@ def first_reports(last):
 
 
 # the last node of each wave of joiners
-WAVES = [100, 250, 500]
-CRASHED = [7, 107, 207, 307, 407]
+MANY = [100, 250, 500]
+FEW = [20, 50, 100]
 
 
 def flows(count):
@@ -86,16 +87,18 @@ def wave(members, last):
     yield from flows(20)
 
 
-def joins():
+def joins(waves):
+    """One founder, waves of joiners, and then five that crash."""
     yield "params 10 9 3"
     yield "found 1"
     members = 1
-    for last in WAVES:
+    for last in waves:
         yield from wave(members, last)
         members = last
-    yield from (f"crash {n}" for n in CRASHED)
-    yield from (f"lose {n}" for n in CRASHED)
-    yield from (f"tick {n}" for n in range(1, members + 1) if n not in CRASHED)
+    crashed = range(7, members, members // 5)
+    yield from (f"crash {n}" for n in crashed)
+    yield from (f"lose {n}" for n in crashed)
+    yield from (f"tick {n}" for n in range(1, members + 1) if n not in crashed)
     yield from flows(60)
     yield "packets"
 
@@ -105,7 +108,8 @@ INPUTS = {
     "detect_grow": lambda: batches(on_growing),
     "detect_edges": lambda: first_reports([]),
     "detect_worst": lambda: first_reports(["batch"]),
-    "sim_joins": joins,
+    "sim_joins": lambda: joins(MANY),
+    "sim_few": lambda: joins(FEW),
 }
 
 if __name__ == "__main__":

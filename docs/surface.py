@@ -16,7 +16,7 @@ from pathlib import Path
 TOP = Path(__file__).resolve().parent.parent
 PAGE = TOP / "docs/SURFACE.md"
 LAWS = {"rapid_model", "rapid_agreement", "rapid_safety", "rapid_histories"}
-NO_LIBRARIES = {"rapidd", "rapid_bench", "rapid_reference", "rapid_sharded_map", "rapid_uses"}
+NO_LIBRARIES = {"rapidd", "rapid_bench", "rapid_bench_views", "rapid_bench_worlds", "rapid_reference", "rapid_sharded_map", "rapid_uses"}
 
 HEAD = """# The public surface
 

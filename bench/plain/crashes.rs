@@ -1,6 +1,5 @@
 //! A world of founders of which some crash, until all others have installed the next view.
 use crate::process;
-use crate::sim::losing;
 use crate::view::Params;
 use crate::world::{id_of, ProcessId, World, WorldEvent};
 use std::time::Instant;
@@ -25,20 +24,29 @@ fn crashed(founders: u16, crashes: u16) -> Vec<ProcessId> {
     (0..crashes).map(|i| id_of(&process(i * (founders / crashes) + 7))).collect()
 }
 
-/// Some crash, and the others lose them; all tick, and packets are delivered in order until all have installed.
-fn run(world: &mut World, crashed: &[ProcessId]) {
-    for id in crashed {
-        step(world, &WorldEvent::Crash(*id));
-    }
-    for id in crashed {
-        for event in losing(world, PARAMS.k, id) {
-            step(world, &event);
+/// All that happens before packets are delivered: the others lose those that crash, and tick.
+fn script(world: &World, crashed: &[ProcessId]) -> Vec<WorldEvent> {
+    let running: Vec<&ProcessId> =
+        world.running().iter().filter(|id| !crashed.contains(id)).collect();
+    let mut events = Vec::new();
+    for observer in &running {
+        for ring in 0..PARAMS.k {
+            let subject = world.observed(observer, ring);
+            if subject.is_some_and(|subject| crashed.contains(&id_of(&subject))) {
+                events.extend([WorldEvent::Probe(**observer, ring, false); 4]);
+            }
         }
     }
-    let running: Vec<ProcessId> = world.running().iter().copied().collect();
-    let mut left = running.len();
-    for id in &running {
-        left -= step(world, &WorldEvent::Tick(*id));
+    events.extend(crashed.iter().map(|id| WorldEvent::Crash(*id)));
+    events.extend(running.into_iter().map(|id| WorldEvent::Tick(*id)));
+    events
+}
+
+/// These events happen, and then packets are delivered in order until so many nodes have installed.
+fn run(world: &mut World, events: &[WorldEvent], nodes: usize) {
+    let mut left = nodes;
+    for event in events {
+        left -= step(world, event);
     }
     let mut packet = 1;
     while left > 0 {
@@ -58,8 +66,9 @@ pub fn measure(founders: u16, crashes: u16) {
         let start = Instant::now();
         let mut world = World::new(PARAMS, (1..=founders).map(process).collect());
         founding = founding.min(start.elapsed().as_nanos());
+        let script = script(&world, &crashed(founders, crashes));
         let start = Instant::now();
-        run(&mut world, &crashed(founders, crashes));
+        run(&mut world, &script, (founders - crashes) as usize);
         least = least.min(start.elapsed().as_nanos());
         events = world.accepted();
     }

@@ -164,7 +164,7 @@ fn step(world: &mut World, event: &WorldEvent, out: &mut Vec<u8>) -> bool {
 }
 
 /// The probes by which all that run lose a member.
-pub fn losing(world: &World, k: u8, lost: &ProcessId) -> Vec<WorldEvent> {
+fn losing(world: &World, k: u8, lost: &ProcessId) -> Vec<WorldEvent> {
     let mut events = Vec::new();
     for observer in world.running() {
         for ring in 0..k {

@@ -1,0 +1,50 @@
+#!/bin/bash
+# Prints the ten functions that take the most instructions, of the proved program and of the plain one: instructions.sh detect sim
+# cluster worlds, or some of these. The counts are valgrind's, and do not depend on what else the machine does. `rt run` has built
+# rapidd and rapid_bench_worlds before.
+set -e
+cd "$(dirname "${BASH_SOURCE[0]}")/.."
+proved=$PWD/crates/rapidd/out/rapidd
+room=$(mktemp -d)
+trap 'rm -r "$room"' EXIT
+rustc -O --edition 2021 -o "$room/plain" bench/plain.rs
+
+# The functions of a program on the input: most PROGRAM WORDS..
+most() {
+    valgrind --tool=callgrind --callgrind-out-file="$room/counts" "$@" <"$room/input" >/dev/null 2>"$room/said"
+    echo "$(basename "$1"): $(sed -n 's/.*Collected : //p' "$room/said") instructions"
+    callgrind_annotate --auto=no "$room/counts" | grep -E '^ *[0-9,]+ \(' | grep -v 'PROGRAM TOTALS' | head -10 |
+        sed -E 's/ \[[^]]*\]$//; s/  +/ /g; s/\) [^ ]*\?\?\?:/) /; s/::<#[0-9a-f]*>$//' | cut -c1-120
+}
+
+[ $# -gt 0 ] || set -- detect sim cluster worlds
+for word in "$@"; do
+    echo "== $word"
+    case $word in
+        detect)
+            bench/inputs.py detect_grow >"$room/whole"
+            head -358000 "$room/whole" >"$room/input"
+            most "$proved" detect
+            most "$room/plain" detect
+            ;;
+        sim)
+            bench/inputs.py sim_few >"$room/input"
+            most "$proved" sim
+            most "$room/plain" sim
+            ;;
+        cluster)
+            : >"$room/input"
+            most "$proved" cluster --nodes 64 --workers 1 --turns 10000
+            most "$room/plain" cluster 64 1 10000
+            ;;
+        worlds)
+            : >"$room/input"
+            most "$PWD/crates/rapid_bench_worlds/out/rapid_bench_worlds" world_200
+            most "$room/plain" worlds 200 2
+            ;;
+        *)
+            echo "no input is called $word" >&2
+            exit 1
+            ;;
+    esac
+done
