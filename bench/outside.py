@@ -1,9 +1,11 @@
 #!/usr/bin/env python3
 """Times whole programs from outside, the proved one beside the plain one: outside.py PROVED PLAIN WORD..
 
-Words are detect, sim and cluster. A line is NAME, the proved program's number, the plain one's and their ratio. Both get the
-same input, in turn, and have to write the same. Processor time is that of the user and the system, of all threads.
+Words are same, detect, sim and cluster. A line is NAME, the proved program's number, the plain one's and their ratio. Both get the
+same input, in turn, and have to write the same; same tries only that, on all examples. Processor time is that of the user and
+the system, of all threads.
 """
+import glob
 import os
 import subprocess
 import sys
@@ -73,6 +75,15 @@ def input_of(word, room):
     return path
 
 
+def same(programs, _room):
+    """Both programs write the same on each example."""
+    paths = sorted(glob.glob(f"{HERE}/../examples/*/*.txt"))
+    for path in paths:
+        command = os.path.basename(os.path.dirname(path))
+        both(programs, [[command]] * 2, path, 1)
+    show("same_examples", len(paths), len(paths))
+
+
 def detect(programs, room):
     taken = {}
     for word in ["noise", "grow", "edges", "worst"]:
@@ -123,7 +134,7 @@ def cluster(programs, _room):
 
 if __name__ == "__main__":
     programs, words = sys.argv[1:3], sys.argv[3:]
-    known = {"detect": detect, "sim": sim, "cluster": cluster}
+    known = {"same": same, "detect": detect, "sim": sim, "cluster": cluster}
     if len(programs) < 2 or not words or any(word not in known for word in words):
         sys.exit(__doc__)
     with tempfile.TemporaryDirectory() as folder:

@@ -52,7 +52,7 @@ inner() {
     beside "$room/plain_all" "$room/proved"
 }
 
-[ $# -gt 0 ] || set -- votes memory rings_new rings_next from_bytes frames steps step_bytes worlds views desks detect sim cluster
+[ $# -gt 0 ] || set -- votes memory rings_new rings_next from_bytes frames steps step_bytes worlds views desks same detect sim cluster
 printf "%-24s %12s %12s %8s\n" figure proved plain ratio
 for word in "$@"; do
     case $word in
@@ -63,7 +63,7 @@ for word in "$@"; do
             "$room/plain" "$word" >"$room/other"
             beside "$room/other" "$room/proved"
             ;;
-        detect | sim | cluster) bench/outside.py "$(program rapidd)" "$room/plain" "$word" ;;
+        same | detect | sim | cluster) bench/outside.py "$(program rapidd)" "$room/plain" "$word" ;;
         *) inner "$word" ;;
     esac
 done

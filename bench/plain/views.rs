@@ -11,11 +11,11 @@ const RUNS: u32 = 5;
 const MOST_THREADS: usize = 4;
 
 /// What is read of a configuration where its members are not.
-#[derive(Clone, Copy)]
+#[derive(Clone, Copy, PartialEq, Eq)]
 struct Stamp {
-    _height: u64,
-    _id: [u8; 32],
-    _members: usize,
+    height: u64,
+    id: [u8; 32],
+    members: usize,
 }
 
 /// How many nanoseconds it takes so many threads to read so often each.
@@ -32,7 +32,7 @@ fn time(threads: usize, times: u32, read: &(impl Fn() + Sync)) -> u128 {
 fn measure(name: &str, times: u32, read: impl Fn() + Sync) {
     for threads in [1, MOST_THREADS] {
         let least = (0..RUNS).map(|_| time(threads, times, &read)).min().unwrap();
-        println!("{name}_{threads} {}", least / times as u128);
+        println!("{name}_{threads} {}", least / (times / 100) as u128);
     }
 }
 
@@ -40,11 +40,12 @@ pub fn measure_all() {
     let members = (1..=1000).map(process).collect();
     let config = Configuration::seed(Params { k: 10, h: 9, l: 3 }, members);
     let (height, id, count) = (config.height, config.id, config.members.len());
-    let stamp = Mutex::new(Stamp { _height: height, _id: id, _members: count });
+    let stamp = Mutex::new(Stamp { height, id, members: count });
     let view = Mutex::new(Arc::new(config));
+    let first = *stamp.lock().unwrap();
     measure("locked_stamp", STAMPS, || {
         let read = *stamp.lock().unwrap();
-        black_box(read);
+        black_box(read == first);
     });
     measure("locked_members", VIEWS, || {
         let read = view.lock().unwrap().clone();
