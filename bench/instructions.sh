@@ -1,7 +1,7 @@
 #!/bin/bash
-# Prints the ten functions that take the most instructions, of the proved program and of the plain one: instructions.sh detect sim
-# cluster worlds, or some of these. The counts are valgrind's, and do not depend on what else the machine does. `rt run` has built
-# rapidd and rapid_bench_worlds before.
+# Prints the ten functions that take the most instructions, of the proved program and of the plain one: instructions.sh steps worlds
+# detect worst sim cluster, or some of these; of worst all are counted, without the batch and with it. The counts are valgrind's, and do not depend on what else the machine does. `rt run` has
+# built rapidd, rapid_bench and rapid_bench_worlds before.
 set -e
 cd "$(dirname "${BASH_SOURCE[0]}")/.."
 proved=$PWD/crates/rapidd/out/rapidd
@@ -17,7 +17,7 @@ most() {
         sed -E 's/ \[[^]]*\]$//; s/  +/ /g; s/\) [^ ]*\?\?\?:/) /; s/::<#[0-9a-f]*>$//' | cut -c1-120
 }
 
-[ $# -gt 0 ] || set -- detect sim cluster worlds
+[ $# -gt 0 ] || set -- steps worlds detect worst sim cluster
 for word in "$@"; do
     echo "== $word"
     case $word in
@@ -26,6 +26,13 @@ for word in "$@"; do
             head -358000 "$room/whole" >"$room/input"
             most "$proved" detect
             most "$room/plain" detect
+            ;;
+        worst)
+            for input in detect_edges detect_worst; do
+                bench/inputs.py $input >"$room/input"
+                most "$proved" detect | head -1
+                most "$room/plain" detect | head -1
+            done
             ;;
         sim)
             bench/inputs.py sim_few >"$room/input"
@@ -36,6 +43,11 @@ for word in "$@"; do
             : >"$room/input"
             most "$proved" cluster --nodes 64 --workers 1 --turns 10000
             most "$room/plain" cluster 64 1 10000
+            ;;
+        steps)
+            : >"$room/input"
+            most "$PWD/crates/rapid_bench/out/rapid_bench" steps
+            most "$room/plain" steps
             ;;
         worlds)
             : >"$room/input"

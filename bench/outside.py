@@ -7,6 +7,7 @@ the system, of all threads.
 """
 import glob
 import os
+import statistics
 import subprocess
 import sys
 import tempfile
@@ -37,16 +38,17 @@ class Taken:
 
 
 class Best:
-    """The least of several runs of one program."""
+    """The least times of several runs of one program, the most memory, and how often threads waited in each."""
 
     def __init__(self):
-        self.cpu = self.wall = self.waits = float("inf")
-        self.held = 0
+        self.cpu = self.wall = float("inf")
+        self.held, self.waits = 0, []
         self.out = self.err = b""
 
     def add(self, taken):
         self.cpu, self.wall = min(self.cpu, taken.cpu), min(self.wall, taken.wall)
-        self.held, self.waits = max(self.held, taken.held), min(self.waits, taken.waits)
+        self.held = max(self.held, taken.held)
+        self.waits.append(taken.waits)
         self.out, self.err = taken.out, taken.err
 
 
@@ -85,16 +87,15 @@ def same(programs, _room):
 
 
 def detect(programs, room):
-    taken = {}
-    for word in ["noise", "grow", "edges", "worst"]:
+    for word in ["noise", "grow"]:
         path = input_of(f"detect_{word}", room)
-        taken[word] = both(programs, [["detect"]] * 2, path)
+        bests = both(programs, [["detect"]] * 2, path)
         with open(path, "rb") as lines:
             count = sum(1 for _ in lines)
-        nanoseconds = [best.cpu * 1e9 / count for best in taken[word]]
-        show(f"detect_{word}_line", *nanoseconds)
-    batch = [(worst.cpu - edges.cpu) * 1e9 for worst, edges in zip(taken["worst"], taken["edges"])]
-    show("detect_worst_batch", *batch)
+        show(f"detect_{word}_line", *[best.cpu * 1e9 / count for best in bests])
+    for word in ["edges", "worst"]:
+        bests = both(programs, [["detect"]] * 2, input_of(f"detect_{word}", room), 5 * RUNS)
+        show(f"detect_{word}", *[best.cpu * 1e9 for best in bests])
 
 
 def sim(programs, room):
@@ -111,23 +112,22 @@ NODES, TURNS = 64, 10_000
 def driven(programs, workers, turns):
     proved = ["cluster", "--nodes", NODES, "--workers", workers, "--turns", turns]
     plain = ["cluster", NODES, workers, turns]
-    return both(programs, [[str(word) for word in words] for words in (proved, plain)])
+    spelt = [[str(word) for word in words] for words in (proved, plain)]
+    return both(programs, spelt, runs=3 * RUNS)
 
 
-def events_of(best):
-    return int(best.out.split()[1])
+def driven_row(workers, best):
+    """Events a second, nanoseconds of an event by the clock and of processors, percent off a processor, waits."""
+    events = int(best.out.split()[1])
+    idle = 100 * max(0.0, 1 - best.cpu / (workers * best.wall))
+    waits = statistics.median(best.waits)
+    return events / best.wall, best.wall * 1e9 / events, best.cpu * 1e9 / events, idle, waits
 
 
 def cluster(programs, _room):
-    """What 10,000 turns a worker take more than one does."""
+    show("cluster_start", *[best.wall * 1e9 for best in driven(programs, 1, 1)])
     for workers in [1, 4, 32]:
-        least, all_turns = driven(programs, workers, 1), driven(programs, workers, TURNS)
-        rows = []
-        for few, many in zip(least, all_turns):
-            events = events_of(many) - events_of(few)
-            wall, cpu = many.wall - few.wall, many.cpu - few.cpu
-            idle = 100 * max(0.0, 1 - cpu / (workers * wall))
-            rows.append((events / wall, wall * 1e9 / events, cpu * 1e9 / events, idle, many.waits))
+        rows = [driven_row(workers, best) for best in driven(programs, workers, TURNS)]
         for i, name in enumerate(["per_second", "event_wall", "event_cpu", "off_cpu", "waits"]):
             show(f"cluster_{workers}_{name}", *[row[i] for row in rows])
 

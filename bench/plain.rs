@@ -231,6 +231,7 @@ fn main() {
     let number = |place: usize| words[place].parse().unwrap();
     match words.first().map(String::as_str) {
         None => measure_all(),
+        Some("steps") => steps::measure_all(),
         Some("step_bytes") => steps::measure_bytes(),
         Some("detect") => {
             let mut run = detect::Run::default();
