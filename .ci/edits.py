@@ -32,6 +32,7 @@ CALLS = re.compile(r"it calls (.*?), which (?:is|are) not proved")
 NAME = re.compile(r"`([^`]+)`")
 NAMES_GONE = re.compile(r"has no field|is not in scope|has no `|was not admitted")
 SAYS_LITTLE = "(only because a proof names what the edit took away, so this says little)"
+UNCOVERED = "the borrow checker does not cover this function"
 
 # An edit, the texts that it puts in place of others by file, and the functions whose bodies it
 # changes: each a module, the type of its impl, if any, and its name.
@@ -197,6 +198,9 @@ def why_refused(edit, crate, said):
         if not any(is_of(it, crate, verdict) for it in edit.functions):
             continue
         calls = [name for found in CALLS.findall(rest) for name in NAME.findall(found)]
+        # a text that the prover cannot follow shows nothing of the contract
+        if UNCOVERED in rest:
+            continue
         if all(any(is_of(it, crate, call) for it in edit.functions) for call in calls):
             return f"{verdict}{first_error(verdict, crate, said) or rest}"
     return None
@@ -259,8 +263,16 @@ def try_edits(rt, crate, home):
             if Path(it) in refused:
                 results.append((True, f"{label}: refused, as it must be: {refused[Path(it)]}"))
             else:
-                results.append(rt.must_fail(crate, it, ALONE, kept if len(good) > 1 else None))
+                results.append(tried_alone(rt, crate, it, label, kept))
     return results
+
+
+def tried_alone(rt, crate, edit, label, kept):
+    """Whether the prover refuses an edit for what it means, tried as `rt must-fail` does it."""
+    well, said = rt.must_fail(crate, edit, ALONE, kept)
+    if UNCOVERED in said:
+        return False, f"{label}: BAD EDIT: the prover cannot follow the edited text"
+    return well, said
 
 
 def try_all(root, home, names=()):
