@@ -20,20 +20,24 @@ const LOOKS: u32 = 2_000;
 
 const BETWEEN_LOOKS: u64 = 10;
 
-/// A node's place: its port, what it printed, and whether its input is over.
+/// A node's place: its port and that of the founder, what it printed, and whether its input is over.
 #[derive(Drop)]
 struct Place {
     port: u16,
+    seed: u16,
+    params: Params,
     printed: Mutex<Vec<u8>>,
     over: AtomicBool,
 }
 
-/// So many places, at successive ports from this one on.
-fn places(alloc: Global, first: u16, count: u16) -> Result<Vec<Place>, AllocError> {
+/// So many places, at successive ports from that of the founder on.
+fn places(alloc: Global, params: Params, seed: u16, count: u16) -> Result<Vec<Place>, AllocError> {
     let mut places = Vec::new(alloc);
     for number in 0..count {
         places.push(Place {
-            port: first.saturating_add(number),
+            port: seed.saturating_add(number),
+            seed,
+            params,
             printed: Mutex::new(Vec::new(alloc)),
             over: AtomicBool::new(false),
         })?;
@@ -59,7 +63,7 @@ fn options(port: u16, seed: u16, params: Params) -> NodeOptions {
 }
 
 /// Runs the node at a place until its input is over.
-fn run<R>(rt: &R, alloc: Global, place: &Place, seed: u16, params: Params)
+fn run<R>(rt: &R, alloc: Global, place: &Place)
 where
     R: Net<Listener = TcpListener, Stream = TcpStream>
         + Threads
@@ -76,7 +80,7 @@ where
         rt,
         printed: &place.printed,
     };
-    let asked = options(place.port, seed, params);
+    let asked = options(place.port, place.seed, place.params);
     let _ = run_node(rt, alloc, asked, rt, &mut reader, &mut writer);
 }
 
@@ -108,15 +112,15 @@ fn end(places: &[Place]) {
     }
 }
 
-/// Runs a node at each place, of which the first one founds a cluster. Ends those from a number on
-/// when all show the first text, and says whether they and then the others came to their text.
+/// Runs a node at each place. Ends those that go when all show the first text, and says whether they
+/// did, and whether those that stay came to the second text then.
 fn cluster<R>(
     rt: &R,
     alloc: Global,
-    places: &[Place],
-    params: Params,
-    staying: usize,
-    texts: [&[u8]; 2],
+    stay: &[Place],
+    go: &[Place],
+    first: &[u8],
+    second: &[u8],
 ) -> bool
 where
     R: Net<Listener = TcpListener, Stream = TcpStream>
@@ -126,31 +130,28 @@ where
         + RandomSource
         + Sync,
 {
-    let Some((stays, goes)) = places.split_at_checked(staying) else {
-        return false;
-    };
-    let Some(Place { port: seed, .. }) = places.first() else {
-        return false;
-    };
-    let seed = *seed;
     thread::scope(thread::scope_env(), rt, |scope| {
-        for place in places {
-            let _ = scope.spawn(move || run(rt, alloc, place, seed, params));
+        for place in stay {
+            let _ = scope.spawn(move || run(rt, alloc, place));
         }
-        let formed = come_to(rt, places, texts[0]);
-        end(goes);
-        let changed = come_to(rt, stays, texts[1]);
-        end(stays);
+        for place in go {
+            let _ = scope.spawn(move || run(rt, alloc, place));
+        }
+        let formed = come_to(rt, stay, first) && come_to(rt, go, first);
+        end(go);
+        let changed = come_to(rt, stay, second);
+        end(stay);
         formed && changed
     })
 }
 
+/// What two nodes print that are both in.
+const BOTH: &[u8] = b"height 1 members 127.0.0.1:7411 127.0.0.1:7412\n";
+
 #[test]
 fn two_nodes_come_to_one_view(rt: HostRuntime) -> Result<(), Fail> {
-    let places = places(rt.alloc(), 7_411, 2)?;
-    let both = b"height 1 members 127.0.0.1:7411 127.0.0.1:7412\n".as_slice();
-    let params = Params::new(3, 3, 1)?;
-    assert!(rt; cluster(&rt, rt.alloc(), places.as_slice(), params, 2, [both, both]));
+    let places = places(rt.alloc(), Params::new(3, 3, 1)?, 7_411, 2)?;
+    assert!(rt; cluster(&rt, rt.alloc(), places.as_slice(), &[], BOTH, BOTH));
     Ok(())
 }
 
@@ -164,8 +165,8 @@ const SEVEN: &[u8] =
 
 #[test]
 fn nine_nodes_lose_two(rt: HostRuntime) -> Result<(), Fail> {
-    let places = places(rt.alloc(), 7_421, 9)?;
-    let params = Params::new(10, 9, 3)?;
-    assert!(rt; cluster(&rt, rt.alloc(), places.as_slice(), params, 7, [NINE, SEVEN]));
+    let places = places(rt.alloc(), Params::new(10, 9, 3)?, 7_421, 9)?;
+    let (stay, go) = places.as_slice().split_at(7.min(places.len()));
+    assert!(rt; cluster(&rt, rt.alloc(), stay, go, NINE, SEVEN));
     Ok(())
 }
