@@ -153,6 +153,56 @@ fn a_cluster_has_its_ranges(rt: HostRuntime) {
     }
 }
 
+/// The words of a node at this endpoint, with one more option.
+fn node_words<'a>(listen: &'a str, option: &'a str, value: &'a str) -> [&'a str; 6] {
+    ["rapidd", "node", "--listen", listen, option, value]
+}
+
+#[test]
+fn a_node_prints_its_view(rt: HostRuntime) {
+    let id = "00000000-0000-0000-0000-000000000001";
+    let words = node_words("127.0.0.1:7431", "--id", id);
+    let (status, out, err) = ran(&rt, rt.alloc(), &words, b"view\nquit\n");
+    assert_eq!(rt; status, 0);
+    assert_eq!(rt;
+        out.as_slice(),
+        b"height 0 members 127.0.0.1:7431\nheight 0 members 127.0.0.1:7431\n".as_slice()
+    );
+    assert!(rt; err.is_empty());
+}
+
+#[test]
+fn a_node_has_its_ranges(rt: HostRuntime) {
+    for words in [
+        node_words("127.0.0.1:0", "--k", "3"),
+        node_words("10.0.0.1:7432", "--k", "10"),
+        node_words("127.0.0.1", "--k", "10"),
+        node_words("127.0.0.1:7432", "--k", "256"),
+        node_words("127.0.0.1:7432", "--l", "10"),
+        node_words("127.0.0.1:7432", "--tick-ms", "60001"),
+        node_words("127.0.0.1:7432", "--id", "1"),
+        node_words("127.0.0.1:7432", "--join", "127.0.0.1:0"),
+    ] {
+        let (status, out, err) = ran(&rt, rt.alloc(), &words, b"");
+        assert_eq!(rt; status, 2);
+        assert!(rt; out.is_empty() && !err.is_empty());
+    }
+}
+
+#[test]
+fn a_node_wants_its_port(rt: HostRuntime) -> io::Result<()> {
+    let _taken = TcpListener::bind(&rt, "127.0.0.1:7433")?;
+    let words = node_words("127.0.0.1:7433", "--tick-ms", "10");
+    let (status, out, err) = ran(&rt, rt.alloc(), &words, b"view\n");
+    assert_eq!(rt; status, 1);
+    assert!(rt; out.is_empty());
+    assert_eq!(rt;
+        err.as_slice(),
+        b"error: the port is not to be had\n".as_slice()
+    );
+    Ok(())
+}
+
 #[test]
 fn answers_1_where_the_input_fails(rt: HostRuntime) {
     let mut reader = Faulty {

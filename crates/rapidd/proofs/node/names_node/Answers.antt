@@ -9,7 +9,7 @@ returns-in-Some g c = λ named.
     let inside : true ≡ nat_lt 1 (length c.args.words.now) = c.in-Some.ensures.lookup.0 in
     let less : 1 < length c.args.words.now = grind (arith, nat_tests) in
     let found : slice_get c.args.words.now 1 ≡ Some c.in-Some.command.now =
-        slice_get_read c.args.words.now (length c.args.words.now) 1 c.in-Some.command.now refl less c.in-Some.ensures.lookup.1 in
+    slice_get_read c.args.words.now (length c.args.words.now) 1 c.in-Some.command.now refl less c.in-Some.ensures.lookup.1 in
     let text : g.S.AsStr.text c.in-Some.command.now ≡ codes "node" =
-        sym c.as_str.ensures ∙ (bytes_decides c.as_str.result.now (codes "node")).0 (sym c.eq.ensures ∙ named) in
+    sym c.as_str.ensures ∙ (bytes_decides c.as_str.result.now (codes "node")).0 (sym c.eq.ensures ∙ named) in
     ap (option_map g.S.AsStr.text) found ∙ ap Some text
