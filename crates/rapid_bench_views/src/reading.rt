@@ -18,7 +18,7 @@ const STAMPS: u32 = 1_000_000;
 const VIEWS: u32 = 10_000;
 
 /// How often each figure is taken; the best counts.
-const RUNS: u32 = 5;
+const RUNS: u32 = 20;
 
 /// The most threads.
 const MOST_THREADS: usize = 4;
