@@ -1,10 +1,12 @@
 #!/usr/bin/env python3
 """Prints an input of `rapidd detect` or `rapidd sim`, named by a word.
 
-detect_noise    16,384 edges of 1,024 members, and 100 batches of 16,384 alerts; nobody has L reports before the last
+detect_noise    16,384 edges of 1,024 members, and 100 batches of 16,384 alerts; nobody has L
+                reports before the last
 detect_grow     the same, where ever more members, at last 300, are unstable until the last batch
 detect_edges    16,384 edges, and 1,024 alerts that are never handed over
-detect_worst    the same with their batch: L = 1 and H = 16, so that 1,024 first reports imply all 16,384
+detect_worst    the same with their batch: L = 1 and H = 16, so that 1,024 first reports imply all
+                16,384
 sim_joins       500 nodes, one founder and three waves of joiners, and then five that crash
 sim_few         the same of 100 nodes
 """

@@ -1,7 +1,9 @@
 #!/bin/bash
-# Prints the ten functions that take the most instructions, of the proved program and of the plain one: instructions.sh steps worlds
-# detect worst sim cluster, or some of these; of worst all are counted, without the batch and with it. The counts are valgrind's, and do not depend on what else the machine does. `rt run` has
-# built rapidd, rapid_bench and rapid_bench_worlds before.
+# Prints the ten functions that take the most instructions, of the proved program and of the plain
+# one: instructions.sh WORD.., of steps, worlds, detect, worst, sim and cluster; with none, of all.
+# Of worst all instructions are counted, without the batch and with it. The counts are valgrind's,
+# and do not depend on what else the machine does. `rt run` has built rapidd, rapid_bench and
+# rapid_bench_worlds before.
 set -e
 cd "$(dirname "${BASH_SOURCE[0]}")/.."
 proved=$PWD/crates/rapidd/out/rapidd
@@ -11,10 +13,12 @@ rustc -O --edition 2021 -o "$room/plain" bench/plain.rs
 
 # The functions of a program on the input: most PROGRAM WORDS..
 most() {
-    valgrind --tool=callgrind --callgrind-out-file="$room/counts" "$@" <"$room/input" >/dev/null 2>"$room/said"
+    valgrind --tool=callgrind --callgrind-out-file="$room/counts" \
+        "$@" <"$room/input" >/dev/null 2>"$room/said"
     echo "$(basename "$1"): $(sed -n 's/.*Collected : //p' "$room/said") instructions"
-    callgrind_annotate --auto=no "$room/counts" | grep -E '^ *[0-9,]+ \(' | grep -v 'PROGRAM TOTALS' | head -10 |
-        sed -E 's/ \[[^]]*\]$//; s/  +/ /g; s/\) [^ ]*\?\?\?:/) /; s/::<#[0-9a-f]*>$//' | cut -c1-120
+    callgrind_annotate --auto=no "$room/counts" | grep -E '^ *[0-9,]+ \(' |
+        grep -v 'PROGRAM TOTALS' | head -10 | cut -c1-160 |
+        sed -E 's/ \[.*$//; s/  +/ /g; s/\) [^ ]*\?\?\?:/) /; s/::<#[0-9a-f]*>$//'
 }
 
 [ $# -gt 0 ] || set -- steps worlds detect worst sim cluster

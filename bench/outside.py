@@ -1,9 +1,10 @@
 #!/usr/bin/env python3
-"""Times whole programs from outside, the proved one beside the plain one: outside.py PROVED PLAIN WORD..
+"""Times whole programs from outside: outside.py PROVED PLAIN WORD..
 
-Words are same, detect, sim and cluster. A line is NAME, the proved program's number, the plain one's and their ratio. Both get the
-same input, in turn, and have to write the same; same tries only that, on all examples. Processor time is that of the user and
-the system, of all threads.
+Words are same, detect, sim and cluster. A line is NAME, the proved program's number, the plain
+one's and their ratio. Both get the same input, in turn, and have to write the same; same tries only that,
+on all examples. Processor time is that of the user and the system, of all threads. RUNS in the
+environment says how often each is run (7).
 """
 import glob
 import os
@@ -18,7 +19,7 @@ RUNS = int(os.environ.get("RUNS", "7"))
 
 
 class Taken:
-    """What one run took: seconds of processor and of wall, bytes at most held, how often a thread waited, what it wrote."""
+    """Seconds of one run, bytes at most held, how often a thread waited, and what was written."""
 
     def __init__(self, words, input_file):
         with tempfile.TemporaryFile() as out, tempfile.TemporaryFile() as err:
@@ -38,7 +39,7 @@ class Taken:
 
 
 class Best:
-    """The least times of several runs of one program, the most memory, and how often threads waited in each."""
+    """The least times of several runs, the most memory, and how often threads waited in each."""
 
     def __init__(self):
         self.cpu = self.wall = float("inf")
@@ -117,7 +118,7 @@ def driven(programs, workers, turns):
 
 
 def driven_row(workers, best):
-    """Events a second, nanoseconds of an event by the clock and of processors, percent off a processor, waits."""
+    """Events a second, nanoseconds of one by the clock and of processors, percent idle, waits."""
     events = int(best.out.split()[1])
     idle = 100 * max(0.0, 1 - best.cpu / (workers * best.wall))
     waits = statistics.median(best.waits)

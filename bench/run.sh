@@ -1,12 +1,14 @@
 #!/bin/bash
-# Prints each figure of the proved programs, of the plain Rust body, and the ratio of the two. With words, the figures of those
-# words alone (votes, memory, rings_new, .., worlds, views, desks, detect, sim, cluster); with none, all.
+# Prints each figure of the proved programs, of the plain Rust body, and the ratio of the two. With
+# words, the figures of those words alone (votes, memory, rings_new, .., worlds, views, desks,
+# detect, sim, cluster); with none, all.
 set -e
 cd "$(dirname "${BASH_SOURCE[0]}")/.."
 room=$(mktemp -d)
 trap 'rm -r "$room"' EXIT
 rustc -O --edition 2021 -o "$room/plain" bench/plain.rs
-rustc -O --edition 2021 --crate-type cdylib -C panic=abort -o "$room/allocated.so" bench/plain/allocated.rs
+rustc -O --edition 2021 --crate-type cdylib -C panic=abort \
+    -o "$room/allocated.so" bench/plain/allocated.rs
 
 # The program of a crate, which is proved and built first where it is not there.
 program() {
@@ -52,7 +54,9 @@ inner() {
     beside "$room/plain_all" "$room/proved"
 }
 
-[ $# -gt 0 ] || set -- votes memory rings_new rings_next from_bytes frames steps step_bytes worlds views desks same detect sim cluster
+all="votes memory rings_new rings_next from_bytes frames steps step_bytes worlds views desks same"
+# shellcheck disable=SC2086
+[ $# -gt 0 ] || set -- $all detect sim cluster
 printf "%-24s %12s %12s %8s\n" figure proved plain ratio
 for word in "$@"; do
     case $word in

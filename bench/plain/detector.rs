@@ -31,7 +31,7 @@ fn may_be_well_formed(view: &View, alert: &Alert) -> bool {
 }
 
 impl Detector {
-    /// Makes room for reports on the subject of a well-formed alert, unless it is one joiner too many.
+    /// Makes room for reports on the subject of a well-formed alert, unless it is a joiner too many.
     fn begin(&mut self, view: &View, alert: &Alert) -> bool {
         if view.observer(alert.ring, &alert.subject) != Some(alert.observer) {
             return false;
@@ -74,8 +74,8 @@ impl Detector {
         reports.is_some_and(|reports| reports.direct.count_ones() >= low)
     }
 
-    /// Adds the reports that are implied: where the subject and its observer both have at least L. Who
-    /// has that many by direct reports has them for good, and implied ones make nobody else have them.
+    /// Adds the reports that are implied: where the subject and its observer both have at least L.
+    /// Implied reports make nobody else have L, since they are only on those who have.
     fn close(&mut self, view: &View) {
         for subject in self.low.clone() {
             let Reports { all, observers, .. } = self.reports[&subject];

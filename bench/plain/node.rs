@@ -106,7 +106,8 @@ impl Member {
         let has_room = alert.kind == Kind::Remove
             || self.outbox.joiners.contains(&alert.subject)
             || self.outbox.joiners.len() < MOST_JOINERS;
-        let own = alert.ring < view.k() && view.observer(alert.ring, &alert.subject) == Some(self.me);
+        let own =
+            alert.ring < view.k() && view.observer(alert.ring, &alert.subject) == Some(self.me);
         if alert.config != view.config.id || !own || !fits || !has_room {
             return;
         }
@@ -181,7 +182,9 @@ impl Member {
             Body::Batch(_, alerts) => self.take_batch(out, alerts),
             Body::FastVote(_, cut) => self.take_vote(position?, cut),
             Body::Prepare(_, ballot) if is_of(ballot) => self.take_prepare(out, from, *ballot),
-            Body::Promise(_, ballot, vote) => self.take_promise(out, position?, *ballot, vote.clone()),
+            Body::Promise(_, ballot, vote) => {
+                self.take_promise(out, position?, *ballot, vote.clone())
+            }
             Body::Accept(_, ballot, cut) if is_of(ballot) => self.take_accept(out, *ballot, cut),
             Body::Accepted(_, ballot, cut) => self.take_accepted(position?, *ballot, cut),
             Body::Decision(_, cut) => Some(cut.clone()),

@@ -49,7 +49,12 @@ impl Configuration {
         Configuration::new(params, 0, [0; 32], members)
     }
 
-    pub fn new(params: Params, height: u64, previous: ConfigId, members: Vec<Process>) -> Configuration {
+    pub fn new(
+        params: Params,
+        height: u64,
+        previous: ConfigId,
+        members: Vec<Process>,
+    ) -> Configuration {
         let mut made = Configuration { params, height, previous, members, id: [0; 32] };
         made.id = sha256(&made.bytes());
         made
