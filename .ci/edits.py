@@ -3,10 +3,11 @@
 The command `rt must-fail` tries them one by one, and each time reads again all that a crate stands
 on. Here the edits of a crate that change bodies of different functions are tried in one check, and
 an edit counts as refused where the prover says that the very function which it changes is not
-proved, and names no function that it calls as the reason. What is left then, since a function calls
-another that is changed too, is tried again without the edits that are refused already. An edit that
-this leaves undecided, or that changes more than bodies, is tried alone, as that command does it.
-That each crate is proved without any edit was seen before, by `rt ci` on the same tree.
+proved, shows what is open in it, and names nothing else that is not proved as the reason. What is
+left then, since a function calls another that is changed too, is tried again without the edits that
+are refused already. An edit that this leaves undecided, or that changes more than bodies, is tried
+alone, as that command does it. That each crate is proved without any edit was seen before, by
+`rt ci` on the same tree.
 
 The commands, the edits and their checks are those of the toolchain's own rt, which is read as a
 library.
@@ -28,7 +29,8 @@ VISIBLE = re.compile(r"\bpub(?:\(\w+\))?\s*$")
 CLAUSE = re.compile(r"\b(?:requires|ensures|ghost)\b")
 IMPL = re.compile(r"^impl\b.*", re.M)
 VERDICT = re.compile(r"^fn (\S+): (proved|not proved|no proof|could not tell)(.*)$", re.M)
-CALLS = re.compile(r"it calls (.*?), which (?:is|are) not proved")
+RESTS_ON = re.compile(r"([^;]*), which (?:is|are) not proved")
+UNPROVED_GOAL = "`search` did not prove"
 NAME = re.compile(r"`([^`]+)`")
 NAMES_GONE = re.compile(r"has no field|is not in scope|has no `|was not admitted")
 SAYS_LITTLE = "(only because a proof names what the edit took away, so this says little)"
@@ -197,12 +199,13 @@ def why_refused(edit, crate, said):
             continue
         if not any(is_of(it, crate, verdict) for it in edit.functions):
             continue
-        calls = [name for found in CALLS.findall(rest) for name in NAME.findall(found)]
+        below = [name for found in RESTS_ON.findall(rest) for name in NAME.findall(found)]
+        error = first_error(verdict, crate, said)
         # a text that the prover cannot follow shows nothing of the contract
-        if UNCOVERED in rest:
+        if UNCOVERED in rest or not error and UNPROVED_GOAL not in rest:
             continue
-        if all(any(is_of(it, crate, call) for it in edit.functions) for call in calls):
-            return f"{verdict}{first_error(verdict, crate, said) or rest}"
+        if all(any(is_of(it, crate, name) for it in edit.functions) for name in below):
+            return f"{verdict}{error or rest}"
     return None
 
 

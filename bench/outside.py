@@ -2,9 +2,9 @@
 """Times whole programs from outside: outside.py PROVED PLAIN WORD..
 
 Words are same, detect, sim and cluster. A line is NAME, the proved program's number, the plain
-one's and their ratio. Both get the same input, in turn, and have to write the same; same tries only that,
-on all examples. Processor time is that of the user and the system, of all threads. RUNS in the
-environment says how often each is run (7).
+one's and their ratio. Both get the same input, in turn, and have to write the same; same tries only
+that, on all examples. Processor time is that of the user and the system, of all threads. RUNS in
+the environment says how often each is run (7).
 """
 import glob
 import os

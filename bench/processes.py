@@ -1,12 +1,12 @@
 #!/usr/bin/env python3
-"""Runs nodes as processes of their own on loopback, kills some of them with SIGKILL, and prints times.
+"""Runs nodes as processes on loopback, kills some of them with SIGKILL, and prints times.
 
   bench/processes.py [--nodes 30] [--kill 1] [--tick-ms 100] [--settle 10] [--program FILE]
 
-It prints how long the nodes took to come to one view, how long the survivors took from the kill to one
-view without those that were killed, how many views they entered on the way, and what a node used
-meanwhile: processor time, memory, threads, and bytes sent where the command ss tells them. It is no
-part of the gate. The nodes end with it."""
+It prints how long the nodes took to come to one view, how long the survivors took from the kill to
+one view without those that were killed, how many views they entered on the way, and what a node
+used meanwhile: processor time, memory, threads, and bytes sent where the command ss tells them. It
+is no part of the gate. The nodes end with it."""
 import argparse
 import os
 import re
@@ -79,7 +79,8 @@ def used(label, nodes, seconds):
     after, bytes_after = [it.cpu() for it in nodes], sent(nodes)
     shares = [100 * (b - a) / seconds for a, b in zip(before, after)]
     print(f"{label}, over {seconds:g} s at rest:")
-    print(f"  processor a node    {sum(shares) / len(shares):.2f} % on average, {max(shares):.2f} % at most")
+    average = sum(shares) / len(shares)
+    print(f"  processor a node    {average:.2f} % on average, {max(shares):.2f} % at most")
     print(f"  memory a node       {max(it.status('VmRSS') for it in nodes) / 1024:.1f} MB at most")
     print(f"  threads a node      {max(it.status('Threads') for it in nodes)} at most")
     print(f"  descriptors a node  {max(it.files() for it in nodes)} at most")
@@ -95,7 +96,8 @@ def measure(nodes, kill, settle):
     if took is None:
         print("the nodes have not come to one view")
         return False
-    print(f"{len(nodes)} nodes came to one view in {took:.2f} s; the founder entered {len(nodes[0].views())} views")
+    count = len(nodes[0].views())
+    print(f"{len(nodes)} nodes came to one view in {took:.2f} s; the founder entered {count} views")
     used("all nodes", nodes, settle)
     if kill == 0:
         return True
@@ -108,7 +110,8 @@ def measure(nodes, kill, settle):
         print("the survivors have not come to one view")
         return False
     views = [len(it.views()) - count for it, count in zip(stay, before)]
-    print(f"{kill} were killed; the last survivor's new view came after {took:.2f} s, {max(views)} views on the way")
+    print(f"{kill} were killed; the last survivor's new view came after {took:.2f} s")
+    print(f"views on the way: {max(views)}")
     used("survivors", stay, settle)
     return True
 
