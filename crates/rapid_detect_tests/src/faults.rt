@@ -55,7 +55,9 @@ fn ends_by_name_where_a_write_fails(rt: HostRuntime) -> Result<(), Fail> {
 
 /// Two processes of which the first is an observer of the second on two rings.
 const IMPLIED_INPUT: &[u8] =
-    b"bad\nwatermarks 4 3 2\nedge 0 1 5\nedge 1 2 5\nedge 2 3 5\nedge 3 4 5\nedge 0 1 6\nedge 1 2 6\nedge 2 5 6\nedge 3 5 6\nremove 0 1 5\nremove 1 2 5\nremove 2 3 5\nremove 0 1 6\nremove 1 2 6\nbatch\n";
+    b"bad\nwatermarks 4 3 2\nedge 0 1 5\nedge 1 2 5\nedge 2 3 5\nedge 3 4 5\nedge 0 1 6\n\
+      edge 1 2 6\nedge 2 5 6\nedge 3 5 6\nremove 0 1 5\nremove 1 2 5\nremove 2 3 5\nremove 0 1 6\n\
+      remove 1 2 6\nbatch\n";
 
 /// Want of memory, wherever it is met, ends a run by name, with a beginning of its output.
 #[test]

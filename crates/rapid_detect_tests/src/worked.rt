@@ -26,7 +26,9 @@ pub fn joined(alloc: Global, lines: &str) -> Result<Vec<u8>, AllocError> {
 }
 
 const IMPLIED: &str =
-    "watermarks 4 3 2 / edge 0 1 5 / edge 1 2 5 / edge 2 3 5 / edge 3 4 5 / edge 0 1 6 / edge 1 2 6 / edge 2 5 6 / edge 3 5 6 / remove 0 1 5 / remove 1 2 5 / remove 2 3 5 / remove 0 1 6 / remove 1 2 6 / batch";
+    "watermarks 4 3 2 / edge 0 1 5 / edge 1 2 5 / edge 2 3 5 / edge 3 4 5 / edge 0 1 6 / \
+     edge 1 2 6 / edge 2 5 6 / edge 3 5 6 / remove 0 1 5 / remove 1 2 5 / remove 2 3 5 / \
+     remove 0 1 6 / remove 1 2 6 / batch";
 
 #[test]
 fn prints_the_worked_outputs(rt: HostRuntime) -> Result<(), Fail> {
@@ -34,29 +36,41 @@ fn prints_the_worked_outputs(rt: HostRuntime) -> Result<(), Fail> {
         ("watermarks 4 3 2 / batch", "none"),
         ("", ""),
         (
-            "watermarks 4 3 2 / edge 0 1 5 / edge 1 2 5 / edge 2 3 5 / edge 3 4 5 / remove 0 1 5 / remove 1 2 5 / remove 2 3 5 / batch",
+            "watermarks 4 3 2 / edge 0 1 5 / edge 1 2 5 / edge 2 3 5 / edge 3 4 5 / \
+             remove 0 1 5 / remove 1 2 5 / remove 2 3 5 / batch",
             "cut 5",
         ),
         (
-            "watermarks 4 3 2 / edge 0 1 5 / edge 1 2 5 / edge 2 3 5 / edge 3 4 5 / remove 2 3 5 / remove 2 3 5 / batch / remove 1 2 5 / remove 1 2 5 / batch / remove 0 1 5 / remove 0 1 5 / batch",
+            "watermarks 4 3 2 / edge 0 1 5 / edge 1 2 5 / edge 2 3 5 / edge 3 4 5 / \
+             remove 2 3 5 / remove 2 3 5 / batch / remove 1 2 5 / remove 1 2 5 / batch / \
+             remove 0 1 5 / remove 0 1 5 / batch",
             "none / none / cut 5",
         ),
         (
-            "watermarks 4 3 2 / edge 0 1 5 / edge 1 2 5 / edge 2 3 5 / edge 3 4 5 / edge 0 1 6 / edge 1 2 6 / edge 2 3 6 / edge 3 4 6 / remove 0 1 5 / remove 1 2 5 / remove 2 3 5 / remove 0 1 6 / remove 1 2 6 / batch",
+            "watermarks 4 3 2 / edge 0 1 5 / edge 1 2 5 / edge 2 3 5 / edge 3 4 5 / edge 0 1 6 / \
+             edge 1 2 6 / edge 2 3 6 / edge 3 4 6 / remove 0 1 5 / remove 1 2 5 / remove 2 3 5 / \
+             remove 0 1 6 / remove 1 2 6 / batch",
             "none",
         ),
         (IMPLIED, "cut 5 6"),
         (
-            "watermarks 4 3 2 / edge 0 1 5 / edge 1 2 5 / edge 2 6 5 / edge 3 4 5 / edge 0 1 6 / edge 1 2 6 / edge 2 5 6 / edge 3 4 6 / remove 0 1 5 / remove 1 2 5 / remove 0 1 6 / remove 1 2 6 / batch",
+            "watermarks 4 3 2 / edge 0 1 5 / edge 1 2 5 / edge 2 6 5 / edge 3 4 5 / edge 0 1 6 / \
+             edge 1 2 6 / edge 2 5 6 / edge 3 4 6 / remove 0 1 5 / remove 1 2 5 / remove 0 1 6 / \
+             remove 1 2 6 / batch",
             "cut 5 6",
         ),
         (
-            "watermarks 4 3 2 / edge 0 1 5 / edge 1 2 5 / edge 2 3 5 / edge 3 4 5 / edge 0 1 6 / edge 1 5 6 / edge 2 5 6 / edge 3 5 6 / remove 0 1 5 / remove 1 2 5 / remove 2 3 5 / remove 0 1 6 / batch",
+            "watermarks 4 3 2 / edge 0 1 5 / edge 1 2 5 / edge 2 3 5 / edge 3 4 5 / edge 0 1 6 / \
+             edge 1 5 6 / edge 2 5 6 / edge 3 5 6 / remove 0 1 5 / remove 1 2 5 / remove 2 3 5 / \
+             remove 0 1 6 / batch",
             "cut 5",
         ),
         (
-            "batch / watermarks 10 11 3 / watermarks 10 9 0 / watermarks 1 1 1 / joiner 9 / edge 0 1 9 / edge 0 2 9 / edge 1 2 9 / remove 0 1 9 / batch / join 0 1 9 / batch / batch",
-            "refused NoWatermarks / refused BadParams / refused BadParams / refused EdgeTwice / refused RingRange / none skipped 1 / cut 9 / none",
+            "batch / watermarks 10 11 3 / watermarks 10 9 0 / watermarks 1 1 1 / joiner 9 / \
+             edge 0 1 9 / edge 0 2 9 / edge 1 2 9 / remove 0 1 9 / batch / join 0 1 9 / batch / \
+             batch",
+            "refused NoWatermarks / refused BadParams / refused BadParams / refused EdgeTwice / \
+             refused RingRange / none skipped 1 / cut 9 / none",
         ),
         (
             "watermarks 4 3 2 / edge 0 1 5 / remove 0 1 5 / edge 1 2 5 / joiner 7 / batch",

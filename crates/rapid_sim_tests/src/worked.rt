@@ -37,28 +37,40 @@ fn prints_the_worked_outputs(rt: HostRuntime) -> Result<(), Fail> {
     let rows = [
         ("", ""),
         (
-            "params 3 3 1 / found 1 / start 2 2 1 / tick 2 / flow / deliver 3 / deliver 4 / deliver 5 / tick 1 / flow / packets",
-            "node 1 height 0 members 1 / node 1 height 1 members 1 2 / node 2 height 1 members 1 2 / packets 6",
+            "params 3 3 1 / found 1 / start 2 2 1 / tick 2 / flow / deliver 3 / deliver 4 / \
+             deliver 5 / tick 1 / flow / packets",
+            "node 1 height 0 members 1 / node 1 height 1 members 1 2 / \
+             node 2 height 1 members 1 2 / packets 6",
         ),
         (
-            "params 3 3 1 / found 1 / start 2 2 1 / tick 2 / flow / tick 1 / drop 6 / tick 2 10 / flow / packets / start 2 9 1",
-            "node 1 height 0 members 1 / node 1 height 1 members 1 2 / node 2 height 1 members 1 2 / packets 8 / refused IdentifierUsed",
+            "params 3 3 1 / found 1 / start 2 2 1 / tick 2 / flow / tick 1 / drop 6 / tick 2 10 / \
+             flow / packets / start 2 9 1",
+            "node 1 height 0 members 1 / node 1 height 1 members 1 2 / \
+             node 2 height 1 members 1 2 / packets 8 / refused IdentifierUsed",
         ),
         (
-            "params 3 3 1 / found 1 2 / crash 2 / probe 1 0 fail 4 / probe 1 1 fail 4 / probe 1 2 fail 4 / tick 1 60 / packets",
+            "params 3 3 1 / found 1 2 / crash 2 / probe 1 0 fail 4 / probe 1 1 fail 4 / \
+             probe 1 2 fail 4 / tick 1 60 / packets",
             "node 1 height 0 members 1 2 / node 2 height 0 members 1 2 / packets 10",
         ),
         (
-            "params 3 3 1 / found 1 2 / probe 1 0 fail 4 / tick 1 40 / packets / tick 1 / packets / flow",
-            "node 1 height 0 members 1 2 / node 2 height 0 members 1 2 / packets 3 / packets 5 / node 2 removed at height 1 / node 1 height 1 members 1",
+            "params 3 3 1 / found 1 2 / probe 1 0 fail 4 / tick 1 40 / packets / tick 1 / \
+             packets / flow",
+            "node 1 height 0 members 1 2 / node 2 height 0 members 1 2 / packets 3 / packets 5 / \
+             node 2 removed at height 1 / node 1 height 1 members 1",
         ),
         (
-            "params 3 3 1 / found 1 2 3 / crash 3 / lose 3 / tick 1 / tick 2 / flow / tick 1 20 / flow",
-            "node 1 height 0 members 1 2 3 / node 2 height 0 members 1 2 3 / node 3 height 0 members 1 2 3 / node 2 height 1 members 1 2 / node 1 height 1 members 1 2",
+            "params 3 3 1 / found 1 2 3 / crash 3 / lose 3 / tick 1 / tick 2 / flow / tick 1 20 / \
+             flow",
+            "node 1 height 0 members 1 2 3 / node 2 height 0 members 1 2 3 / \
+             node 3 height 0 members 1 2 3 / node 2 height 1 members 1 2 / \
+             node 1 height 1 members 1 2",
         ),
         (
-            "params 3 3 1 / found 1 / probe 1 0 ok / deliver 1 / tick 9 / start 1 8 1 / start 8 1 1",
-            "node 1 height 0 members 1 / refused NotObserved / refused NoSuchPacket / refused NoSuchNode / refused IdentifierUsed / refused EndpointBusy",
+            "params 3 3 1 / found 1 / probe 1 0 ok / deliver 1 / tick 9 / start 1 8 1 / \
+             start 8 1 1",
+            "node 1 height 0 members 1 / refused NotObserved / refused NoSuchPacket / \
+             refused NoSuchNode / refused IdentifierUsed / refused EndpointBusy",
         ),
     ];
     for (lines, wanted) in rows {
@@ -72,24 +84,33 @@ fn refuses_lines_by_their_rules(rt: HostRuntime) -> Result<(), Fail> {
     let rows = [
         (
             "packets / params 3 3 1 x / params 256 1 1 / params 3 4 1 / drop 1 / found 1",
-            "refused NoParams / refused BadLine / refused BadLine / refused BadParams / refused BadLine / refused NoParams",
+            "refused NoParams / refused BadLine / refused BadLine / refused BadParams / \
+             refused BadLine / refused NoParams",
         ),
         (
             "params 3 3 1 / params 3 3 1 / start 2 2 1 / found 2 1 / found / found 1 1 / drop 1",
-            "refused BadLine / refused NoParams / refused BadLine / refused BadLine / refused BadLine / refused BadLine",
+            "refused BadLine / refused NoParams / refused BadLine / refused BadLine / \
+             refused BadLine / refused BadLine",
         ),
         (
-            "params 3 3 1 / found 1 / found 1 / deliver 0 / drop 1 / flow 1 / crash 2 1 / probe 1 0 maybe / probe 1 0 ok 0 / sim",
-            "node 1 height 0 members 1 / refused BadLine / refused BadLine / refused BadLine / refused BadLine / refused BadLine / refused BadLine / refused BadLine / refused BadLine",
+            "params 3 3 1 / found 1 / found 1 / deliver 0 / drop 1 / flow 1 / crash 2 1 / \
+             probe 1 0 maybe / probe 1 0 ok 0 / sim",
+            "node 1 height 0 members 1 / refused BadLine / refused BadLine / refused BadLine / \
+             refused BadLine / refused BadLine / refused BadLine / refused BadLine / \
+             refused BadLine",
         ),
         (
-            "params 3 3 1 / found 1 / tick 1 1001 / tick 1 01 / tick 0 / tick 65536 / # x / packets",
-            "node 1 height 0 members 1 / refused BadLine / refused BadLine / refused BadLine / refused BadLine / packets 0",
+            "params 3 3 1 / found 1 / tick 1 1001 / tick 1 01 / tick 0 / tick 65536 / # x / \
+             packets",
+            "node 1 height 0 members 1 / refused BadLine / refused BadLine / refused BadLine / \
+             refused BadLine / packets 0",
         ),
         (
             // a repeated event prints its refusal once, and a process may have any port
-            "params 3 3 1 / found 1 / crash 3 / tick 3 1000 / lose 9 / start 2 0 1 / start 2 0 1 / start 3 0 1",
-            "node 1 height 0 members 1 / refused NoSuchNode / refused NoSuchNode / refused IdentifierUsed / refused EndpointBusy",
+            "params 3 3 1 / found 1 / crash 3 / tick 3 1000 / lose 9 / start 2 0 1 / \
+             start 2 0 1 / start 3 0 1",
+            "node 1 height 0 members 1 / refused NoSuchNode / refused NoSuchNode / \
+             refused IdentifierUsed / refused EndpointBusy",
         ),
     ];
     for (lines, wanted) in rows {
@@ -104,16 +125,19 @@ fn settles_packets(rt: HostRuntime) -> Result<(), Fail> {
     let rows = [
         (
             // the second packet is settled before the first: the flow delivers the first alone, and the answer to it
-            "params 3 3 1 / found 1 / start 2 2 1 / start 3 3 1 / tick 2 / tick 3 / drop 2 / flow / packets",
+            "params 3 3 1 / found 1 / start 2 2 1 / start 3 3 1 / tick 2 / tick 3 / drop 2 / \
+             flow / packets",
             "node 1 height 0 members 1 / packets 6",
         ),
         (
-            "params 3 3 1 / found 1 / start 2 2 1 / tick 2 / drop 1 / flow / packets / deliver 1 / packets / flow / packets",
+            "params 3 3 1 / found 1 / start 2 2 1 / tick 2 / drop 1 / flow / packets / \
+             deliver 1 / packets / flow / packets",
             "node 1 height 0 members 1 / packets 1 / packets 2 / packets 5",
         ),
         (
             // a packet to a node that has crashed is settled, and is not delivered later
-            "params 3 3 1 / found 1 / start 2 2 1 / tick 2 / deliver 1 / crash 2 / flow / start 9 2 1 / flow / packets / deliver 2 / packets",
+            "params 3 3 1 / found 1 / start 2 2 1 / tick 2 / deliver 1 / crash 2 / flow / \
+             start 9 2 1 / flow / packets / deliver 2 / packets",
             "node 1 height 0 members 1 / packets 2 / packets 2",
         ),
     ];
