@@ -32,12 +32,13 @@ or the port was not to be had, 2 where the words were refused, 3 for want of mem
 has halted or its journal is full.";
 
 /// An option whose value is a text.
-fn text<'a>(alloc: Global, name: &'a str, kind: &'a str, help: &'a str) -> Arg<'a> {
-    Arg::new(alloc, name)
-        .long(name)
-        .value_name(kind)
-        .action(ArgAction::Set)
-        .help(help)
+pub(crate) fn text<'a>(alloc: Global, name: &'a str, kind: &'a str, help: &'a str) -> Arg<'a> {
+    taking(Arg::new(alloc, name).long(name), kind).help(help)
+}
+
+/// The option with a value of this kind.
+fn taking<'a>(option: Arg<'a>, kind: &'a str) -> Arg<'a> {
+    option.value_name(kind).action(ArgAction::Set)
 }
 
 /// The words that `node` takes.

@@ -6,9 +6,9 @@ ghost use Rattle.rapidd.specs.Jobs.{CanRun, Wrote, WroteFront};
 ghost use Rattle.rapidd.specs.NodeWords.{NamesNode};
 ghost use Rattle.rapidd.specs.Statuses.{run_status};
 
-use crate::node::{names_node, node, node_words, run_as_node};
+use crate::node::{names_node, node, node_words, run_as_node, text};
 use clap::error::ErrorKind;
-use clap::{Arg, ArgAction, ArgMatches, Command, Error, value_parser};
+use clap::{Arg, ArgMatches, Command, Error, value_parser};
 use rapid_cluster::run_cluster;
 use rapid_config::Params;
 use rapid_detect::run_detect;
@@ -112,12 +112,7 @@ enum Job {
 
 /// An option whose value is a number.
 pub(crate) fn number<'a>(alloc: Global, name: &'a str, default: &'a str, help: &'a str) -> Arg<'a> {
-    Arg::new(alloc, name)
-        .long(name)
-        .value_name("NUMBER")
-        .action(ArgAction::Set)
-        .default_value(default)
-        .help(help)
+    text(alloc, name, "NUMBER", help).default_value(default)
 }
 
 /// The words that `cluster` takes.
