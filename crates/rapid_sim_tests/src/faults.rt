@@ -83,8 +83,7 @@ fn ends_by_name_where_a_write_fails(rt: HostRuntime) -> Result<(), Fail> {
 const RECOVERED: &[u8] =
     b"params 3 3 1\nfound 1 2 3\ncrash 3\nlose 3\ntick 1\ntick 2\nflow\ntick 1 20\nflow\n";
 
-const RECOVERED_VIEWS: &[u8] =
-    b"node 1 height 0 members 1 2 3\nnode 2 height 0 members 1 2 3\n\
+const RECOVERED_VIEWS: &[u8] = b"node 1 height 0 members 1 2 3\nnode 2 height 0 members 1 2 3\n\
       node 3 height 0 members 1 2 3\nnode 2 height 1 members 1 2\nnode 1 height 1 members 1 2\n";
 
 /// Want of memory, wherever it is met, ends a run by name, or is counted: then an event was refused for it, or a node halted. Where it
