@@ -38,54 +38,54 @@ fresh_installs c me xs = by (is_member c me)
     by true = tt
     by false = tt
 
-settled : (me : Process) (before : List Stamp) (ds : Decisions) (w : Work) (d : Option Cut) → Goes before (settle_at me before ds w d)
+settled : (n : Node) (w : Work) (d : Option Cut) → Goes n.installed (settle_at n w d)
 unfolding install
-settled me before ds w None = (tt, inl refl)
-settled me before ds w (Some v) = by (is_history_full before w.state.config)
+settled n w None = (tt, inl refl)
+settled n w (Some v) = by (is_history_full n.installed w.state.config)
   where
-    by : (b : Bool) → Goes before (cond b None (Some (put_before w.effects (install me before ds w.state v))))
+    by : (b : Bool) → Goes n.installed (cond b None (Some (put_before w.effects (install n w.state v))))
     by true = tt
-    by false = (fresh_installs (apply w.state.config v) me _, inr record { config = apply w.state.config v; grew = refl; fresh = refl })
+    by false = (fresh_installs (apply w.state.config v) n.me _, inr record { config = apply w.state.config v; grew = refl; fresh = refl })
 
-settles : (me : Process) (before : List Stamp) (ds : Decisions) (w : Work) → Goes before (settle me before ds w)
+settles : (n : Node) (w : Work) → Goes n.installed (settle n w)
 unfolding settle
-settles me before ds w = settled me before ds w w.decided
+settles n w = settled n w w.decided
 
-joined : (me : Process) (before : List Stamp) (ds : Decisions) (j : Joiner) (b : Body) → before ≡ [] → Went before (receive_as_joiner me before ds j b).node
+joined : (n : Node) (j : Joiner) (b : Body) → n.installed ≡ [] → Went n.installed (receive_as_joiner n j b).node
 unfolding receive_as_joiner
-joined me before ds j (Confirm c) none = by (is_member c me) refl
+joined n j (Confirm c) none = by (is_member c n.me) refl
   where
-    by : (b : Bool) → is_member c me ≡ b → Went before (cond b (record { node = seed_node c me; effects = [] }) (joins_on me before ds j [])).node
-    by true is = (tt, inr record { config = c; grew = ap (λ l. l ++ stamp c ∷ []) (sym none); fresh = ap (λ b. cond b (Member (fresh_member c me)) (Removed c)) (sym is) })
+    by : (b : Bool) → is_member c n.me ≡ b → Went n.installed (cond b (record { node = seed_node c n.me; effects = [] }) (joins_on n j [])).node
+    by true is = (tt, inr record { config = c; grew = ap (λ l. l ++ stamp c ∷ []) (sym none); fresh = ap (λ b. cond b (Member (fresh_member c n.me)) (Removed c)) (sym is) })
     by false is = (none, inl refl)
-joined me before ds j (Reply who a) none = (none, inl refl)
-joined me before ds j (Batch id xs) none = (none, inl refl)
-joined me before ds j (FastVote id v) none = (none, inl refl)
-joined me before ds j (Prepare id b) none = (none, inl refl)
-joined me before ds j (Promise id b v) none = (none, inl refl)
-joined me before ds j (Accept id b v) none = (none, inl refl)
-joined me before ds j (Accepted id b v) none = (none, inl refl)
-joined me before ds j (Decision id v) none = (none, inl refl)
-joined me before ds j PreJoin none = (none, inl refl)
-joined me before ds j (JoinRequest id k) none = (none, inl refl)
-joined me before ds j (Probe id) none = (none, inl refl)
-joined me before ds j (ProbeAck id) none = (none, inl refl)
+joined n j (Reply who a) none = (none, inl refl)
+joined n j (Batch id xs) none = (none, inl refl)
+joined n j (FastVote id v) none = (none, inl refl)
+joined n j (Prepare id b) none = (none, inl refl)
+joined n j (Promise id b v) none = (none, inl refl)
+joined n j (Accept id b v) none = (none, inl refl)
+joined n j (Accepted id b v) none = (none, inl refl)
+joined n j (Decision id v) none = (none, inl refl)
+joined n j PreJoin none = (none, inl refl)
+joined n j (JoinRequest id k) none = (none, inl refl)
+joined n j (Probe id) none = (none, inl refl)
+joined n j (ProbeAck id) none = (none, inl refl)
 
 goes_tick : (n : Node) → JoinsEmpty n → (p : Phase) → no_installs_in p n.installed → Goes n.installed (step_tick n p)
 goes_tick n h (Joining j) q = (q, inl refl)
-goes_tick n h (Member s) q = settles n.me n.installed n.decisions (on_tick s)
+goes_tick n h (Member s) q = settles n (on_tick s)
 goes_tick n h (Removed c) q = (h, inl refl)
 goes_tick n h (Halted shown) q = (h, inl refl)
 
 goes_down : (n : Node) → JoinsEmpty n → (p : Phase) (id : List ℕ) (k : ℕ) (x : Process) → Goes n.installed (step_edge_down n p id k x)
 goes_down n h (Joining j) id k x = (h, inl refl)
-goes_down n h (Member s) id k x = settles n.me n.installed n.decisions _
+goes_down n h (Member s) id k x = settles n _
 goes_down n h (Removed c) id k x = (h, inl refl)
 goes_down n h (Halted shown) id k x = (h, inl refl)
 
 goes_receive : (n : Node) → JoinsEmpty n → (p : Phase) → no_installs_in p n.installed → (m : Message) → Goes n.installed (step_receive n p m)
-goes_receive n h (Joining j) q m = joined n.me n.installed n.decisions j m.body q
-goes_receive n h (Member s) q m = settles n.me n.installed n.decisions _
+goes_receive n h (Joining j) q m = joined n j m.body q
+goes_receive n h (Member s) q m = settles n _
 goes_receive n h (Removed c) q m = (h, inl refl)
 goes_receive n h (Halted shown) q m = (h, inl refl)
 
@@ -104,22 +104,22 @@ abbrev pub Stays : Node → Option Outcome → Type 0
 Stays n None = Unit {0}
 Stays n (Some o) = o.node ≡ n
 
-quiet : (n : Node) (s : MemberState) → n.phase ≡ Member s → (w : Work) → w.state ≡ s → w.decided ≡ None → Stays n (settle n.me n.installed n.decisions w)
+quiet : (n : Node) (s : MemberState) → n.phase ≡ Member s → (w : Work) → w.state ≡ s → w.decided ≡ None → Stays n (settle n w)
 unfolding settle
 quiet n s is w same none =
-    subst (λ d. Stays n (settle_at n.me n.installed n.decisions w d)) (sym none)
+    subst (λ d. Stays n (settle_at n w d)) (sym none)
     (λ i. record { me = n.me; phase = (ap Member same ∙ sym is) i; installed = n.installed; decisions = n.decisions })
 
-asked : (n : Node) (s : MemberState) → n.phase ≡ Member s → (from : Process) (b : Body) → is_kept b ≡ false → Stays n (settle n.me n.installed n.decisions (receive_as_member n.decisions s from b))
+asked : (n : Node) (s : MemberState) → n.phase ≡ Member s → (from : Process) (b : Body) → is_kept b ≡ false → Stays n (settle n (receive_as_member n.decisions s from b))
 unfolding receive_as_member take
 asked n s is from (Probe id) h = by (is_about (current_id s) (Some id))
   where
-    by : (b : Bool) → Stays n (settle n.me n.installed n.decisions (after_effects (Says (To (endpoint from)) (ProbeAck (current_id s)) ∷ []) (cond b (still s) (sends s (catch_up n.decisions from (Some id))))))
+    by : (b : Bool) → Stays n (settle n (after_effects (Says (To (endpoint from)) (ProbeAck (current_id s)) ∷ []) (cond b (still s) (sends s (catch_up n.decisions from (Some id))))))
     by true = quiet n s is _ refl refl
     by false = quiet n s is _ refl refl
 asked n s is from (ProbeAck id) h = by (is_about (current_id s) (Some id))
   where
-    by : (b : Bool) → Stays n (settle n.me n.installed n.decisions (cond b (still s) (sends s (catch_up n.decisions from (Some id)))))
+    by : (b : Bool) → Stays n (settle n (cond b (still s) (sends s (catch_up n.decisions from (Some id)))))
     by true = quiet n s is _ refl refl
     by false = quiet n s is _ refl refl
 asked n s is from (Batch id xs) h = absurd (cc)
@@ -134,7 +134,7 @@ asked n s is from (Reply j a) h = absurd (cc)
 asked n s is from (JoinRequest id k) h = absurd (cc)
 asked n s is from (Confirm c) h = absurd (cc)
 
-joiner_asked : (n : Node) (j : Joiner) → n.phase ≡ Joining j → (b : Body) → is_kept b ≡ false → (receive_as_joiner n.me n.installed n.decisions j b).node ≡ n
+joiner_asked : (n : Node) (j : Joiner) → n.phase ≡ Joining j → (b : Body) → is_kept b ≡ false → (receive_as_joiner n j b).node ≡ n
 unfolding receive_as_joiner
 joiner_asked n j is (Probe id) h = λ i. record { me = n.me; phase = sym is i; installed = n.installed; decisions = n.decisions }
 joiner_asked n j is (ProbeAck id) h = λ i. record { me = n.me; phase = sym is i; installed = n.installed; decisions = n.decisions }

@@ -5,7 +5,7 @@ use Rattle.std.proofs.lemmas.List.Quantifiers.{position-Some}
 use Rattle.std.proofs.lemmas.Option.{slice_get-get_or}
 use Rattle.std.proofs.lemmas.Bool.{and_parts}
 use Rattle.rapid_model.specs.Process.{Process, identifier}
-use Rattle.rapid_model.specs.Configuration.{Configuration, Stamp, configuration_id, is_member}
+use Rattle.rapid_model.specs.Configuration.{Configuration, configuration_id, is_member}
 use Rattle.rapid_model.specs.Apply.{apply}
 use Rattle.rapid_model.specs.Cut.{Cut}
 use Rattle.rapid_model.specs.Joiner.{Joiner}
@@ -14,7 +14,7 @@ use Rattle.rapid_model.specs.Message as message
 use Rattle.rapid_model.specs.Edge.{Edge, probed}
 use Rattle.rapid_model.specs.Monitors.{Monitors}
 use Rattle.rapid_model.specs.Node as node
-use Rattle.rapid_model.specs.Node.{Node, Decisions, MemberState, fresh_member, seed_node, Phase, Joining, Member, Removed, Halted, Event, EdgeDown, Receive, Effect, Outcome, configuration_of, has_installed, is_halted, is_halted_phase, halt}
+use Rattle.rapid_model.specs.Node.{Node, MemberState, fresh_member, seed_node, Phase, Joining, Member, Removed, Halted, Event, EdgeDown, Receive, Effect, Outcome, configuration_of, has_installed, is_halted, is_halted_phase, halt}
 use Rattle.rapid_model.specs.Member.{Work}
 use Rattle.rapid_model.specs.Receive.{receive_as_joiner, joins_on}
 use Rattle.rapid_model.specs.NodeStep.{node_step, settle, settle_at, step_edge_down, step_tick, step_receive, install, put_before, phase_in, is_history_full}
@@ -65,35 +65,35 @@ one_outcome false x y h k = k
 stays_up : (me : Process) (c : Configuration) → is_halted_phase (phase_in c me) ≡ false
 stays_up me c = one_phase (is_member c me) (Member (fresh_member c me)) (Removed c) refl refl
 
-settle_up : (me : Process) (installed : List Stamp) (ds : Decisions) (w : Work) (o : Outcome) → settle me installed ds w ≡ Some o → is_halted o.node ≡ false
+settle_up : (n : Node) (w : Work) (o : Outcome) → settle n w ≡ Some o → is_halted o.node ≡ false
 unfolding settle install
-settle_up me installed ds w o h = by w.decided h
+settle_up n w o h = by w.decided h
   where
-    by : (d : Option Cut) → settle_at me installed ds w d ≡ Some o → is_halted o.node ≡ false
+    by : (d : Option Cut) → settle_at n w d ≡ Some o → is_halted o.node ≡ false
     by None e = subst (λ (x : Outcome). is_halted x.node ≡ false) (some_is _ o e) refl
-    by (Some v) e = full (is_history_full installed w.state.config) refl
+    by (Some v) e = full (is_history_full n.installed w.state.config) refl
       where
-        full : (b : Bool) → is_history_full installed w.state.config ≡ b → is_halted o.node ≡ false
-        full true same = let none : None ≡ Some o = subst (λ b. cond b None (Some (put_before w.effects (install me installed ds w.state v))) ≡ Some o) same e in cc
+        full : (b : Bool) → is_history_full n.installed w.state.config ≡ b → is_halted o.node ≡ false
+        full true same = let none : None ≡ Some o = subst (λ b. cond b None (Some (put_before w.effects (install n w.state v))) ≡ Some o) same e in cc
         full false same =
-            let is : Some (put_before w.effects (install me installed ds w.state v)) ≡ Some o = subst (λ b. cond b None (Some (put_before w.effects (install me installed ds w.state v))) ≡ Some o) same e in
-            subst (λ (x : Outcome). is_halted x.node ≡ false) (some_is _ o is) (stays_up me (apply w.state.config v))
+            let is : Some (put_before w.effects (install n w.state v)) ≡ Some o = subst (λ b. cond b None (Some (put_before w.effects (install n w.state v))) ≡ Some o) same e in
+            subst (λ (x : Outcome). is_halted x.node ≡ false) (some_is _ o is) (stays_up n.me (apply w.state.config v))
 
-joiner_up : (me : Process) (installed : List Stamp) (ds : Decisions) (j : Joiner) (b : Body) → is_halted (receive_as_joiner me installed ds j b).node ≡ false
+joiner_up : (n : Node) (j : Joiner) (b : Body) → is_halted (receive_as_joiner n j b).node ≡ false
 unfolding receive_as_joiner
-joiner_up me installed ds j (Confirm c) = one_outcome (is_member c me) (record { node = seed_node c me; effects = [] }) (joins_on me installed ds j []) refl refl
-joiner_up me installed ds j (Batch id xs) = refl
-joiner_up me installed ds j (FastVote id v) = refl
-joiner_up me installed ds j (Prepare id b) = refl
-joiner_up me installed ds j (Promise id b vote) = refl
-joiner_up me installed ds j (Accept id b v) = refl
-joiner_up me installed ds j (Accepted id b v) = refl
-joiner_up me installed ds j (Decision id v) = refl
-joiner_up me installed ds j PreJoin = refl
-joiner_up me installed ds j (Reply who a) = refl
-joiner_up me installed ds j (JoinRequest id k) = refl
-joiner_up me installed ds j (message.Probe id) = refl
-joiner_up me installed ds j (message.ProbeAck id) = refl
+joiner_up n j (Confirm c) = one_outcome (is_member c n.me) (record { node = seed_node c n.me; effects = [] }) (joins_on n j []) refl refl
+joiner_up n j (Batch id xs) = refl
+joiner_up n j (FastVote id v) = refl
+joiner_up n j (Prepare id b) = refl
+joiner_up n j (Promise id b vote) = refl
+joiner_up n j (Accept id b v) = refl
+joiner_up n j (Accepted id b v) = refl
+joiner_up n j (Decision id v) = refl
+joiner_up n j PreJoin = refl
+joiner_up n j (Reply who a) = refl
+joiner_up n j (JoinRequest id k) = refl
+joiner_up n j (message.Probe id) = refl
+joiner_up n j (message.ProbeAck id) = refl
 
 step_up : (n : Node) (e : Event) (o : Outcome) → is_halted n ≡ false → node_step n e ≡ Some o → is_halted o.node ≡ false
 unfolding node_step
@@ -101,21 +101,21 @@ step_up n (EdgeDown id k p) o up h = by n.phase up h
   where
     by : (ph : Phase) → is_halted_phase ph ≡ false → step_edge_down n ph id k p ≡ Some o → is_halted o.node ≡ false
     by (Joining j) u e = subst (λ (x : Outcome). is_halted x.node ≡ false) (some_is _ o e) up
-    by (Member s) u e = settle_up n.me n.installed n.decisions _ o e
+    by (Member s) u e = settle_up n _ o e
     by (Removed c) u e = subst (λ (x : Outcome). is_halted x.node ≡ false) (some_is _ o e) up
     by (Halted shown) u e = cc
 step_up n node.Tick o up h = by n.phase up h
   where
     by : (ph : Phase) → is_halted_phase ph ≡ false → step_tick n ph ≡ Some o → is_halted o.node ≡ false
     by (Joining j) u e = subst (λ (x : Outcome). is_halted x.node ≡ false) (some_is _ o e) refl
-    by (Member s) u e = settle_up n.me n.installed n.decisions _ o e
+    by (Member s) u e = settle_up n _ o e
     by (Removed c) u e = subst (λ (x : Outcome). is_halted x.node ≡ false) (some_is _ o e) up
     by (Halted shown) u e = cc
 step_up n (Receive m) o up h = by n.phase up h
   where
     by : (ph : Phase) → is_halted_phase ph ≡ false → step_receive n ph m ≡ Some o → is_halted o.node ≡ false
-    by (Joining j) u e = subst (λ (x : Outcome). is_halted x.node ≡ false) (some_is _ o e) (joiner_up n.me n.installed n.decisions j m.body)
-    by (Member s) u e = settle_up n.me n.installed n.decisions _ o e
+    by (Joining j) u e = subst (λ (x : Outcome). is_halted x.node ≡ false) (some_is _ o e) (joiner_up n j m.body)
+    by (Member s) u e = settle_up n _ o e
     by (Removed c) u e = subst (λ (x : Outcome). is_halted x.node ≡ false) (some_is _ o e) up
     by (Halted shown) u e = cc
 

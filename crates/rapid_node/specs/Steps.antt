@@ -20,6 +20,10 @@ fault_code Halted = 1
 fault_code OutOfMemory = 2
 fault_code HistoryFull = 3
 
+-- The node as it is in this phase.
+abbrev pub in_phase : model.Node → model.Phase → model.Node
+in_phase n p = record n { phase = p }
+
 -- There is an outcome: this node, and these outputs after those of before.
 abbrev pub Continues : Process → Option model.Outcome → model.Node → List model.Output → List model.Output → Type 0
 Continues me None new before after = ⊥

@@ -19,7 +19,7 @@ ghost use Rattle.rapid_join.specs.Answers.{answer_of};
 ghost use Rattle.rapid_member.specs.Bodies.{CanSay, body_of};
 ghost use Rattle.rapid_member.specs.Members.{IsSameMember};
 ghost use Rattle.rapid_node.specs.Phases.{phase_of, name_of, IsState};
-ghost use Rattle.rapid_node.specs.Steps.{event_of, Continues, HasOutcome, Stops, IsFault};
+ghost use Rattle.rapid_node.specs.Steps.{event_of, in_phase, Continues, HasOutcome, Stops, IsFault};
 ghost use Rattle.rapid_node.specs.declared.fault.NodeFault.TheVariants as fault;
 
 use crate::installed::Installed;
@@ -308,8 +308,8 @@ impl Node {
         cut: Cut,
     ) -> Result<(), AllocError>
         requires { member.value.config.height < 2 ^ 64 - 1 }
-        ensures node { OnOk result (self.new ≡ (step.install self.old.me self.old.installed self.old.decisions member.value cut).node) }
-        ensures out { OnOk result (out.new.items ≡ out.old.items ++ model.outputs self.old.me (step.install self.old.me self.old.installed self.old.decisions member.value cut).effects) }
+        ensures node { OnOk result (self.new ≡ (step.install self.old member.value cut).node) }
+        ensures out { OnOk result (out.new.items ≡ out.old.items ++ model.outputs self.old.me (step.install self.old member.value cut).effects) }
         ensures unchanged { OnErr result (self.new ≡ self.old) }
     {
         let view = views.after(&*member, &cut)?;
@@ -329,8 +329,8 @@ impl Node {
     ) -> Result<(), NodeFault>
         requires me { member.value.me ≡ self.old.me }
         requires shown { self.old.phase ≡ model.Halted (Some member.value.config) }
-        ensures ok { OnOk result (Continues self.old.me (step.settle self.old.me self.old.installed self.old.decisions (record { state = member.value; effects = []; decided = decided })) self.new out.old.items out.new.items) }
-        ensures stop { IfErr result (Stops (step.settle self.old.me self.old.installed self.old.decisions (record { state = member.value; effects = []; decided = decided }))) }
+        ensures ok { OnOk result (Continues self.old.me (step.settle self.old (record { state = member.value; effects = []; decided = decided })) self.new out.old.items out.new.items) }
+        ensures stop { IfErr result (Stops (step.settle self.old (record { state = member.value; effects = []; decided = decided }))) }
         ensures unchanged { OnErr result (self.new ≡ self.old) }
     {
         let Some(cut) = decided else {
@@ -356,8 +356,8 @@ impl Node {
     ) -> Result<(), NodeFault>
         requires me { member.value.me ≡ self.old.me }
         requires shown { self.old.phase ≡ model.Halted (Some member.value.config) }
-        ensures ok { OnOk result (Continues self.old.me (step.settle self.old.me self.old.installed self.old.decisions (on_tick member.value)) self.new out.old.items out.new.items) }
-        ensures stop { IfErr result (Stops (step.settle self.old.me self.old.installed self.old.decisions (on_tick member.value))) }
+        ensures ok { OnOk result (Continues self.old.me (step.settle (in_phase self.old (model.Member member.value)) (on_tick member.value)) self.new out.old.items out.new.items) }
+        ensures stop { IfErr result (Stops (step.settle (in_phase self.old (model.Member member.value)) (on_tick member.value))) }
         ensures unchanged { OnErr result (self.new ≡ self.old) }
     {
         let decided = member.on_tick(out)?;
@@ -375,8 +375,8 @@ impl Node {
     ) -> Result<(), NodeFault>
         requires me { member.value.me ≡ self.old.me }
         requires shown { self.old.phase ≡ model.Halted (Some member.value.config) }
-        ensures ok { OnOk result (Continues self.old.me (step.settle self.old.me self.old.installed self.old.decisions (receive.receive_as_member self.old.decisions member.value message.now.sender message.now.body)) self.new out.old.items out.new.items) }
-        ensures stop { IfErr result (Stops (step.settle self.old.me self.old.installed self.old.decisions (receive.receive_as_member self.old.decisions member.value message.now.sender message.now.body))) }
+        ensures ok { OnOk result (Continues self.old.me (step.settle (in_phase self.old (model.Member member.value)) (receive.receive_as_member self.old.decisions member.value message.now.sender message.now.body)) self.new out.old.items out.new.items) }
+        ensures stop { IfErr result (Stops (step.settle (in_phase self.old (model.Member member.value)) (receive.receive_as_member self.old.decisions member.value message.now.sender message.now.body))) }
         ensures unchanged { OnErr result (self.new ≡ self.old) }
     {
         let from = message.sender();
@@ -395,7 +395,7 @@ impl Node {
     ) -> Result<(), AllocError>
         requires me { member.value.me ≡ self.old.me }
         requires shown { self.old.phase ≡ model.Halted (Some member.value.config) }
-        ensures ok { OnOk result (Continues self.old.me (step.step_edge_down self.old (model.Member member.value) config ring subject.now) self.new [] []) }
+        ensures ok { OnOk result (Continues self.old.me (step.step_edge_down (in_phase self.old (model.Member member.value)) (model.Member member.value) config ring subject.now) self.new [] []) }
         ensures unchanged { OnErr result (self.new ≡ self.old) }
     {
         member.raise(Alert {
@@ -434,7 +434,7 @@ impl Node {
     ) -> Result<(), AllocError>
         requires me { joiner.process ≡ self.old.me }
         requires shown { self.old.phase ≡ model.Halted None }
-        ensures ok { OnOk result (Continues self.old.me (Some (receive.joins_on self.old.me self.old.installed self.old.decisions joiner.joiner (receive.replied self.old.me joiner.joiner process.now (answer_of reply.now)))) self.new out.old.items out.new.items) }
+        ensures ok { OnOk result (Continues self.old.me (Some (receive.joins_on (in_phase self.old (model.Joining joiner.joiner)) joiner.joiner (receive.replied self.old joiner.joiner process.now (answer_of reply.now)))) self.new out.old.items out.new.items) }
         ensures unchanged { OnErr result (self.new ≡ self.old) }
     {
         let answer = joiner.on_reply(self.alloc, process, reply)?;
@@ -453,7 +453,7 @@ impl Node {
     ) -> Result<(), AllocError>
         requires me { joiner.process ≡ self.old.me }
         requires shown { self.old.phase ≡ model.Halted None }
-        ensures ok { OnOk result (Continues self.old.me (Some (receive.receive_as_joiner self.old.me self.old.installed self.old.decisions joiner.joiner (message.Confirm configuration.now))) self.new [] []) }
+        ensures ok { OnOk result (Continues self.old.me (Some (receive.receive_as_joiner (in_phase self.old (model.Joining joiner.joiner)) joiner.joiner (message.Confirm configuration.now))) self.new [] []) }
         ensures unchanged { OnErr result (self.new ≡ self.old) }
     {
         if !configuration.is_member(&self.me) {
@@ -476,7 +476,7 @@ impl Node {
     ) -> Result<(), AllocError>
         requires me { joiner.process ≡ self.old.me }
         requires shown { self.old.phase ≡ model.Halted None }
-        ensures ok { OnOk result (Continues self.old.me (step.step_receive self.old (model.Joining joiner.joiner) message.now) self.new out.old.items out.new.items) }
+        ensures ok { OnOk result (Continues self.old.me (step.step_receive (in_phase self.old (model.Joining joiner.joiner)) (model.Joining joiner.joiner) message.now) self.new out.old.items out.new.items) }
         ensures unchanged { OnErr result (self.new ≡ self.old) }
     {
         match message.body() {

@@ -285,7 +285,7 @@ work_is =
 
 pub node_ticks : node_step n1 Tick ≡ Some (record { node = n2; effects = done })
 unfolding node_step settle
-node_ticks = ap (settle host (stamp two ∷ []) []) work_is
+node_ticks = ap (settle n1) work_is
 
 -- ---- the other member hears the batch
 
@@ -326,7 +326,7 @@ hears_batch = ap (λ b. cond b (take_batch q0 (report ∷ [])) (sends q0 (catch_
 
 pub node_batch : node_step m0 (Receive (message host batch)) ≡ Some (record { node = m1; effects = votes })
 unfolding node_step settle
-node_batch = ap (settle other (stamp two ∷ []) []) hears_batch
+node_batch = ap (settle m0) hears_batch
 
 -- ---- the host hears the vote and installs
 
@@ -381,7 +381,7 @@ installed_by p b ys =
 
 pub node_vote : node_step n2 (Receive (message other vote)) ≡ Some (record { node = n3; effects = Says (To (endpoint guest)) (Confirm three) ∷ [] })
 unfolding node_step settle install fresh_member
-node_vote = ap (settle host (stamp two ∷ []) []) hears_vote ∙ ap (λ b. installed_by host b (confirms three waiting)) host_in ∙ ap (installed_by host true) confirms_it
+node_vote = ap (settle n2) hears_vote ∙ ap (λ b. installed_by host b (confirms three waiting)) host_in ∙ ap (installed_by host true) confirms_it
 
 -- ---- the vote comes again, and is answered with the decision
 
@@ -398,7 +398,7 @@ answered o = Some (record { node = n3; effects = decision_to other id o })
 pub node_again : node_step n3 (Receive (message other vote)) ≡ Some (record { node = n3; effects = Says (To (endpoint other)) decision ∷ [] })
 unfolding node_step receive_as_member settle fresh_member
 node_again =
-    ap (λ b. settle host (stamp two ∷ stamp three ∷ []) ((id, v) ∷ []) (cond b (take (fresh_member three host) other vote) (sends (fresh_member three host) (catch_up ((id, v) ∷ []) other (Some id))))) ids_differ
+    ap (λ b. settle n3 (cond b (take (fresh_member three host) other vote) (sends (fresh_member three host) (catch_up ((id, v) ∷ []) other (Some id))))) ids_differ
     ∙ ap (λ b. answered (option_map (λ (d : List ℕ × Cut). d.1) (cond b (Some (id, v)) None))) id_itself
 
 -- ---- the other member hears the decision
@@ -412,7 +412,7 @@ hears_decision = ap (λ b. cond b left (still q4)) id_itself
 
 pub node_decision : node_step m1 (Receive (message host decision)) ≡ Some (record { node = m2; effects = [] })
 unfolding node_step settle install fresh_member left
-node_decision = ap (settle other (stamp two ∷ []) []) hears_decision ∙ ap (λ b. installed_by other b (confirms three set.empty)) other_in ∙ ap (installed_by other true) confirms_none
+node_decision = ap (settle m1) hears_decision ∙ ap (λ b. installed_by other b (confirms three set.empty)) other_in ∙ ap (installed_by other true) confirms_none
 
 -- ---- the run in which a guest joins two founders, one of which catches up
 
@@ -468,7 +468,7 @@ w11 = moved w10 2 (added j1) (Took (message host (Confirm three)) ∷ []) (out (
 
 pub node_joins : node_step j1 (Receive (message host (Confirm three))) ≡ Some (out (seed_node three guest) [])
 unfolding node_step receive_as_joiner
-node_joins = ap (λ b. Some (cond b (out (seed_node three guest) []) (joins_on guest [] [] (after_tick (fresh_joiner (endpoint host))) []))) guest_in
+node_joins = ap (λ b. Some (cond b (out (seed_node three guest) []) (joins_on j1 (after_tick (fresh_joiner (endpoint host))) []))) guest_in
 
 -- the events of the asking after the first, and then others
 abbrev from : ℕ → List MarkedEvent → List MarkedEvent

@@ -27,13 +27,13 @@ module _ (n : Node) (j : Joiner) (joining : n.phase ≡ Joining j) where
   still e es o h = let same : record { node = record n { phase = Joining j }; effects = es } ≡ o = cc in subst (JoinerSteps n e) same (joins_still e j es)
 
   confirmed : (from : Process) (c : Configuration) (b : Bool) (o : Outcome) → is_member c n.me ≡ b →
-      Some (cond b (record { node = seed_node c n.me; effects = [] }) (joins_on n.me n.installed n.decisions j [])) ≡ Some o → JoinerSteps n (Receive (message from (Confirm c))) o
+      Some (cond b (record { node = seed_node c n.me; effects = [] }) (joins_on n j [])) ≡ Some o → JoinerSteps n (Receive (message from (Confirm c))) o
   confirmed from c true o e h = let same : record { node = seed_node c n.me; effects = [] } ≡ o = cc in subst (JoinerSteps n (Receive (message from (Confirm c)))) same (joins from c e)
   confirmed from c false o e h = still (Receive (message from (Confirm c))) [] o h
 
-  receives : (from : Process) (b : Body) (o : Outcome) → Some (receive_as_joiner n.me n.installed n.decisions j b) ≡ Some o → JoinerSteps n (Receive (message from b)) o
+  receives : (from : Process) (b : Body) (o : Outcome) → Some (receive_as_joiner n j b) ≡ Some o → JoinerSteps n (Receive (message from b)) o
   unfolding receive_as_joiner
-  receives from (Reply who a) o h = still _ (replied n.me j who a) o h
+  receives from (Reply who a) o h = still _ (replied n j who a) o h
   receives from (Confirm c) o h = confirmed from c (is_member c n.me) o refl h
   receives from b o h = still _ [] o h
 

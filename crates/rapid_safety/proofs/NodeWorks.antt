@@ -105,9 +105,9 @@ module _ (c : Configuration) (n : Node) (acts before : List Act) (heard ms : Lis
   all_heard : heard ++ (ms ++ own n.me w.effects) ≡ taken_in n.me ((acts ++ before) ++ map Did w.effects)
   all_heard = sym (append_assoc heard ms (own n.me w.effects)) ∙ ap (λ l. l ++ own n.me w.effects) sync ∙ sym (filter_map-append (taken_by n.me) (acts ++ before) (map Did w.effects))
 
-  settle_on : (d : Option Cut) → w.decided ≡ d → (o : Outcome) → settle_at n.me n.installed n.decisions w d ≡ Some o → Stepped c acts n (acts_of before n o) o.node
+  settle_on : (d : Option Cut) → w.decided ≡ d → (o : Outcome) → settle_at n w d ≡ Some o → Stepped c acts n (acts_of before n o) o.node
   settle_on None e o h =
-      let out : Outcome = stays_member n.me n.installed n.decisions w in
+      let out : Outcome = stays_member n w in
       let same : out ≡ o = cc in
       let is : (acts ++ before) ++ map Did w.effects ≡ acts ++ acts_of before n out =
       append_assoc acts before (map Did w.effects) ∙ ap (λ l. acts ++ l) (sym (append-nil (before ++ map Did w.effects)) ∙ ap (λ l. (before ++ map Did w.effects) ++ l) (sym (no_install_act n w.state))) in
@@ -117,7 +117,7 @@ module _ (c : Configuration) (n : Node) (acts before : List Act) (heard ms : Lis
       (all_heard ∙ ap (taken_in n.me) is))
   settle_on (Some v) e o h = by (is_history_full n.installed w.state.config) refl h
     where
-      by : (b : Bool) → is_history_full n.installed w.state.config ≡ b → cond b None (Some (put_before w.effects (install n.me n.installed n.decisions w.state v))) ≡ Some o → Stepped c acts n (acts_of before n o) o.node
+      by : (b : Bool) → is_history_full n.installed w.state.config ≡ b → cond b None (Some (put_before w.effects (install n w.state v))) ≡ Some o → Stepped c acts n (acts_of before n o) o.node
       by true full k = cc
       by false full k =
           let t : MemberState = w.state in
@@ -144,7 +144,7 @@ module _ (c : Configuration) (n : Node) (acts before : List Act) (heard ms : Lis
           (subst (λ d. is_history_full n.installed d ≡ false) at full, heard_all)))
 
   -- what comes of a member's work
-  pub settled_steps : (o : Outcome) → settle n.me n.installed n.decisions w ≡ Some o → Stepped c acts n (acts_of before n o) o.node
+  pub settled_steps : (o : Outcome) → settle n w ≡ Some o → Stepped c acts n (acts_of before n o) o.node
   unfolding settle
   settled_steps o h = settle_on w.decided refl o h
 

@@ -168,7 +168,7 @@ hears_vote =
 
 pub node_hears : node_step m0 (Receive (message host vote)) ≡ Some (record { node = waits 0; effects = [] })
 unfolding node_step settle
-node_hears = ap (settle other (stamp two ∷ []) []) hears_vote
+node_hears = ap (settle m0) hears_vote
 
 -- ---- its ticks
 
@@ -217,7 +217,7 @@ quiet_work k h =
 
 pub node_waits : (k : ℕ) → k < 19 → node_step (waits k) Tick ≡ Some (record { node = waits (suc k); effects = [] })
 unfolding node_step settle fresh_member
-node_waits k h = ap (settle other (stamp two ∷ []) []) (quiet_work k h)
+node_waits k h = ap (settle (waits k)) (quiet_work k h)
 
 -- ---- at the twentieth tick it begins a ballot
 
@@ -258,7 +258,7 @@ last_work =
 
 pub node_begins : node_step (waits 19) Tick ≡ Some (record { node = m3; effects = begins })
 unfolding node_step settle fresh_member
-node_begins = ap (settle other (stamp two ∷ []) []) last_work
+node_begins = ap (settle (waits 19)) last_work
 
 -- ---- the host promises, and reports its vote
 
@@ -277,7 +277,7 @@ hears_prepare = ap (λ b. cond b (works h1 (Says (To (endpoint other)) promise �
 
 pub node_prepare : node_step n2 (Receive (message other prepare)) ≡ Some (record { node = n4; effects = Says (To (endpoint other)) promise ∷ [] })
 unfolding node_step settle
-node_prepare = ap (settle host (stamp two ∷ []) []) hears_prepare
+node_prepare = ap (settle n2) hears_prepare
 
 -- ---- the other asks for the host's cut, and accepts it
 
@@ -322,7 +322,7 @@ promise_is =
 
 pub node_promise : node_step m3 (Receive (message host promise)) ≡ Some (record { node = m4; effects = asks })
 unfolding node_step settle
-node_promise = ap (settle other (stamp two ∷ []) []) promise_is
+node_promise = ap (settle m3) promise_is
 
 -- ---- the host accepts it
 
@@ -345,7 +345,7 @@ accept_is = hears_accept ∙ ap (host_notice (after_notice (fresh_learner 2) 1 s
 
 pub node_accept : node_step n4 (Receive (message other accept)) ≡ Some (record { node = n5; effects = Says Others accepted ∷ [] })
 unfolding node_step settle
-node_accept = ap (settle host (stamp two ∷ []) []) accept_is
+node_accept = ap (settle n4) accept_is
 
 -- ---- each decides by the other's notice
 
@@ -359,7 +359,7 @@ host_hears = ap (λ b. cond b (host_done (learnt (after_one 1) 0 second_ballot v
 pub host_installs : node_step n5 (Receive (message other accepted)) ≡ Some (record { node = n3; effects = Says (To (endpoint guest)) (Confirm three) ∷ [] })
 unfolding node_step settle install fresh_member
 host_installs =
-    ap (settle host (stamp two ∷ []) []) host_hears ∙ ap (λ b. installed_by host b (confirms three waiting)) host_in ∙ ap (installed_by host true) confirms_it
+    ap (settle n5) host_hears ∙ ap (λ b. installed_by host b (confirms three waiting)) host_in ∙ ap (installed_by host true) confirms_it
 
 abbrev other_done : Option Cut → Work
 other_done d = record { state = record r4 { learner = after_notice (after_one 0) 1 second_ballot v }; effects = []; decided = d }
@@ -371,7 +371,7 @@ other_hears = ap (λ b. cond b (other_done (learnt (after_one 0) 1 second_ballot
 pub other_installs : node_step m4 (Receive (message host accepted)) ≡ Some (record { node = m2; effects = [] })
 unfolding node_step settle install fresh_member
 other_installs =
-    ap (settle other (stamp two ∷ []) []) other_hears ∙ ap (λ b. installed_by other b (confirms three set.empty)) other_in ∙ ap (installed_by other true) confirms_none
+    ap (settle m4) other_hears ∙ ap (λ b. installed_by other b (confirms three set.empty)) other_in ∙ ap (installed_by other true) confirms_none
 
 -- ---- the run in which a change is recovered
 

@@ -239,7 +239,7 @@ question_asks : (o : Option (List ℕ)) → AllSay IsQuestion (question_to o)
 question_asks None = tt
 question_asks (Some e) = (tt, tt)
 
-joiner_asks : (n : Node) (j : Joiner) (b : Body) → AllSay IsQuestion (receive_as_joiner n.me n.installed n.decisions j b).effects
+joiner_asks : (n : Node) (j : Joiner) (b : Body) → AllSay IsQuestion (receive_as_joiner n j b).effects
 unfolding receive_as_joiner
 joiner_asks n j (Reply who a) = reply_asks (same_bytes who n.me) j a
 joiner_asks n j (Confirm c) = cond_both (is_member c n.me) _ _ (λ (o : Outcome). AllSay IsQuestion o.effects) (λ e. tt) (λ e. tt)
@@ -286,14 +286,14 @@ module _ (n : Node) (s : MemberState) (member : n.phase ≡ Member s) where
   in_config : member_in n ≡ Some s.config
   in_config = ap Rattle.rapid_model.specs.Node.member_config member
 
-  settle_told : (w : Work) → AllSay (MayTell s.config n.decisions) w.effects → (d : Option Cut) (o : Outcome) → settle_at n.me n.installed n.decisions w d ≡ Some o → AllSay (IsTold n o) o.effects
+  settle_told : (w : Work) → AllSay (MayTell s.config n.decisions) w.effects → (d : Option Cut) (o : Outcome) → settle_at n w d ≡ Some o → AllSay (IsTold n o) o.effects
   settle_told w h None o e =
-      let out : Outcome = stays_member n.me n.installed n.decisions w in
+      let out : Outcome = stays_member n w in
       let same : out ≡ o = cc in
       subst (λ (x : Outcome). AllSay (IsTold n x) x.effects) same (all_weaken _ (IsTold n out) (may_told n out s.config in_config) w.effects h)
   settle_told w h (Some v) o e = by (is_history_full n.installed w.state.config) e
     where
-      by : (b : Bool) → cond b None (Some (put_before w.effects (install n.me n.installed n.decisions w.state v))) ≡ Some o → AllSay (IsTold n o) o.effects
+      by : (b : Bool) → cond b None (Some (put_before w.effects (install n w.state v))) ≡ Some o → AllSay (IsTold n o) o.effects
       by true k = cc
       by false k =
           let next : Configuration = apply w.state.config v in
@@ -305,7 +305,7 @@ module _ (n : Node) (s : MemberState) (member : n.phase ≡ Member s) where
           (all_append (IsTold n out) w.effects conf (all_weaken _ (IsTold n out) (may_told n out s.config in_config) w.effects h)
           (all_weaken _ (IsTold n out) (next_told n out s.config next in_config here) conf (all_confirms next w.state.pending)))
 
-  settled_told : (w : Work) → AllSay (MayTell s.config n.decisions) w.effects → (o : Outcome) → settle n.me n.installed n.decisions w ≡ Some o → AllSay (IsTold n o) o.effects
+  settled_told : (w : Work) → AllSay (MayTell s.config n.decisions) w.effects → (o : Outcome) → settle n w ≡ Some o → AllSay (IsTold n o) o.effects
   unfolding settle
   settled_told w h o e = settle_told w h w.decided o e
 

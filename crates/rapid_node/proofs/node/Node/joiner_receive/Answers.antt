@@ -1,14 +1,15 @@
 use Rattle.std.proofs.Common.{sym, ap, subst, ◌∙◌, OnOk, Some}
 use Rattle.rapid_model.specs.Message.{Body}
+use Rattle.rapid_model.specs.Node.{Joining}
 use Rattle.rapid_model.specs.Receive.{receive_as_joiner}
 use Rattle.rapid_member.specs.Bodies.{body_of}
-use Rattle.rapid_node.specs.Steps.{Continues}
+use Rattle.rapid_node.specs.Steps.{in_phase, Continues}
 use Rattle.rapid_node.proofs.node.Node.joiner_receive.Goals as goal
 
 pub returns-in-Reply-clause-ok : goal.returns-in-Reply-clause-ok
 unfolding receive_as_joiner
 returns-in-Reply-clause-ok c =
     subst
-    (λ (b : Body). OnOk c.joiner_reply.result (Continues c.args.self.now.me (Some (receive_as_joiner c.args.self.now.me c.args.self.now.installed c.args.self.now.decisions c.args.joiner.joiner b)) c.joiner_reply.new.self c.args.out.now.items c.joiner_reply.new.out.items))
+    (λ (b : Body). OnOk c.joiner_reply.result (Continues c.args.self.now.me (Some (receive_as_joiner (in_phase c.args.self.now (Joining c.args.joiner.joiner)) c.args.joiner.joiner b)) c.joiner_reply.new.self c.args.out.now.items c.joiner_reply.new.out.items))
     (ap body_of (sym c.in-Reply.is) ∙ c.body.ensures.value)
     c.joiner_reply.ensures.ok

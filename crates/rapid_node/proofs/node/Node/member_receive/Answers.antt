@@ -23,7 +23,7 @@ pub returns-clause-ok : goal.returns-clause-ok
 returns-clause-ok c =
     let work = receive_as_member c.args.self.now.decisions c.args.member.value c.args.message.now.sender c.args.message.now.body in
     on_ok_weaker c.settle.result
-    (settles _ _ _ work _ _ _ _ _ _
+    (settles _ _ work _ _ _ _ _ _
     (c.in_ok-decided.ensures.state ∙ ap (λ (w : Work). w.state) (same c))
     (c.in_ok-decided.ensures.decided ∙ ap (λ (w : Work). w.decided) (same c))
     (c.in_ok-decided.ensures.out ∙ ap (λ (w : Work). c.args.out.now.items ++ outputs c.deref_mut.result.now.me w.effects) (same c)
@@ -34,5 +34,5 @@ pub returns-clause-stop : goal.returns-clause-stop
 returns-clause-stop c =
     let work = receive_as_member c.args.self.now.decisions c.args.member.value c.args.message.now.sender c.args.message.now.body in
     IfErr-weaker c.settle.result _ _
-    (stops_more _ _ _ work _ _ (c.in_ok-decided.ensures.state ∙ ap (λ (w : Work). w.state) (same c)) (c.in_ok-decided.ensures.decided ∙ ap (λ (w : Work). w.decided) (same c)))
+    (stops_more _ _ work _ _ (c.in_ok-decided.ensures.state ∙ ap (λ (w : Work). w.state) (same c)) (c.in_ok-decided.ensures.decided ∙ ap (λ (w : Work). w.decided) (same c)))
     c.settle.ensures.stop

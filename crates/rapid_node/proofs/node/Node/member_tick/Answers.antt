@@ -12,7 +12,7 @@ returns-clause-ok c =
     let same = ap on_tick c.deref_mut.ensures.value in
     let work = on_tick c.args.member.value in
     on_ok_weaker c.settle.result
-    (settles _ _ _ work _ _ _ _ _ _
+    (settles _ _ work _ _ _ _ _ _
     (c.in_ok-decided.ensures.state ∙ ap (λ (w : Work). w.state) same)
     (c.in_ok-decided.ensures.decided ∙ ap (λ (w : Work). w.decided) same)
     (c.in_ok-decided.ensures.out ∙ ap (λ (w : Work). c.args.out.now.items ++ outputs c.deref_mut.result.now.me w.effects) same
@@ -23,5 +23,5 @@ pub returns-clause-stop : goal.returns-clause-stop
 returns-clause-stop c =
     let same = ap on_tick c.deref_mut.ensures.value in
     IfErr-weaker c.settle.result _ _
-    (stops_more _ _ _ (on_tick c.args.member.value) _ _ (c.in_ok-decided.ensures.state ∙ ap (λ (w : Work). w.state) same) (c.in_ok-decided.ensures.decided ∙ ap (λ (w : Work). w.decided) same))
+    (stops_more _ _ (on_tick c.args.member.value) _ _ (c.in_ok-decided.ensures.state ∙ ap (λ (w : Work). w.state) same) (c.in_ok-decided.ensures.decided ∙ ap (λ (w : Work). w.decided) same))
     c.settle.ensures.stop
