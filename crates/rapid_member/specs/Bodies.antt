@@ -1,5 +1,6 @@
 -- Messages as the definitions see them.
 use Rattle.std.specs.Prelude.{◌≡◌, ℕ, List, map, All}
+use Rattle.rapid_model.specs.Bytes.{ConfigurationId}
 use Rattle.rapid_model.specs.Process.{Process}
 use Rattle.rapid_model.specs.Alert.{Alert}
 use Rattle.rapid_model.specs.Ballot.{IsClassicBallot}
@@ -26,7 +27,7 @@ body_of (Probe id) = model.Probe id
 body_of (ProbeAck id) = model.ProbeAck id
 
 -- The alert is of this observer and for this configuration.
-abbrev pub IsFrom : Process → List ℕ → Alert → Type 0
+abbrev pub IsFrom : Process → ConfigurationId → Alert → Type 0
 IsFrom observer id a = (a.observer ≡ observer) × (a.config ≡ id)
 
 -- The process can say this: a batch has its own alerts for the configuration that it names, and what is asked, promised

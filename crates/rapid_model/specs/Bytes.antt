@@ -21,6 +21,6 @@ Line = List ℕ
 abbrev pub Word : Type 0
 Word = List ℕ
 
--- What a program prints, or a part of it.
+-- What a program reads or prints, or a part of it.
 abbrev pub Text : Type 0
 Text = List ℕ

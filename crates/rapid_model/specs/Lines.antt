@@ -22,7 +22,7 @@ abbrev pub hash : ℕ
 hash = 35
 
 -- The line ends here.
-abbrev pub ends_here : List ℕ → Bool
+abbrev pub ends_here : Text → Bool
 ends_here [] = false
 ends_here (x ∷ xs) = x == line_feed
 

@@ -2,6 +2,7 @@
 use Rattle.std.specs.Prelude.{◌≡◌, ◌⊎◌, ℕ, List, Option, refl}
 use Rattle.std.proofs.Common.{inl, inr}
 use Rattle.std.specs.Coded.{Coded, code_by, coded×, coded⊎, coded_ℕ, coded_list, coded_option}
+use Rattle.rapid_model.specs.Bytes.{Endpoint, ConfigurationId}
 use Rattle.rapid_model.specs.Process.{Process}
 use Rattle.rapid_model.specs.Configuration.{Configuration, Stamp}
 use Rattle.rapid_model.specs.Joiner.{Joiner}
@@ -12,7 +13,7 @@ use Rattle.rapid_member.specs.Codes.{member_code}
 
 -- Joiners.
 abbrev pub joiner_code : Coded Joiner
-joiner_code = code_by (List ℕ × ℕ) (coded× bytes_code coded_ℕ) (λ j. (j.seed, j.ticks)) (λ p. record { seed = p.0; ticks = p.1 }) (λ _. refl)
+joiner_code = code_by (Endpoint × ℕ) (coded× bytes_code coded_ℕ) (λ j. (j.seed, j.ticks)) (λ p. record { seed = p.0; ticks = p.1 }) (λ _. refl)
 
 abbrev Cases : Type 0
 Cases = (Joiner ⊎ MemberState) ⊎ (Configuration ⊎ Option Configuration)
@@ -44,7 +45,7 @@ phase_code =
 -- Stamps.
 abbrev pub stamp_code : Coded Stamp
 stamp_code =
-    code_by (ℕ × (List ℕ × ℕ)) (coded× coded_ℕ (coded× bytes_code coded_ℕ)) (λ s. (s.height, (s.id, s.members))) (λ p. record { height = p.0; id = p.1.0; members = p.1.1 }) (λ _. refl)
+    code_by (ℕ × (ConfigurationId × ℕ)) (coded× coded_ℕ (coded× bytes_code coded_ℕ)) (λ s. (s.height, (s.id, s.members))) (λ p. record { height = p.0; id = p.1.0; members = p.1.1 }) (λ _. refl)
 
 -- Nodes.
 abbrev pub node_code : Coded Node

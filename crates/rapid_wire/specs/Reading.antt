@@ -1,6 +1,7 @@
 -- How frames are read: each reader gives what stands in front of the bytes, and the bytes that follow; or nothing does.
 use Rattle.std.specs.Prelude.{ℕ, zero, suc, ◌==◌, Bool, ◌&&◌, ◌||◌, nat_lt, nat_le, is_none, List, [], ◌∷◌, length, take, drop, if◌then◌else◌, Option, Some, None}
 use Rattle.std.specs.Int.{w16, from_be_bytes}
+use Rattle.rapid_model.specs.Bytes.{ConfigurationId}
 use Rattle.rapid_model.specs.Process.{Process}
 use Rattle.rapid_model.specs.Cut.{Cut}
 use Rattle.rapid_model.specs.Alert.{Kind, Remove, Join}
@@ -61,7 +62,7 @@ unfoldable pub process_at : Reader Process
 process_at bytes = front_at 22 bytes
 
 -- An identifier of a configuration.
-unfoldable pub id_at : Reader (List ℕ)
+unfoldable pub id_at : Reader ConfigurationId
 id_at bytes = front_at 32 bytes
 
 -- The list is a cut.
@@ -144,7 +145,7 @@ unfoldable pub observers_at : Reader (List Process)
 observers_at bytes = only are_observers (counted byte_at process_at) bytes
 
 -- An identifier and observers.
-abbrev pub safe_from : List ℕ × List Process → Answer
+abbrev pub safe_from : ConfigurationId × List Process → Answer
 safe_from x = Safe x.0 x.1
 
 -- What a host answers, behind its first byte.
@@ -161,7 +162,7 @@ unfoldable pub answer_at : Reader Answer
 answer_at bytes = byte_at bytes >>= λ b. answer_from b.0 b.1
 
 -- An identifier, a ballot and a cut.
-unfoldable pub choice_at : Reader ((List ℕ × Ballot) × Cut)
+unfoldable pub choice_at : Reader ((ConfigurationId × Ballot) × Cut)
 choice_at bytes = both (both id_at classic_at) cut_at bytes
 
 -- A configuration, which takes all bytes.
