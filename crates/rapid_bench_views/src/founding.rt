@@ -37,7 +37,7 @@ pub fn configuration(alloc: Global) -> Result<Configuration> {
 fn vote(alloc: Global, configuration: &Configuration, sender: u16) -> Result<Event> {
     let cut = Cut::new(processes(alloc, 10)?)?;
     let body = Body::FastVote(configuration.id(), cut);
-    Ok(Event::Receive(Message::new(process(sender), body)))
+    Ok(Event::Receive(Message::new(process(sender), body)?))
 }
 
 /// The votes of so many members as make no quorum.

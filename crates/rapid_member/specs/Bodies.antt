@@ -3,10 +3,12 @@ use Rattle.std.specs.Prelude.{◌≡◌, ℕ, List, map, All}
 use Rattle.rapid_model.specs.Bytes.{ConfigurationId}
 use Rattle.rapid_model.specs.Process.{Process}
 use Rattle.rapid_model.specs.Alert.{Alert}
-use Rattle.rapid_model.specs.Ballot.{IsClassicBallot}
+use Rattle.rapid_model.specs.Ballot.{IsClassicBallot, fast_ballot}
 use Rattle.rapid_model.specs.Message as model
 use Rattle.rapid_paxos.specs.Reported.{last_of}
 use Rattle.rapid_join.specs.Answers.{NamesObservers, answer_of}
+use Rattle.rapid_member.specs.declared.error.MessageError.{MessageError}
+use Rattle.rapid_member.specs.declared.error.MessageError.TheVariants.{OtherObserver, OtherConfiguration, FastBallot, NoObserver}
 use Rattle.rapid_member.specs.declared.message.Body.{Body}
 use Rattle.rapid_member.specs.declared.message.Body.TheVariants.{Batch, FastVote, Prepare, Promise, Accept, Accepted, Decision, PreJoin, Reply, JoinRequest, Confirm, Probe, ProbeAck}
 
@@ -46,3 +48,22 @@ CanSay sender (JoinRequest id k) = Unit {0}
 CanSay sender (Confirm c) = Unit {0}
 CanSay sender (Probe id) = Unit {0}
 CanSay sender (ProbeAck id) = Unit {0}
+
+-- Why the process cannot say this: not all alerts of a batch are its own, or else not all are for the configuration that
+-- the batch names; it asks, promises or accepts at the fast ballot; a reply Safe names no observer.
+abbrev pub CannotSay : Process → Body → MessageError → Type 0
+CannotSay sender (Batch id xs) OtherObserver = All (λ a. a.observer ≡ sender) xs → ⊥
+CannotSay sender (Batch id xs) OtherConfiguration = All (λ a. a.observer ≡ sender) xs × (All (λ a. a.config ≡ id) xs → ⊥)
+CannotSay sender (Prepare id b) FastBallot = b ≡ fast_ballot
+CannotSay sender (Promise id b vote) FastBallot = b ≡ fast_ballot
+CannotSay sender (Accept id b v) FastBallot = b ≡ fast_ballot
+CannotSay sender (Accepted id b v) FastBallot = b ≡ fast_ballot
+CannotSay sender (Reply j a) NoObserver = NamesObservers a → ⊥
+CannotSay sender b e = ⊥
+
+-- The number of an error.
+abbrev pub message_code : MessageError → ℕ
+message_code OtherObserver = 1
+message_code OtherConfiguration = 2
+message_code FastBallot = 3
+message_code NoObserver = 4

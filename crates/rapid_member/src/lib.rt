@@ -4,13 +4,16 @@
 
 mod ages;
 mod decisions;
+mod error;
 mod joining;
 mod member;
 mod message;
 mod output;
+mod saying;
 mod shared_rings;
 
 pub use decisions::Decisions;
+pub use error::MessageError;
 pub use joining::{confirm_pending, send_joining};
 pub use member::MemberState;
 pub use message::{Body, Message};

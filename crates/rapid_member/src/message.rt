@@ -1,9 +1,11 @@
 // Messages between nodes.
 
-ghost use Rattle.std.specs.Prelude.{◌≡◌, IfOk};
-ghost use Rattle.rapid_member.specs.Bodies.{CanSay, body_of};
+ghost use Rattle.std.specs.Prelude.{◌≡◌, IfOk, OnOk, IfErr};
+ghost use Rattle.rapid_member.specs.Bodies.{CanSay, CannotSay, body_of};
 ghost use Rattle.rapid_model.specs.Message.{caught_up_by};
 
+use crate::MessageError;
+use crate::saying::check;
 use rapid_alerts::Batch;
 use rapid_config::{ConfigId, Configuration, Cut};
 use rapid_endpoint::Process;
@@ -110,8 +112,21 @@ impl Model for Message {
 }
 
 impl Message {
-    /// The message of this sender that says this.
-    pub fn new(sender: Process, body: Body) -> Message
+    /// The message of this sender that says this, where the sender can say it. The error is `OtherObserver` where a batch
+    /// has alerts of another than the sender, else `OtherConfiguration` where it has alerts for another configuration than
+    /// the one that it names; `FastBallot` where a Prepare, a Promise, an Accept or an Accepted is at the fast ballot;
+    /// `NoObserver` where a reply Safe names no observer.
+    pub fn new(sender: Process, body: Body) -> Result<Message, MessageError>
+        ensures value { IfOk result (λ message. message ≡ record { sender = sender; body = body_of body }) }
+        ensures said { OnOk result (CanSay sender body) }
+        ensures refused { IfErr result (CannotSay sender body) }
+    {
+        check(&sender, &body)?;
+        Ok(Message::of(sender, body))
+    }
+
+    /// The message of a sender that can say this.
+    pub(crate) fn of(sender: Process, body: Body) -> Message
         requires { CanSay sender body }
         ensures { result ≡ record { sender = sender; body = body_of body } }
     {

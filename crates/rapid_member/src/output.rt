@@ -80,7 +80,7 @@ pub(crate) fn say(out: &mut Vec<Output>, me: Process, body: Body) -> Result<(), 
     ensures said { OnOk result (out.new.items ≡ out.old.items ++ outputs me (Says ModelOthers (body_of body) ∷ [])) }
     ensures unchanged { OnErr result (out.new.items ≡ out.old.items) }
 {
-    out.push(Output::new(Destination::Others, Message::new(me, body)))?;
+    out.push(Output::new(Destination::Others, Message::of(me, body)))?;
     Ok(())
 }
 
@@ -95,7 +95,7 @@ pub(crate) fn say_to(
     ensures said { OnOk result (out.new.items ≡ out.old.items ++ outputs me (Says (ModelTo to) (body_of body) ∷ [])) }
     ensures unchanged { OnErr result (out.new.items ≡ out.old.items) }
 {
-    out.push(Output::new(Destination::To(to), Message::new(me, body)))?;
+    out.push(Output::new(Destination::To(to), Message::of(me, body)))?;
     Ok(())
 }
 

@@ -17,5 +17,5 @@ pub use node::Node;
 pub use phase::Phase;
 pub use rapid_alerts::Batch;
 pub use rapid_join::{Reply, RingObservers};
-pub use rapid_member::{Body, Destination, Message, Output, Outputs};
+pub use rapid_member::{Body, Destination, Message, MessageError, Output, Outputs};
 pub use views::Views;

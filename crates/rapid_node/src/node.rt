@@ -16,7 +16,6 @@ ghost use Rattle.rapid_model.specs.Tick.{on_tick};
 ghost use Rattle.rapid_model.specs.Receive as receive;
 ghost use Rattle.rapid_model.specs.World.{observed_in};
 ghost use Rattle.rapid_join.specs.Answers.{answer_of};
-ghost use Rattle.rapid_member.specs.Bodies.{CanSay, body_of};
 ghost use Rattle.rapid_member.specs.Members.{IsSameMember};
 ghost use Rattle.rapid_node.specs.Phases.{phase_of, name_of, IsState};
 ghost use Rattle.rapid_node.specs.Steps.{event_of, in_phase, Continues, HasOutcome, Stops, IsFault};
@@ -379,8 +378,7 @@ impl Node {
         ensures stop { IfErr result (Stops (step.settle (in_phase self.old (model.Member member.value)) (receive.receive_as_member self.old.decisions member.value message.now.sender message.now.body))) }
         ensures unchanged { OnErr result (self.new ≡ self.old) }
     {
-        let from = message.sender();
-        let decided = member.receive(out, self.decisions(), &from, message.body())?;
+        let decided = member.receive(out, self.decisions(), message)?;
         self.settle(views, out, member, decided)
     }
 

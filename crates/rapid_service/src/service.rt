@@ -45,6 +45,14 @@ struct Present {
     watch: Watch,
 }
 
+/// The probe of a configuration, which anyone can say.
+fn probe_of(sender: Process, id: ConfigId) -> Message {
+    match Message::new(sender, Body::Probe(id)) {
+        Ok(probe) => probe,
+        Err(_) => unreachable!(),
+    }
+}
+
 /// The frame of a message.
 fn frame_of(alloc: Global, message: &Message) -> Result<Bytes, AllocError> {
     Ok(Bytes::from_vec(encode(alloc, message)?)?)
@@ -255,7 +263,7 @@ impl<R: Wait + Copy + Drop, P: Post + Drop> Service<R, P> {
         let edges = present.watch.round(self.alloc)?;
         let down = gone_down(self.alloc, &mut present.watch, edges.as_slice())?;
         self.hand_down(id, down.as_slice())?;
-        let frame = frame_of(self.alloc, &Message::new(self.me, Body::Probe(id)))?;
+        let frame = frame_of(self.alloc, &probe_of(self.me, id))?;
         probe_all(&self.rt, &mut self.post, edges.as_slice(), &frame)?;
         Ok(())
     }

@@ -127,7 +127,8 @@ fn process(number: u16) -> Process {
 /// Another member says that a cut of this process was decided in the configuration.
 fn decision(alloc: Global, id: ConfigId, number: u16) -> Result<Event> {
     let cut = Cut::new(Vec::from_array(alloc, [process(number)])?)?;
-    Ok(Event::Receive(Message::new(process(2), Body::Decision(id, cut))))
+    let message = Message::new(process(2), Body::Decision(id, cut))?;
+    Ok(Event::Receive(message))
 }
 
 /// The desk of a founder that is alone.

@@ -3,6 +3,7 @@
 ghost use Rattle.std.specs.Prelude.{◌≡◌, ◌<◌, ◌∷◌, All, IfOk, IfErr};
 ghost use Rattle.rapid_model.specs.Frame.{IsMessage, version, payload};
 ghost use Rattle.rapid_model.specs.Feed.{IsKind};
+ghost use Rattle.rapid_member.specs.Bodies.{CanSay, body_of};
 ghost use Rattle.rapid_wire.specs.Faults.{Gives, IsFaultOf};
 ghost use Rattle.rapid_wire.specs.Reading.{message_in};
 
@@ -11,7 +12,8 @@ use crate::encoding::VERSION;
 use crate::kinds::read_body;
 use crate::reading::{PROCESS_BYTES, process_in, read_front};
 use crate::told::tell_message;
-use rapid_member::Message;
+use rapid_endpoint::Process;
+use rapid_member::{Body, Message};
 use std::alloc::Global;
 
 /// Each byte is below 256. It does nothing: what it ensures is for proofs.
@@ -22,6 +24,18 @@ pub(crate) fn tell_bytes(bytes: &[u8])
     let _ = bytes;
 }
 
+/// The message of a sender that can say this.
+#[tactic(auto, using(crate::proofs::Saying::never_refused))]
+fn message_of(sender: Process, body: Body) -> Message
+    requires { CanSay sender body }
+    ensures { result ≡ record { sender = sender; body = body_of body } }
+{
+    match Message::new(sender, body) {
+        Ok(message) => message,
+        Err(_) => unreachable!(),
+    }
+}
+
 /// The message of a kind whose sender and body are these bytes.
 #[tactic(auto, unfolding(crate::specs::Reading::message_in, crate::specs::Reading::process_at))]
 fn read_message(alloc: Global, kind: u8, bytes: &[u8]) -> Result<Message, WireFault>
@@ -30,7 +44,7 @@ fn read_message(alloc: Global, kind: u8, bytes: &[u8]) -> Result<Message, WireFa
     let (front, rest) = read_front(bytes, PROCESS_BYTES)?;
     let sender = process_in(front);
     let body = read_body(alloc, sender, kind, rest)?;
-    Ok(Message::new(sender, body))
+    Ok(message_of(sender, body))
 }
 
 /// The kind of a whole frame, and what follows it. The first that holds: `BadBody` below two bytes,

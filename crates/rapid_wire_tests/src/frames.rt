@@ -273,9 +273,9 @@ fn a_question_to_join_comes_byte_by_byte(rt: HostRuntime) -> Result<(), Fail> {
 
 #[test]
 fn worked_messages_are_written(rt: HostRuntime) -> Result<(), Fail> {
-    let question = Message::new(process(2), Body::PreJoin);
+    let question = Message::new(process(2), Body::PreJoin)?;
     assert!(rt; writes(rt.alloc(), &question, &PRE_JOIN)?);
-    let answer = Message::new(process(1), Body::Reply(process(2), Reply::EndpointInUse));
+    let answer = Message::new(process(1), Body::Reply(process(2), Reply::EndpointInUse))?;
     assert!(rt; writes(rt.alloc(), &answer, &IN_USE)?);
     Ok(())
 }

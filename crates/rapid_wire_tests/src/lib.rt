@@ -1,4 +1,4 @@
-//! Tests of frames. The crate has nothing else, so that the functions below it are not proved a
+//! Tests of messages and frames. The crate has nothing else, so that the functions below it are not proved a
 //! second time for their tests.
 #![tactic(auto)]
 
@@ -6,3 +6,5 @@
 mod frames;
 #[cfg(test)]
 mod numbered;
+#[cfg(test)]
+mod refusals;

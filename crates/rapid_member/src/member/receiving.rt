@@ -12,10 +12,10 @@ ghost use Rattle.rapid_join.specs.Answers.{AnswersObservers};
 ghost use Rattle.rapid_member.specs.Members.{IsSameMember};
 
 use super::MemberState;
-use crate::Body;
 use crate::decisions::Decisions;
 use crate::joining::say_answer;
 use crate::output::{Output, answer};
+use crate::{Body, Message};
 use rapid_config::{ConfigId, Cut};
 use rapid_endpoint::Process;
 use rapid_join::HostAnswer;
@@ -173,11 +173,27 @@ impl MemberState {
         self.answer_joiner(out, joiner, ring, &answered)
     }
 
-    /// A message at a member from a process, where these are the decisions of its node, and the cut that was decided, if
-    /// any. On an error the member is of no further use, but for who it is and where, and nothing that was added to the
-    /// outputs is to be sent.
-    #[tactic(auto, unfolding(rapid_model::specs::Receive::receive_as_member))]
+    /// A message at a member, where these are the decisions of its node, and the cut that was decided, if any. On an error
+    /// the member is of no further use, but for who it is and where, and nothing that was added to the outputs is to be
+    /// sent.
     pub fn receive(
+        &mut self,
+        out: &mut Vec<Output>,
+        decisions: &Decisions,
+        message: &Message,
+    ) -> Result<Option<Cut>, AllocError>
+        ensures state { OnOk result (self.new ≡ (receive.receive_as_member decisions.now self.old message.now.sender message.now.body).state) }
+        ensures out { OnOk result (out.new.items ≡ out.old.items ++ outputs self.old.me (receive.receive_as_member decisions.now self.old message.now.sender message.now.body).effects) }
+        ensures decided { IfOk result (λ d. d ≡ (receive.receive_as_member decisions.now self.old message.now.sender message.now.body).decided) }
+        ensures same { IsSameMember self.old self.new }
+    {
+        let from = message.sender();
+        self.receive_from(out, decisions, &from, message.body())
+    }
+
+    /// What a process that can say this says to a member.
+    #[tactic(auto, unfolding(rapid_model::specs::Receive::receive_as_member))]
+    fn receive_from(
         &mut self,
         out: &mut Vec<Output>,
         decisions: &Decisions,

@@ -1,23 +1,19 @@
 use Rattle.std.proofs.Common.{◌≡◌, ◌++◌, ap, ◌∙◌}
 use Rattle.std.proofs.lemmas.Result.{on_ok_weaker, IfErr-weaker}
 use Rattle.rapid_model.specs.Process.{Process}
-use Rattle.rapid_model.specs.Message as message
 use Rattle.rapid_model.specs.Node.{Decisions, MemberState, outputs}
 use Rattle.rapid_model.specs.Member.{Work}
 use Rattle.rapid_model.specs.Receive.{receive_as_member}
-use Rattle.rapid_member.specs.Bodies.{body_of}
 use Rattle.rapid_node.proofs.Settling.{settles, stops_more}
 use Rattle.rapid_node.proofs.node.Node.member_receive.Goals as goal
 
 -- the work that was done is that of the definitions
 same : (c : goal.After-settle) →
-    receive_as_member c.decisions.result.now c.deref_mut.result.now c.sender-from.result (body_of c.body.result.now)
+    receive_as_member c.decisions.result.now c.deref_mut.result.now c.args.message.now.sender c.args.message.now.body
     ≡ receive_as_member c.args.self.now.decisions c.args.member.value c.args.message.now.sender c.args.message.now.body
 same c =
-    ap (λ (s : MemberState). receive_as_member c.decisions.result.now s c.sender-from.result (body_of c.body.result.now)) c.deref_mut.ensures.value
-    ∙ ap (λ (ds : Decisions). receive_as_member ds c.args.member.value c.sender-from.result (body_of c.body.result.now)) c.decisions.ensures
-    ∙ ap (λ (p : Process). receive_as_member c.args.self.now.decisions c.args.member.value p (body_of c.body.result.now)) c.sender-from.ensures
-    ∙ ap (λ (b : message.Body). receive_as_member c.args.self.now.decisions c.args.member.value c.args.message.now.sender b) c.body.ensures.value
+    ap (λ (s : MemberState). receive_as_member c.decisions.result.now s c.args.message.now.sender c.args.message.now.body) c.deref_mut.ensures.value
+    ∙ ap (λ (ds : Decisions). receive_as_member ds c.args.member.value c.args.message.now.sender c.args.message.now.body) c.decisions.ensures
 
 pub returns-clause-ok : goal.returns-clause-ok
 returns-clause-ok c =
