@@ -1,14 +1,14 @@
 -- While the same processes have L direct reports, the same is implied.
-use Rattle.std.proofs.Common.{◌≡◌, ℕ, ◌≤◌, Bool, true, false, ◌&&◌, ◌||◌, List, map, refl, sym, ap, ◌∙◌, Option, Some, None, nat_lt, nat_le, arith}
+use Rattle.std.proofs.Common.{◌≡◌, ℕ, ◌≤◌, Bool, true, false, ◌&&◌, ◌||◌, List, map, refl, sym, ap, ◌∙◌, ◌⊎◌, inl, inr, Option, Some, None, nat_lt, nat_le, arith}
 use Rattle.std.specs.FinSet as set
 use Rattle.rapid_model.specs.Process.{Process, is_in}
 use Rattle.rapid_model.specs.Alert.{Alert}
 use Rattle.rapid_model.specs.Ring.{Observers, AreObservers, rings}
 use Rattle.rapid_model.specs.Reports.{Report, report_cmp, Reports, report_of, tally, reaches_low, is_implied, subjects, reports}
 use Rattle.rapid_model.specs.Detector.{with_alerts}
-use Rattle.rapid_model.proofs.Closure.{some_counted}
+use Rattle.rapid_model.proofs.Closure.{some_counted, implied_mono}
 use Rattle.rapid_model.proofs.Orders.{reports_total, reports_exact}
-use Rattle.rapid_cut.specs.Closing.{active}
+use Rattle.rapid_cut.specs.Closing.{IsBetween, active}
 use Rattle.rapid_cut.proofs.Sets.{subject_of}
 use Rattle.rapid_cut.proofs.Joiners.{in_filter}
 use Rattle.rapid_cut.proofs.OnePass.{one_pass}
@@ -53,3 +53,39 @@ known_still t old all new known before now xs obs a b n k w same =
     ∙ ap (λ c. c || is_implied t old x) (sym (ap (λ r. set.contains r x) w ∙ set.contains-union reports_total old (set.from_list (map report_of xs)) x))
     ∙ ap (λ c. set.contains new x || c) (implied_same t old new x obs (sym b ∙ sym same ∙ n))
     ∙ sym (one_pass t new x obs))
+
+or_split : (a b : Bool) → (a || b) ≡ true → (a ≡ true) ⊎ (b ≡ true)
+or_split true b h = inl refl
+or_split false b h = inr h
+
+or_left : (a b : Bool) → a ≡ true → (a || b) ≡ true
+or_left true b h = refl
+or_left false b h = cc
+
+or_right : (a b : Bool) → b ≡ true → (a || b) ≡ true
+or_right true b h = refl
+or_right false b h = h
+
+-- what was implied before is implied with more direct reports
+pub known_between : (t : Observers) (old all new known : Reports) (xs : List Alert) → AreObservers t → all ≡ reports t old → known ≡ with_alerts all xs → new ≡ with_alerts old xs → IsBetween t new known
+known_between t old all new known xs obs a k w =
+    let more : Reports = set.from_list {R = report_cmp} (map report_of xs) in
+    let known_has : (x : Report) → set.contains known x ≡ ((set.contains old x || is_implied t old x) || set.contains more x) = λ x.
+    ap (λ r. set.contains r x) k ∙ set.contains-union reports_total all more x ∙ ap (λ c. c || set.contains more x) (ap (λ r. set.contains r x) a ∙ one_pass t old x obs) in
+    let new_has : (x : Report) → set.contains new x ≡ (set.contains old x || set.contains more x) = λ x. ap (λ r. set.contains r x) w ∙ set.contains-union reports_total old more x in
+    record {
+      includes = λ x h.
+          elim (or_split (set.contains old x) (set.contains more x) (sym (new_has x) ∙ h)) [
+            | inl was ↦ known_has x ∙ or_left _ _ (or_left _ _ was)
+            | inr came ↦ known_has x ∙ or_right _ _ came
+          ];
+      implied = λ x h.
+          elim (or_split (set.contains old x || is_implied t old x) (set.contains more x) (sym (known_has x) ∙ h)) [
+            | inl was ↦
+                elim (or_split (set.contains old x) (is_implied t old x) was) [
+                  | inl there ↦ inl (new_has x ∙ or_left _ _ there)
+                  | inr so ↦ inr (implied_mono t old new x (λ y i. new_has y ∙ or_left _ _ i) so)
+                ]
+            | inr came ↦ inl (new_has x ∙ or_right _ _ came)
+          ];
+    }

@@ -14,3 +14,8 @@ pub record AddsImplied (t : Observers) (direct : Reports) (s : Process) (old new
 -- The processes with at least L reports, ascending.
 abbrev pub active : Observers → Reports → List Process
 active t r = filter (λ s. reaches_low t r (Some s)) (subjects r)
+
+-- These are the direct reports with some of those that they imply.
+pub record IsBetween (t : Observers) (direct known : Reports) : Type 0 where
+  pub includes : Includes known direct
+  pub implied : (x : Report) → set.contains known x ≡ true → (set.contains direct x ≡ true) ⊎ (is_implied t direct x ≡ true)

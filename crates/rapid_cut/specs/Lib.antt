@@ -1,4 +1,5 @@
 pub mod Closing
+pub mod Keeping
 pub mod Keys
 pub mod Laws
 pub mod Limits

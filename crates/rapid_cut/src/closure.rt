@@ -1,11 +1,16 @@
 // The reports that a set implies.
 
-ghost use Rattle.std.specs.Prelude.{◌≡◌, Some, IfOk, OnOk};
+ghost use Rattle.std.specs.Prelude.{◌≡◌, true, Some, IfOk, OnOk};
+ghost use Rattle.std.specs.Map.{lookup};
+ghost use Rattle.std.specs.BTreeMap.{is_at};
+ghost use Rattle.rapid_model.specs.Process.{process_cmp};
 ghost use Rattle.rapid_model.specs.Ring.{AreObservers};
 ghost use Rattle.rapid_model.specs.Reports as model;
-ghost use Rattle.rapid_cut.specs.Closing.{AddsImplied, active as active_of};
+ghost use Rattle.rapid_cut.specs.Closing.{AddsImplied, IsBetween, active as active_of};
+ghost use Rattle.rapid_cut.specs.Keeping.{AreKept};
 
-use crate::reports::ReportSet;
+use crate::kept::KeptObservers;
+use crate::reports::{ReportSet, has_bit};
 use rapid_endpoint::Process;
 use rapid_rings::ObserverTable;
 use std::alloc::AllocError;
@@ -35,50 +40,66 @@ fn reaches_low<T: ObserverTable>(table: &T, reports: &ReportSet, subject: &Proce
     usize::from(table.params().l()) <= tally(table, reports, subject)
 }
 
-/// Whether the process has an observer on the ring and both have at least L reports.
-fn is_implied<T: ObserverTable>(table: &T, reports: &ReportSet, subject: &Process, ring: u8) -> bool
-    ensures { result ≡ model.is_implied (T.observers table.now) reports.now (subject.now, ring) }
+/// Whether the process has an observer on the ring that has at least L reports.
+fn is_observer_low<T: ObserverTable>(
+    table: &T,
+    kept: &KeptObservers,
+    reports: &ReportSet,
+    subject: &Process,
+    place: Option<usize>,
+    ring: u8,
+) -> bool
+    requires kept { AreKept (T.observers table.now) kept.now.places.entries kept.now.observers.items }
+    requires place { place ≡ lookup (is_at (process_cmp subject.now)) kept.now.places.entries }
+    ensures { result ≡ model.reaches_low (T.observers table.now) reports.now ((T.observers table.now).observer ring subject.now) }
 {
-    if ring >= table.params().k() || !reaches_low(table, reports, subject) {
-        return false;
-    }
-    match table.observer(ring, subject) {
+    match kept.observer(table, subject, place, ring) {
         Some(observer) => reaches_low(table, reports, &observer),
         None => false,
     }
 }
 
-/// Adds the reports on the process that the direct ones imply.
+/// Adds the reports on a process with at least L direct ones that the direct ones imply. Only its
+/// missing rings are asked for.
 fn add_implied<T: ObserverTable>(
     table: &T,
+    kept: &KeptObservers,
     direct: &ReportSet,
     subject: &Process,
     all: &mut ReportSet,
 ) -> Result<(), AllocError>
+    requires kept { AreKept (T.observers table.now) kept.now.places.entries kept.now.observers.items }
+    requires low { model.reaches_low (T.observers table.now) direct.now (Some subject.now) ≡ true }
     ensures { OnOk result (AddsImplied (T.observers table.now) direct.now subject.now all.old all.new) }
 {
+    let known = all.mask(subject);
+    let place = kept.place(subject);
     for ring in 0..table.params().k() {
-        if is_implied(table, direct, subject, ring) {
+        if !has_bit(known, ring) && is_observer_low(table, kept, direct, subject, place, ring) {
             all.insert((*subject, ring))?;
         }
     }
     Ok(())
 }
 
-/// The reports with all that they imply: one pass over those with at least L direct reports, since
-/// what is implied goes to no other process.
+/// The reports with all that they imply, where these are known with some of what is implied: one pass
+/// over those with at least L direct reports, since what is implied goes to no other process.
 pub fn close<T: ObserverTable>(
     table: &T,
+    kept: &KeptObservers,
     direct: &ReportSet,
     active: &[Process],
+    known: ReportSet,
 ) -> Result<ReportSet, AllocError>
     requires rules { AreObservers (T.observers table.now) }
+    requires kept { AreKept (T.observers table.now) kept.now.places.entries kept.now.observers.items }
     requires active { active.now ≡ active_of (T.observers table.now) direct.now }
+    requires known { IsBetween (T.observers table.now) direct.now known }
     ensures { IfOk result (λ all. all ≡ model.reports (T.observers table.now) direct.now) }
 {
-    let mut all = direct.try_copy()?;
+    let mut all = known;
     for subject in active {
-        add_implied(table, direct, subject, &mut all)?;
+        add_implied(table, kept, direct, subject, &mut all)?;
     }
     Ok(all)
 }
@@ -87,18 +108,21 @@ pub fn close<T: ObserverTable>(
 /// implied: they are all while the same are active.
 pub fn close_again<T: ObserverTable>(
     table: &T,
+    kept: &KeptObservers,
     direct: &ReportSet,
     active: &[Process],
     before: &[Process],
     known: ReportSet,
 ) -> Result<ReportSet, AllocError>
     requires rules { AreObservers (T.observers table.now) }
+    requires kept { AreKept (T.observers table.now) kept.now.places.entries kept.now.observers.items }
     requires active { active.now ≡ active_of (T.observers table.now) direct.now }
-    requires known { active.now ≡ before.now → known ≡ model.reports (T.observers table.now) direct.now }
+    requires same { active.now ≡ before.now → known ≡ model.reports (T.observers table.now) direct.now }
+    requires known { IsBetween (T.observers table.now) direct.now known }
     ensures { IfOk result (λ all. all ≡ model.reports (T.observers table.now) direct.now) }
 {
     if active == before {
         return Ok(known);
     }
-    close(table, direct, active)
+    close(table, kept, direct, active, known)
 }

@@ -9,6 +9,7 @@ ghost use Rattle.rapid_cut.specs.Closing.{active as active_of};
 ghost use Rattle.rapid_cut.specs.Limits.{IsDetecting};
 
 use crate::closure::{active_ones, close_again, tally};
+use crate::kept::KeptObservers;
 use crate::reports::ReportSet;
 use crate::taken::{Taken, repeats, take_all};
 use rapid_alerts::Alert;
@@ -118,6 +119,7 @@ pub struct Detector<T: ObserverTable> {
     all: ReportSet,
     active: Vec<Process>,
     joiners: usize,
+    kept: KeptObservers,
     closed: bool,
     skipped: usize,
     alloc: Global,
@@ -125,6 +127,7 @@ pub struct Detector<T: ObserverTable> {
 
 impl<T: ObserverTable> Model for Detector<T> {
     ghost use Rattle.rapid_cut.specs.Watching.{Watching, watching_code};
+    ghost use Rattle.rapid_cut.specs.Keeping.{AreKept};
     ghost use Rattle.rapid_cut.specs.Limits.{IsKept};
 
     ghost Value = { Watching T };
@@ -133,7 +136,7 @@ impl<T: ObserverTable> Model for Detector<T> {
 
     ghost view = { λ d. record { table = d.table; detector = record { direct = d.direct; closed = d.closed; skipped = d.skipped } } };
 
-    ghost invariant = { λ d. IsKept (T.observers d.table) d.direct d.all d.active.items d.joiners d.closed };
+    ghost invariant = { λ d. IsKept (T.observers d.table) d.direct d.all d.active.items d.joiners d.closed × AreKept (T.observers d.table) d.kept.places.entries d.kept.observers.items };
 }
 
 impl<T: ObserverTable> Detector<T> {
@@ -149,6 +152,7 @@ impl<T: ObserverTable> Detector<T> {
             all: ReportSet::new(alloc),
             active: Vec::new(alloc),
             joiners: 0,
+            kept: KeptObservers::new(alloc),
             closed: false,
             skipped: 0,
             alloc,
@@ -169,7 +173,7 @@ impl<T: ObserverTable> Detector<T> {
             self.skipped = 0;
             return Ok(None);
         }
-        if let Some(count) = repeats(&self.table, &self.direct, alerts) {
+        if let Some(count) = repeats(&self.table, &self.kept, &self.direct, alerts) {
             self.skipped = alerts.len() - count;
             return Ok(None);
         }
@@ -178,9 +182,23 @@ impl<T: ObserverTable> Detector<T> {
             all: known,
             joiners,
             count,
-        } = take_all(&self.table, &self.direct, &self.all, self.joiners, alerts)?;
+        } = take_all(
+            &self.table,
+            &mut self.kept,
+            &self.direct,
+            &self.all,
+            self.joiners,
+            alerts,
+        )?;
         let active = active_ones(&self.table, &direct)?;
-        let all = close_again(&self.table, &direct, &active, &self.active, known)?;
+        let all = close_again(
+            &self.table,
+            &self.kept,
+            &direct,
+            &active,
+            &self.active,
+            known,
+        )?;
         let cut = cut_of(self.alloc, &self.table, &direct, &all, &active)?;
         self.skipped = alerts.len() - count;
         self.closed = cut.is_some();
@@ -227,6 +245,7 @@ impl<T: ObserverTable> Detector<T> {
             all: self.all.try_copy()?,
             active: self.active.clone()?,
             joiners: self.joiners,
+            kept: self.kept.try_copy()?,
             closed: self.closed,
             skipped: self.skipped,
             alloc: self.alloc,

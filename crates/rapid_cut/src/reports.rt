@@ -18,7 +18,7 @@ use std::marker::Model;
 pub type Report = (Process, u8);
 
 /// Whether the mask has the bit of the ring.
-fn has_bit(mask: u16, ring: u8) -> bool
+pub fn has_bit(mask: u16, ring: u8) -> bool
     ensures { result ≡ has_ring mask ring }
 {
     ring < 16 && (mask >> ring) & 1 == 1
@@ -67,7 +67,7 @@ impl ReportSet {
     }
 
     /// The rings of the reports on the process.
-    fn mask(&self, subject: &Process) -> u16
+    pub fn mask(&self, subject: &Process) -> u16
         ensures { (k : ℕ) → set.contains self.now (subject.now, k) ≡ has_ring result k }
     {
         self.masks

@@ -14,6 +14,7 @@ loop-alert-preserved g c =
     ] in
     let at = drop_map alert_of c.args.alerts.now c.loop-alert.alert-index c.alert-item.result c.loop-alert-test.true c.alert-item.is in
     record {
+      kept = c.take.ensures.kept;
       taking =
           taking_more t c.args.direct.now (map alert_of c.args.alerts.now) c.loop-alert.alert-index c.loop-alert.direct c.take.new.direct
           c.loop-alert.joiners c.take.new.joiners c.loop-alert.count c.if-branch.count (alert_of c.alert-item.result) c.in_ok-take.field-0
