@@ -1,16 +1,23 @@
 -- While the same processes have L direct reports, the same is implied.
-use Rattle.std.proofs.Common.{◌≡◌, ℕ, ◌≤◌, Bool, true, false, ◌&&◌, ◌||◌, List, map, refl, sym, ap, ◌∙◌, ◌⊎◌, inl, inr, Option, Some, None, nat_lt, nat_le, arith}
+use Rattle.std.proofs.Common.{◌≡◌, ℕ, ◌≤◌, Bool, true, false, ◌&&◌, ◌||◌, List, [], ◌∷◌, ◌++◌, length, map, refl, sym, ap, ◌∙◌, ◌⊎◌, inl, inr, Option, Some, None, nat_lt, nat_le, arith}
 use Rattle.std.specs.FinSet as set
-use Rattle.rapid_model.specs.Process.{Process, is_in}
+use Rattle.std.specs.List.Sorted.{IsStrictlySortedBy}
+use Rattle.std.proofs.lemmas.List.Kept.{IsStrictlySortedBy-filter}
+use Rattle.std.proofs.lemmas.List.Folds.{list_any-append}
+use Rattle.rapid_model.specs.Process.{Process, process_cmp, same_bytes, is_in}
+use Rattle.rapid_model.specs.InOrder.{in_order}
 use Rattle.rapid_model.specs.Alert.{Alert}
 use Rattle.rapid_model.specs.Ring.{Observers, AreObservers, rings}
-use Rattle.rapid_model.specs.Reports.{Report, report_cmp, Reports, report_of, tally, reaches_low, is_implied, subjects, reports}
+use Rattle.rapid_model.specs.Reports.{Report, report_cmp, Reports, report_of, tally, reaches_low, is_implied, Includes, subjects, reports}
 use Rattle.rapid_model.specs.Detector.{with_alerts}
 use Rattle.rapid_model.proofs.Closure.{some_counted, implied_mono}
-use Rattle.rapid_model.proofs.Orders.{reports_total, reports_exact}
+use Rattle.rapid_model.proofs.Orders.{reports_total, reports_exact, processes_total, processes_exact}
+use Rattle.rapid_model.proofs.InOrder.{same_sorted}
 use Rattle.rapid_cut.specs.Closing.{IsBetween, active}
+use Rattle.rapid_cut.specs.Growing.{HaveGrown}
+use Rattle.rapid_cut.proofs.InTurn.{ordered_subjects}
 use Rattle.rapid_cut.proofs.Sets.{subject_of}
-use Rattle.rapid_cut.proofs.Joiners.{in_filter}
+use Rattle.rapid_cut.proofs.Joiners.{in_filter, sorted_subjects}
 use Rattle.rapid_cut.proofs.OnePass.{one_pass}
 
 and_is : (a b : Bool) → (b ≡ true → a ≡ true) → (a && b) ≡ b
@@ -27,14 +34,49 @@ low_active t r s obs =
     at_most : (m n : ℕ) → nat_le m n ≡ true → m ≤ n
     at_most m n e = grind (arith, e)
 
-low_same : (t : Observers) (r q : Reports) (o : Option Process) → AreObservers t → active t r ≡ active t q → reaches_low t r o ≡ reaches_low t q o
-low_same t r q None obs e = refl
-low_same t r q (Some s) obs e = low_active t r s obs ∙ ap (λ l. is_in l s) e ∙ sym (low_active t q s obs)
+-- as many have L reports as before
+abbrev pub AreAlike : Observers → Reports → Reports → Type 0
+AreAlike t r q = (s : Process) → reaches_low t r (Some s) ≡ reaches_low t q (Some s)
 
-implied_same : (t : Observers) (r q : Reports) (x : Report) → AreObservers t → active t r ≡ active t q → is_implied t r x ≡ is_implied t q x
-implied_same t r q x obs e =
-    ap (λ b. nat_lt x.1 t.params.k && b && reaches_low t r (t.observer x.1 x.0)) (low_same t r q (Some x.0) obs e)
-    ∙ ap (λ b. nat_lt x.1 t.params.k && reaches_low t q (Some x.0) && b) (low_same t r q (t.observer x.1 x.0) obs e)
+low_same : (t : Observers) (r q : Reports) (o : Option Process) → AreAlike t r q → reaches_low t r o ≡ reaches_low t q o
+low_same t r q None e = refl
+low_same t r q (Some s) e = e s
+
+implied_same : (t : Observers) (r q : Reports) (x : Report) → AreAlike t r q → is_implied t r x ≡ is_implied t q x
+implied_same t r q x e =
+    ap (λ b. nat_lt x.1 t.params.k && b && reaches_low t r (t.observer x.1 x.0)) (low_same t r q (Some x.0) e)
+    ∙ ap (λ b. nat_lt x.1 t.params.k && reaches_low t q (Some x.0) && b) (low_same t r q (t.observer x.1 x.0) e)
+
+sorted_active : (t : Observers) (r : Reports) → IsStrictlySortedBy process_cmp (active t r)
+sorted_active t r = IsStrictlySortedBy-filter process_cmp (λ s. reaches_low t r (Some s)) (subjects r) (sorted_subjects r)
+
+pub active_same : (t : Observers) (old new : Reports) (before : List Process) → AreObservers t → before ≡ active t old → AreAlike t new old → before ≡ active t new
+active_same t old new before obs b e =
+    b ∙ same_sorted process_cmp processes_total processes_exact _ _ (sorted_active t old) (sorted_active t new) (λ q. sym (low_active t old q obs) ∙ sym (e q) ∙ low_active t new q obs)
+
+pub no_items : (xs : List Process) → length xs ≡ 0 → xs ≡ []
+no_items [] h = refl
+no_items (x ∷ xs) h = absurd (omega (arith, h))
+
+-- where nobody came to L reports, those that had as many still have, and no others
+pub none_grown : (t : Observers) (old new : Reports) (grown : List Process) → grown ≡ [] → HaveGrown t old new grown → AreAlike t new old
+none_grown t old new grown e g s = g.low s ∙ ap (λ l. reaches_low t old (Some s) || is_in l s) e ∙ or_false (reaches_low t old (Some s))
+  where
+    or_false : (b : Bool) → (b || false) ≡ b
+    or_false true = refl
+    or_false false = refl
+
+-- those that came to it beside those of before
+pub low_among : (t : Observers) (old new : Reports) (before grown : List Process) → AreObservers t → before ≡ active t old → HaveGrown t old new grown → (q : Process) → reaches_low t new (Some q) ≡ (is_in before q || is_in grown q)
+low_among t old new before grown obs b g q = g.low q ∙ ap (λ c. c || is_in grown q) (low_active t old q obs ∙ ap (λ l. is_in l q) (sym b))
+
+-- put in order, they are all that have L reports
+pub active_among : (t : Observers) (new : Reports) (before grown found : List Process) → AreObservers t → ((q : Process) → reaches_low t new (Some q) ≡ (is_in before q || is_in grown q))
+    → found ≡ before ++ grown → in_order process_cmp found ≡ active t new
+active_among t new before grown found obs h e =
+    ordered_subjects new (λ s. reaches_low t new (Some s)) found (λ q.
+    ap (λ l. is_in l q) e ∙ list_any-append (same_bytes q) before grown ∙ sym (h q) ∙ low_active t new q obs
+    ∙ in_filter (λ s. reaches_low t new (Some s)) (subjects new) q)
 
 or_swap : (a b c : Bool) → ((a || b) || c) ≡ ((a || c) || b)
 or_swap true b c = refl
@@ -43,15 +85,15 @@ or_swap false true false = refl
 or_swap false false true = refl
 or_swap false false false = refl
 
-pub known_still : (t : Observers) (old all new known : Reports) (before now : List Process) (xs : List Alert) → AreObservers t → all ≡ reports t old → before ≡ active t old → now ≡ active t new
-    → known ≡ with_alerts all xs → new ≡ with_alerts old xs → now ≡ before → known ≡ reports t new
-known_still t old all new known before now xs obs a b n k w same =
+pub known_still : (t : Observers) (old all new known : Reports) (xs : List Alert) → AreObservers t → all ≡ reports t old
+    → known ≡ with_alerts all xs → new ≡ with_alerts old xs → AreAlike t new old → known ≡ reports t new
+known_still t old all new known xs obs a k w same =
     set.same_set reports_total reports_exact known (reports t new) (λ x.
     ap (λ r. set.contains r x) k ∙ set.contains-union reports_total all (set.from_list (map report_of xs)) x
     ∙ ap (λ c. c || set.contains (set.from_list {R = report_cmp} (map report_of xs)) x) (ap (λ r. set.contains r x) a ∙ one_pass t old x obs)
     ∙ or_swap (set.contains old x) (is_implied t old x) (set.contains (set.from_list {R = report_cmp} (map report_of xs)) x)
     ∙ ap (λ c. c || is_implied t old x) (sym (ap (λ r. set.contains r x) w ∙ set.contains-union reports_total old (set.from_list (map report_of xs)) x))
-    ∙ ap (λ c. set.contains new x || c) (implied_same t old new x obs (sym b ∙ sym same ∙ n))
+    ∙ ap (λ c. set.contains new x || c) (sym (implied_same t new old x same))
     ∙ sym (one_pass t new x obs))
 
 or_split : (a b : Bool) → (a || b) ≡ true → (a ≡ true) ⊎ (b ≡ true)
@@ -89,3 +131,7 @@ known_between t old all new known xs obs a k w =
             | inr came ↦ inl (new_has x ∙ or_right _ _ came)
           ];
     }
+
+-- all has what is direct
+pub closure_includes : (t : Observers) (direct all : Reports) → AreObservers t → all ≡ reports t direct → Includes all direct
+closure_includes t direct all obs e x h = ap (λ r. set.contains r x) e ∙ one_pass t direct x obs ∙ or_left _ _ h

@@ -10,7 +10,7 @@ use Rattle.rapid_model.specs.Detector.{Detector, joiners, taken, with_alerts, ba
 use Rattle.rapid_model.proofs.Orders.{same_bytes_decides}
 use Rattle.rapid_model.proofs.Closure.{reports_least}
 use Rattle.rapid_cut.specs.Closing.{active}
-use Rattle.rapid_cut.specs.Limits.{IsDetecting, IsKept, IsRepeated}
+use Rattle.rapid_cut.specs.Limits.{IsDetecting, IsKept}
 use Rattle.rapid_cut.specs.Watching.{Watching}
 use Rattle.rapid_cut.proofs.Sets.{report_on}
 use Rattle.rapid_cut.proofs.Closing.{least_is_one, on_low}
@@ -87,32 +87,17 @@ closed_after t d xs h =
 pub after_along : {T : Type 0} (f : T → Observers) (w v : Watching T) (xs : List Alert) → w ≡ v → after_batch (f w.table) w.detector xs ≡ after_batch (f v.table) v.detector xs
 after_along {T} f w v xs e = ap (λ (u : Watching T). after_batch (f u.table) u.detector xs) e
 
--- a batch that is there already changes nothing
-
-or_false : (a : Bool) → (a || false) ≡ a
-or_false true = refl
-or_false false = refl
-
-direct_stays : (t : Observers) (d : Detector) (xs : List Alert) (count : ℕ) → d.closed ≡ false → IsRepeated t d.direct xs count → direct_after t d xs ≡ d.direct
-direct_stays t d xs count h r = ap (λ b. with_alerts d.direct (cond b [] (taken t d.direct xs))) h ∙ r.same
-
-pub repeated_after : (t : Observers) (d : Detector) (xs : List Alert) (count : ℕ) → d.closed ≡ false → IsRepeated t d.direct xs count → cut_of t d.direct ≡ None
-    → (let e : Detector = record { direct = d.direct; closed = d.closed; skipped = length xs - count } in e) ≡ after_batch t d xs
-unfolding after_batch
-repeated_after t d xs count h r none =
-    let direct = direct_stays t d xs count h r in
-    let closed = ap (λ q. d.closed || is_some (cut_of t q)) direct ∙ ap (λ c. d.closed || is_some c) none ∙ or_false d.closed in
-    let skipped : ◌≡◌ {A = ℕ} (cond d.closed 0 (length xs - length (batch_taken t d xs))) (length xs - count) =
-    ap (λ b. cond b 0 (length xs - length (cond b [] (taken t d.direct xs)))) h ∙ ap (λ n. length xs - n) r.number in
-    λ i. record { direct = sym direct i; closed = sym closed i; skipped = sym skipped i }
-
-pub repeated_cut : (t : Observers) (d : Detector) (xs : List Alert) (count : ℕ) → d.closed ≡ false → IsRepeated t d.direct xs count → cut_of t d.direct ≡ None → None ≡ batch_cut t d xs
-unfolding batch_cut
-repeated_cut t d xs count h r none =
-    sym (ap (λ b. cond b None (cut_of t (direct_after t d xs))) h ∙ ap (cut_of t) (direct_stays t d xs count h r) ∙ none)
-
 pub cut_along : {T : Type 0} (f : T → Observers) (w v : Watching T) (xs : List Alert) → w ≡ v → batch_cut (f w.table) w.detector xs ≡ batch_cut (f v.table) v.detector xs
 cut_along {T} f w v xs e = ap (λ (u : Watching T). batch_cut (f u.table) u.detector xs) e
 
 pub unstable_along : {T : Type 0} (f : T → Observers) (w v : Watching T) → w ≡ v → unstable (f w.table) w.detector.direct ≡ unstable (f v.table) v.detector.direct
 unstable_along {T} f w v e = ap (λ (u : Watching T). unstable (f u.table) u.detector.direct) e
+
+pub view_along : {T : Type 0} (table : T) (a b : Reports) (closed : Bool) (skipped : ℕ) → a ≡ b →
+    ◌≡◌ {A = Watching T} (record { table = table; detector = record { direct = a; closed = closed; skipped = skipped } }) (record { table = table; detector = record { direct = b; closed = closed; skipped = skipped } })
+view_along table a b closed skipped e = λ i. record { table = table; detector = record { direct = e i; closed = closed; skipped = skipped } }
+
+pub kept_along : (t : Observers) (direct direct' all all' : Reports) (listed listed' : List Process) (joined : ℕ) (closed : Bool) → direct ≡ direct' → all ≡ all' → listed ≡ listed'
+    → IsKept t direct all listed joined closed → IsKept t direct' all' listed' joined closed
+kept_along t direct direct' all all' listed listed' joined closed d a l k =
+    subst (λ x. IsKept t x all' listed' joined closed) d (subst (λ x. IsKept t direct x listed' joined closed) a (subst (λ x. IsKept t direct all x joined closed) l k))

@@ -4,6 +4,7 @@ pub mod OnePass
 pub mod Passing
 pub mod Active
 pub mod Joiners
+pub mod Fresh
 pub mod Keeping
 pub mod Masks
 pub mod Taking

@@ -9,7 +9,7 @@ use Rattle.rapid_model.specs.Alert.{Alert, is_well_formed, kind_fits}
 use Rattle.rapid_model.specs.Reports.{Report, report_cmp, Reports, report_of, subjects}
 use Rattle.rapid_model.specs.Detector.{joiners, is_taken, taken, with_alerts}
 use Rattle.rapid_model.proofs.Orders.{reports_total, reports_exact, tie_decides, same_bytes_decides}
-use Rattle.rapid_cut.specs.Limits.{IsWithinLimits, IsRepeated}
+use Rattle.rapid_cut.specs.Limits.{IsWithinLimits}
 use Rattle.rapid_cut.proofs.Sets.{subject_of}
 use Rattle.rapid_cut.proofs.Joiners.{in_subjects_more, joiners_more, joiners_same, length_insert, insert_again, sorted_joiners, known_alike}
 
@@ -160,7 +160,7 @@ taking_all t start all i direct joined count e h = (
 
 -- ---- alerts that are there already
 
-insert_known : (r : Reports) (x : Report) → set.contains r x ≡ true → set.insert r x ≡ r
+pub insert_known : (r : Reports) (x : Report) → set.contains r x ≡ true → set.insert r x ≡ r
 insert_known r x h =
     set.same_set reports_total reports_exact (set.insert r x) r (λ q.
     set.contains-insert reports_total r x q ∙ again q)
@@ -172,7 +172,7 @@ insert_known r x h =
           | false ↦ λ e. refl
         ] refl
 
-known_taken : (t : Observers) (r : Reports) (a : Alert) → is_well_formed t a ≡ true → set.contains r (report_of a) ≡ true → is_taken t r a ≡ true
+pub known_taken : (t : Observers) (r : Reports) (a : Alert) → is_well_formed t a ≡ true → set.contains r (report_of a) ≡ true → is_taken t r a ≡ true
 known_taken t r a w h =
     ap (λ b. b && (t.is_member a.subject || is_in (joiners t r) a.subject || nat_lt (length (joiners t r)) 512)) w
     ∙ sym (known_alike t r a.subject (nat_lt (length (joiners t r)) 512)) ∙ there (t.is_member a.subject) (is_in (subjects r) a.subject) _ (subject_of r (report_of a) h)
@@ -181,22 +181,6 @@ known_taken t r a w h =
     there true b c e = refl
     there false true c e = refl
     there false false c e = cc
-
-pub repeats_one : (t : Observers) (r : Reports) (all : List Alert) (i count : ℕ) (a : Alert) → drop i all ≡ a ∷ drop (i + 1) all → is_well_formed t a ≡ true → set.contains r (report_of a) ≡ true
-    → IsTaking t r all i r (length (joiners t r)) count → IsTaking t r all (i + 1) r (length (joiners t r)) (count + 1)
-repeats_one t r all i count a at w h k =
-    taking_more t r all i r r (length (joiners t r)) (length (joiners t r)) count (count + 1) a true at (sym (known_taken t r a w h)) (sym (insert_known r (report_of a) h)) refl refl k
-
-pub repeats_skip : (t : Observers) (r : Reports) (all : List Alert) (i count : ℕ) (a : Alert) → drop i all ≡ a ∷ drop (i + 1) all → is_well_formed t a ≡ false
-    → IsTaking t r all i r (length (joiners t r)) count → IsTaking t r all (i + 1) r (length (joiners t r)) count
-repeats_skip t r all i count a at w k =
-    taking_more t r all i r r (length (joiners t r)) (length (joiners t r)) count count a false at
-    (sym (ap (λ b. b && (t.is_member a.subject || is_in (joiners t r) a.subject || nat_lt (length (joiners t r)) 512)) w)) refl refl refl k
-
-pub repeats_all : (t : Observers) (r : Reports) (all : List Alert) (i count : ℕ) → drop i all ≡ [] → IsTaking t r all i r (length (joiners t r)) count → IsRepeated t r all count
-repeats_all t r all i count e k =
-    let h = taking_all t r all i r (length (joiners t r)) count e k in
-    record { same = sym h.0; number = sym h.1 }
 
 -- ---- the same alerts taken into another set
 

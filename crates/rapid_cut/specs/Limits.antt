@@ -1,11 +1,10 @@
 -- What is known of the reports that were taken.
 use Rattle.std.specs.Prelude.{◌≡◌, ◌≤◌, ℕ, Bool, true, false, List, length, None}
 use Rattle.rapid_model.specs.Process.{Process, is_in}
-use Rattle.rapid_model.specs.Alert.{Alert}
 use Rattle.rapid_model.specs.Ring.{Observers, AreObservers, IsObserved}
 use Rattle.rapid_model.specs.Reports.{Reports, subjects, reports, cut_of}
 use Rattle.rapid_cut.specs.Closing.{active}
-use Rattle.rapid_model.specs.Detector.{joiners, taken, with_alerts}
+use Rattle.rapid_model.specs.Detector.{joiners}
 
 -- Each subject has an observer, and at most 512 of them are joiners.
 pub record IsWithinLimits (t : Observers) (r : Reports) : Type 0 where
@@ -24,8 +23,3 @@ pub record IsKept (t : Observers) (direct all : Reports) (listed : List Process)
   pub active : listed ≡ active t direct
   pub count : joined ≡ length (joiners t direct)
   pub none_yet : closed ≡ false → cut_of t direct ≡ None
-
--- So many of these alerts are taken, and each is there already.
-pub record IsRepeated (t : Observers) (r : Reports) (xs : List Alert) (count : ℕ) : Type 0 where
-  pub same : with_alerts r (taken t r xs) ≡ r
-  pub number : length (taken t r xs) ≡ count

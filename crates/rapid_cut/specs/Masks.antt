@@ -1,12 +1,12 @@
 -- The reports that masks of rings stand for.
-use Rattle.std.specs.Prelude.{◌≡◌, ℕ, Bool, true, ◌&&◌, ◌==◌, List, [], ◌∷◌, ◌++◌, map, filter, nat_lt, Some}
+use Rattle.std.specs.Prelude.{ℕ, Bool, ◌&&◌, ◌==◌, List, [], ◌∷◌, ◌++◌, map, filter, nat_lt}
 use Rattle.std.specs.List.{range_with_len}
 use Rattle.std.specs.Int.{bit_at}
 use Rattle.std.specs.Option.{unwrap_or}
 use Rattle.std.specs.FinSet as set
 use Rattle.std.specs.Map.{keys_of, lookup}
 use Rattle.std.specs.BTreeMap.{is_at}
-use Rattle.rapid_model.specs.Process.{Process, process_cmp, is_in}
+use Rattle.rapid_model.specs.Process.{Process, process_cmp}
 use Rattle.rapid_model.specs.Reports.{Report, Reports}
 
 -- The mask has the bit of the ring.
@@ -29,12 +29,3 @@ with_rings (s ∷ ss) = map (λ k. (s, k)) (range_with_len 0 16) ++ with_rings s
 -- The reports of processes with masks.
 unfoldable pub reports_in : List (Process × ℕ) → Reports
 reports_in es = set.from_list (filter (is_reported es) (with_rings (keys_of es)))
-
--- Each mask has some ring.
-abbrev pub HasRings : List (Process × ℕ) → Type 0
-HasRings es = (s : Process) (mask : ℕ) → lookup (is_at (process_cmp s)) es ≡ Some mask → (k : ℕ) × (has_ring mask k ≡ true)
-
--- What a set of masks keeps: each mask has some ring, and each process that has one is listed.
-pub record AreListed (es : List (Process × ℕ)) (listed : List Process) : Type 0 where
-  pub rings : HasRings es
-  pub all : (s : Process) → is_in (keys_of es) s ≡ true → is_in listed s ≡ true

@@ -1,17 +1,23 @@
 // The cut detector.
 
-ghost use Rattle.std.specs.Prelude.{◌≡◌, ◌≤◌, map, length, filter, IfOk, OnOk, OnErr};
+ghost use Rattle.std.specs.Prelude.{◌≡◌, ◌≤◌, ◌||◌, map, length, filter, is_some, Some, IfOk, OnOk, OnErr};
 ghost use Rattle.std.specs.List.{list_any};
 ghost use Rattle.rapid_model.specs.Reports as model;
+ghost use Rattle.rapid_model.specs.Process.{Process as Bytes, is_in};
+ghost use Rattle.rapid_model.specs.Ring.{AreObservers};
+ghost use Rattle.rapid_model.specs.Detector as detector;
 ghost use Rattle.rapid_model.specs.Detector.{empty_detector, after_batch, batch_cut};
 ghost use Rattle.rapid_alerts.specs.Alerts.{alert_of};
-ghost use Rattle.rapid_cut.specs.Closing.{active as active_of};
-ghost use Rattle.rapid_cut.specs.Limits.{IsDetecting};
+ghost use Rattle.rapid_cut.specs.Closing.{IsBetween, active as active_of};
+ghost use Rattle.rapid_cut.specs.Growing.{without};
+ghost use Rattle.rapid_cut.specs.Keeping.{AreKept};
+ghost use Rattle.rapid_cut.specs.Limits.{IsDetecting, IsKept};
 
-use crate::closure::{active_ones, close_again, tally};
+use crate::closure::{active_with, close, tally};
+use crate::growing::GrowingSet;
 use crate::kept::KeptObservers;
 use crate::reports::ReportSet;
-use crate::taken::{Taken, repeats, take_all};
+use crate::taken::{Taken, take_all};
 use rapid_alerts::Alert;
 use rapid_config::{ConfigError, Cut};
 use rapid_endpoint::Process;
@@ -105,6 +111,86 @@ fn cut_of<T: ObserverTable>(
     }
 }
 
+/// What a batch changes beside the reports.
+#[derive(Debug, Drop)]
+struct Advance {
+    cut: Option<Cut>,
+    joiners: usize,
+    // how many alerts were taken
+    count: usize,
+}
+
+/// Closes the reports where some process came to L, and lists those that have as many.
+fn close_after<T: ObserverTable>(
+    alloc: Global,
+    table: &T,
+    kept: &KeptObservers,
+    direct: &ReportSet,
+    all: &mut GrowingSet,
+    before: &[Process],
+    grown: &[Process],
+) -> Result<Vec<Process>, AllocError>
+    requires rules { AreObservers (T.observers table.now) }
+    requires kept { AreKept (T.observers table.now) kept.now.places.entries kept.now.observers.items }
+    requires known { IsBetween (T.observers table.now) direct.now all.old.reports }
+    requires low { (q : Bytes) → model.reaches_low (T.observers table.now) direct.now (Some q) ≡ (is_in before.now q || is_in grown.now q) }
+    ensures active { IfOk result (λ active. active.items ≡ active_of (T.observers table.now) direct.now) }
+    ensures all { OnOk result (all.new.reports ≡ model.reports (T.observers table.now) direct.now) }
+    ensures before { without all.new.reports all.new.fresh.items ≡ without all.old.reports all.old.fresh.items }
+{
+    let active = active_with(alloc, table, direct, before, grown)?;
+    close(table, kept, direct, active.as_slice(), all)?;
+    Ok(active)
+}
+
+/// Takes a batch of alerts: the reports, those that have at least L, and the cut.
+fn take_batch<T: ObserverTable>(
+    alloc: Global,
+    table: &T,
+    kept: &mut KeptObservers,
+    direct: &mut GrowingSet,
+    all: &mut GrowingSet,
+    active: &mut Vec<Process>,
+    joiners: usize,
+    alerts: &[Alert],
+) -> Result<Advance, AllocError>
+    requires detecting { IsDetecting (T.observers table.now) direct.old.reports all.old.reports }
+    requires active { active.old.items ≡ active_of (T.observers table.now) direct.old.reports }
+    requires joiners { joiners ≡ length (detector.joiners (T.observers table.now) direct.old.reports) }
+    requires kept { AreKept (T.observers table.now) kept.old.places.entries kept.old.observers.items }
+    ensures kept { AreKept (T.observers table.now) kept.new.places.entries kept.new.observers.items }
+    ensures direct { OnOk result (direct.new.reports ≡ detector.with_alerts direct.old.reports (detector.taken (T.observers table.now) direct.old.reports (map alert_of alerts.now))) }
+    ensures known { IfOk result (λ advance. IsKept (T.observers table.now) direct.new.reports all.new.reports active.new.items advance.joiners (is_some advance.cut)) }
+    ensures cut { IfOk result (λ advance. advance.cut ≡ model.cut_of (T.observers table.now) direct.new.reports) }
+    ensures count { IfOk result (λ advance. advance.count ≡ length (detector.taken (T.observers table.now) direct.old.reports (map alert_of alerts.now))) }
+    ensures bound { IfOk result (λ advance. advance.count ≤ length alerts.now) }
+    ensures active { OnErr result (active.new.items ≡ active.old.items) }
+    ensures direct_before { without direct.new.reports direct.new.fresh.items ≡ without direct.old.reports direct.old.fresh.items }
+    ensures all_before { without all.new.reports all.new.fresh.items ≡ without all.old.reports all.old.fresh.items }
+{
+    let Taken {
+        joiners,
+        count,
+        grown,
+    } = take_all(alloc, table, kept, direct, all, joiners, alerts)?;
+    if grown.is_empty() {
+        let cut = cut_of(alloc, table, &direct.reports, &all.reports, active)?;
+        return Ok(Advance {
+            cut,
+            joiners,
+            count,
+        });
+    }
+    let more = close_after(alloc, table, kept, &direct.reports, all, active, &grown)?;
+    let cut = cut_of(alloc, table, &direct.reports, &all.reports, &more)?;
+    *active = more;
+    Ok(Advance {
+        cut,
+        joiners,
+        count,
+    })
+}
+
 /// The cut detector over a table of observers (Rapid, USENIX ATC 2018).
 ///
 /// It takes batches of alerts until they have a cut. The reports are the pairs of subject and ring of
@@ -115,8 +201,8 @@ fn cut_of<T: ObserverTable>(
 #[derive(Debug, Drop)]
 pub struct Detector<T: ObserverTable> {
     table: T,
-    direct: ReportSet,
-    all: ReportSet,
+    direct: GrowingSet,
+    all: GrowingSet,
     active: Vec<Process>,
     joiners: usize,
     kept: KeptObservers,
@@ -126,6 +212,7 @@ pub struct Detector<T: ObserverTable> {
 }
 
 impl<T: ObserverTable> Model for Detector<T> {
+    ghost use Rattle.std.specs.Prelude.{◌≡◌, []};
     ghost use Rattle.rapid_cut.specs.Watching.{Watching, watching_code};
     ghost use Rattle.rapid_cut.specs.Keeping.{AreKept};
     ghost use Rattle.rapid_cut.specs.Limits.{IsKept};
@@ -134,9 +221,9 @@ impl<T: ObserverTable> Model for Detector<T> {
 
     ghost coded = { watching_code T.code };
 
-    ghost view = { λ d. record { table = d.table; detector = record { direct = d.direct; closed = d.closed; skipped = d.skipped } } };
+    ghost view = { λ d. record { table = d.table; detector = record { direct = d.direct.reports; closed = d.closed; skipped = d.skipped } } };
 
-    ghost invariant = { λ d. IsKept (T.observers d.table) d.direct d.all d.active.items d.joiners d.closed × AreKept (T.observers d.table) d.kept.places.entries d.kept.observers.items };
+    ghost invariant = { λ d. IsKept (T.observers d.table) d.direct.reports d.all.reports d.active.items d.joiners d.closed × AreKept (T.observers d.table) d.kept.places.entries d.kept.observers.items × (d.direct.fresh.items ≡ []) × (d.all.fresh.items ≡ []) };
 }
 
 impl<T: ObserverTable> Detector<T> {
@@ -148,8 +235,8 @@ impl<T: ObserverTable> Detector<T> {
         let _ = table.params();
         Detector {
             table,
-            direct: ReportSet::new(alloc),
-            all: ReportSet::new(alloc),
+            direct: GrowingSet::new(alloc),
+            all: GrowingSet::new(alloc),
             active: Vec::new(alloc),
             joiners: 0,
             kept: KeptObservers::new(alloc),
@@ -173,40 +260,31 @@ impl<T: ObserverTable> Detector<T> {
             self.skipped = 0;
             return Ok(None);
         }
-        if let Some(count) = repeats(&self.table, &self.kept, &self.direct, alerts) {
-            self.skipped = alerts.len() - count;
-            return Ok(None);
-        }
-        let Taken {
-            direct,
-            all: known,
-            joiners,
-            count,
-        } = take_all(
+        let advance = take_batch(
+            self.alloc,
             &self.table,
             &mut self.kept,
-            &self.direct,
-            &self.all,
+            &mut self.direct,
+            &mut self.all,
+            &mut self.active,
             self.joiners,
             alerts,
-        )?;
-        let active = active_ones(&self.table, &direct)?;
-        let all = close_again(
-            &self.table,
-            &self.kept,
-            &direct,
-            &active,
-            &self.active,
-            known,
-        )?;
-        let cut = cut_of(self.alloc, &self.table, &direct, &all, &active)?;
-        self.skipped = alerts.len() - count;
-        self.closed = cut.is_some();
-        self.active = active;
-        self.joiners = joiners;
-        self.direct = direct;
-        self.all = all;
-        Ok(cut)
+        );
+        match advance {
+            Ok(advance) => {
+                self.direct.keep();
+                self.all.keep();
+                self.joiners = advance.joiners;
+                self.skipped = alerts.len() - advance.count;
+                self.closed = advance.cut.is_some();
+                Ok(advance.cut)
+            }
+            Err(error) => {
+                self.direct.undo();
+                self.all.undo();
+                Err(error)
+            }
+        }
     }
 
     /// How many alerts of the last batch were skipped: those that are ill-formed or on a 513th
@@ -221,14 +299,14 @@ impl<T: ObserverTable> Detector<T> {
     pub fn tally(&self, process: &Process) -> usize
         ensures { result ≡ model.tally (T.observers self.now.table) (model.reports (T.observers self.now.table) self.now.detector.direct) process.now }
     {
-        tally(&self.table, &self.all, process)
+        tally(&self.table, &self.all.reports, process)
     }
 
     /// The processes with at least L reports and fewer than H, ascending.
     pub fn unstable(&self) -> Result<Vec<Process>, AllocError>
         ensures { IfOk result (λ found. found.items ≡ model.unstable (T.observers self.now.table) self.now.detector.direct) }
     {
-        unstable_ones(self.alloc, &self.table, &self.all, &self.active)
+        unstable_ones(self.alloc, &self.table, &self.all.reports, &self.active)
     }
 
     /// An equal detector over a table that says the same, as another share of one table does.
@@ -241,8 +319,8 @@ impl<T: ObserverTable> Detector<T> {
     {
         Ok(Detector {
             table,
-            direct: self.direct.try_copy()?,
-            all: self.all.try_copy()?,
+            direct: self.direct.try_copy(self.alloc)?,
+            all: self.all.try_copy(self.alloc)?,
             active: self.active.clone()?,
             joiners: self.joiners,
             kept: self.kept.try_copy()?,

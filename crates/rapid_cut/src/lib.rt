@@ -7,6 +7,7 @@ ghost use Rattle.rapid_cut.specs.Laws.{OrderAndRepeatsChangeNothing, OnePassIsEn
 mod ascending;
 mod closure;
 mod detector;
+mod growing;
 mod kept;
 mod reports;
 mod subject_key;

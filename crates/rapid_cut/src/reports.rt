@@ -1,13 +1,12 @@
 // Sets of reports.
 
-ghost use Rattle.std.specs.Prelude.{◌≡◌, ◌<◌, ◌≤◌, ℕ, filter, count_by, nat_le, ◌==◌, [], ◌∷◌, ◌++◌, if◌then◌else◌, IfOk, OnOk, OnErr};
-ghost use Rattle.std.specs.List.{range_with_len};
+ghost use Rattle.std.specs.Prelude.{◌≡◌, ◌<◌, ℕ, count_by, IfOk, OnOk, OnErr};
+ghost use Rattle.std.specs.List.{list_any, range_with_len};
 ghost use Rattle.std.specs.FinSet as set;
 ghost use Rattle.rapid_model.specs.Process.{is_in};
 ghost use Rattle.rapid_model.specs.Reports.{subjects};
 ghost use Rattle.rapid_cut.specs.Masks.{has_ring};
 
-use crate::ascending::ascending;
 use crate::subject_key::SubjectKey;
 use rapid_endpoint::Process;
 use std::alloc::{AllocError, Global};
@@ -25,33 +24,35 @@ pub fn has_bit(mask: u16, ring: u8) -> bool
 }
 
 /// How many of the first rings the mask has.
-fn count(mask: u16, rings: u8) -> usize
+pub fn count(mask: u16, rings: u8) -> usize
     ensures { result ≡ count_by (has_ring mask) (range_with_len 0 rings) }
 {
     (0..rings).filter(|ring| has_bit(mask, *ring)).count()
+}
+
+/// Whether the mask has one of sixteen rings.
+fn has_any(mask: u16) -> bool
+    ensures { result ≡ list_any (has_ring mask) (range_with_len 0 16) }
+{
+    (0..16).any(|ring| has_bit(mask, ring))
 }
 
 /// A set of reports for the first sixteen rings: a mask for each process that is reported on.
 #[derive(Debug, Drop)]
 pub struct ReportSet {
     masks: HashMap<SubjectKey, u16>,
-    // each process that has a mask
-    listed: Vec<Process>,
-    alloc: Global,
 }
 
 impl Model for ReportSet {
     ghost use Rattle.rapid_model.specs.Reports.{Reports};
     ghost use Rattle.rapid_model.specs.Codes.{reports_code};
-    ghost use Rattle.rapid_cut.specs.Masks.{reports_in, AreListed};
+    ghost use Rattle.rapid_cut.specs.Masks.{reports_in};
 
     ghost Value = { Reports };
 
     ghost coded = { reports_code };
 
     ghost view = { λ r. reports_in r.masks.entries };
-
-    ghost invariant = { λ r. AreListed r.masks.entries r.listed.items };
 }
 
 impl ReportSet {
@@ -61,8 +62,6 @@ impl ReportSet {
     {
         ReportSet {
             masks: HashMap::new(alloc),
-            listed: Vec::new(alloc),
-            alloc,
         }
     }
 
@@ -76,18 +75,11 @@ impl ReportSet {
             .unwrap_or(0)
     }
 
-    /// Whether the report on the process for the ring is there.
-    pub fn has(&self, subject: &Process, ring: u8) -> bool
-        ensures { result ≡ set.contains self.now (subject.now, ring) }
-    {
-        has_bit(self.mask(subject), ring)
-    }
-
     /// Whether there is a report on the process.
     pub fn is_on(&self, subject: &Process) -> bool
         ensures { result ≡ is_in (subjects self.now) subject.now }
     {
-        self.masks.contains_key(&SubjectKey::new(*subject))
+        has_any(self.mask(subject))
     }
 
     /// The number of reports on the process for the first rings.
@@ -97,17 +89,30 @@ impl ReportSet {
         count(self.mask(subject), rings)
     }
 
-    /// Adds a report.
-    pub fn insert(&mut self, report: Report) -> Result<(), AllocError>
-        requires { report.1 < 16 }
+    /// Adds a report on a process whose rings so far are these.
+    pub fn insert(&mut self, report: Report, mask: u16) -> Result<(), AllocError>
+        requires ring { report.1 < 16 }
+        requires mask { (k : ℕ) → set.contains self.old (report.0, k) ≡ has_ring mask k }
         ensures added { OnOk result (self.new ≡ set.insert self.old report) }
         ensures unchanged { OnErr result (self.new ≡ self.old) }
     {
         let key = SubjectKey::new(report.0);
-        let mask = self.masks.get(&key).copied().unwrap_or(0);
-        list(&mut self.listed, mask, report.0)?;
         self.masks.insert(key, mask | 1 << report.1)?;
         Ok(())
+    }
+
+    /// Removes a report. That needs no memory.
+    pub fn remove(&mut self, report: Report)
+        ensures { self.new ≡ set.remove self.old report }
+    {
+        let mask = self.mask(&report.0);
+        if has_bit(mask, report.1) {
+            let key = SubjectKey::new(report.0);
+            match self.masks.insert(key, mask & !(1 << report.1)) {
+                Ok(_) => (),
+                Err(_) => (),
+            }
+        }
     }
 
     /// An equal set.
@@ -116,46 +121,6 @@ impl ReportSet {
     {
         Ok(ReportSet {
             masks: self.masks.clone()?,
-            listed: self.listed.clone()?,
-            alloc: self.alloc,
         })
     }
-
-    /// The processes with at least so many reports for the first rings, ascending.
-    pub fn with_tally(&self, least: usize, rings: u8) -> Result<Vec<Process>, AllocError>
-        requires { 1 ≤ least }
-        ensures { IfOk result (λ found. found.items ≡ filter (λ s. nat_le least (count_by (λ k. set.contains self.now (s, k)) (range_with_len 0 rings))) (subjects self.now)) }
-    {
-        let listed = self.listed.as_slice();
-        let found = with_enough(self.alloc, self, listed, least, rings)?;
-        Ok(ascending(found))
-    }
-}
-
-/// Lists a process whose mask has no ring yet.
-fn list(listed: &mut Vec<Process>, mask: u16, subject: Process) -> Result<(), AllocError>
-    ensures more { OnOk result (listed.new.items ≡ (if mask == 0 then listed.old.items ++ subject ∷ [] else listed.old.items)) }
-    ensures unchanged { OnErr result (listed.new.items ≡ listed.old.items) }
-{
-    if mask == 0 {
-        listed.push(subject)?;
-    }
-    Ok(())
-}
-
-/// Those of the processes with at least so many reports for the first rings.
-fn with_enough(
-    alloc: Global,
-    reports: &ReportSet,
-    subjects: &[Process],
-    least: usize,
-    rings: u8,
-) -> Result<Vec<Process>, AllocError>
-    ensures { IfOk result (λ found. found.items ≡ filter (λ s. nat_le least (count_by (λ k. set.contains reports.now (s, k)) (range_with_len 0 rings))) subjects.now) }
-{
-    subjects
-        .iter()
-        .filter(|subject| least <= reports.tally(subject, rings))
-        .copied()
-        .collect(alloc)
 }

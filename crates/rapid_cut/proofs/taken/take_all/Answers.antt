@@ -1,5 +1,7 @@
 use Rattle.std.proofs.Common.{◌≡◌, ◌∙◌, ◌+◌, ap, sym, map, cond}
+use Rattle.rapid_model.specs.Reports.{report_of}
 use Rattle.rapid_alerts.specs.Alerts.{alert_of}
+use Rattle.rapid_cut.proofs.Fresh.{includes_when}
 use Rattle.rapid_cut.proofs.Taking.{taking_more, taking_all, into_more, into_all, drop_map, drop_done}
 use Rattle.rapid_cut.proofs.taken.take_all.Goals.{then-branch, else-branch}
 use Rattle.rapid_cut.proofs.taken.take_all.Goals as goal
@@ -15,21 +17,27 @@ loop-alert-preserved g c =
     let at = drop_map alert_of c.args.alerts.now c.loop-alert.alert-index c.alert-item.result c.loop-alert-test.true c.alert-item.is in
     record {
       kept = c.take.ensures.kept;
+      known =
+          includes_when c.in_ok-take.field-0 c.loop-alert.all.reports c.loop-alert.direct.reports c.take.new.all.reports c.take.new.direct.reports (report_of (alert_of c.alert-item.result))
+          c.in_ok-take.ensures.all c.in_ok-take.ensures.direct c.loop-alert.invariant.known;
+      grown = c.in_ok-take.ensures.grown c.args.direct.now.reports c.loop-alert.invariant.grown;
+      direct_before = c.take.ensures.direct_before ∙ c.loop-alert.invariant.direct_before;
+      all_before = c.take.ensures.all_before ∙ c.loop-alert.invariant.all_before;
       taking =
-          taking_more t c.args.direct.now (map alert_of c.args.alerts.now) c.loop-alert.alert-index c.loop-alert.direct c.take.new.direct
+          taking_more t c.args.direct.now.reports (map alert_of c.args.alerts.now) c.loop-alert.alert-index c.loop-alert.direct.reports c.take.new.direct.reports
           c.loop-alert.joiners c.take.new.joiners c.loop-alert.count c.if-branch.count (alert_of c.alert-item.result) c.in_ok-take.field-0
           at c.in_ok-take.ensures.taken c.in_ok-take.ensures.direct c.in_ok-take.ensures.joiners counted c.loop-alert.invariant.taking;
       into =
-          into_more t c.args.direct.now (map alert_of c.args.alerts.now) c.loop-alert.alert-index c.loop-alert.direct c.take.new.direct c.args.all.now c.loop-alert.all c.take.new.all
+          into_more t c.args.direct.now.reports (map alert_of c.args.alerts.now) c.loop-alert.alert-index c.loop-alert.direct.reports c.take.new.direct.reports c.args.all.now.reports c.loop-alert.all.reports c.take.new.all.reports
           (alert_of c.alert-item.result) c.in_ok-take.field-0 at c.in_ok-take.ensures.taken c.in_ok-take.ensures.direct c.in_ok-take.ensures.all c.loop-alert.invariant.into;
     }
 
 pub returns-clause-direct : goal.returns-clause-direct
 returns-clause-direct g c =
-    (taking_all (g.T.ObserverTable.observers c.args.table.now) c.args.direct.now (map alert_of c.args.alerts.now) c.loop-alert.alert-index c.loop-alert.direct c.loop-alert.joiners c.loop-alert.count
+    (taking_all (g.T.ObserverTable.observers c.args.table.now) c.args.direct.now.reports (map alert_of c.args.alerts.now) c.loop-alert.alert-index c.loop-alert.direct.reports c.loop-alert.joiners c.loop-alert.count
     (drop_done alert_of c.args.alerts.now c.loop-alert.alert-index c.loop-alert-test.false) c.loop-alert.invariant.taking).0
 
 pub returns-clause-all : goal.returns-clause-all
 returns-clause-all g c =
-    into_all (g.T.ObserverTable.observers c.args.table.now) c.args.direct.now (map alert_of c.args.alerts.now) c.loop-alert.alert-index c.loop-alert.direct c.args.all.now c.loop-alert.all
+    into_all (g.T.ObserverTable.observers c.args.table.now) c.args.direct.now.reports (map alert_of c.args.alerts.now) c.loop-alert.alert-index c.loop-alert.direct.reports c.args.all.now.reports c.loop-alert.all.reports
     (drop_done alert_of c.args.alerts.now c.loop-alert.alert-index c.loop-alert-test.false) c.loop-alert.invariant.into
