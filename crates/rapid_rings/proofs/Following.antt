@@ -1,24 +1,24 @@
 -- The next rings are made of the rings before.
-use Rattle.std.proofs.Common.{◌≡◌, ℕ, ◌+◌, ◌<◌, Bool, true, false, cond, not, ◌&&◌, ◌||◌, List, [], ◌∷◌, ◌++◌, take, get_or, Option, Some, None, map, filter, length, refl, sym, ap, subst, ◌∙◌, inl, inr, arith, rules}
+use Rattle.std.proofs.Common.{◌≡◌, ℕ, ◌+◌, ◌<◌, Bool, true, false, cond, not, ◌&&◌, ◌||◌, List, [], ◌∷◌, ◌++◌, take, get_or, Option, Some, None, position, map, filter, length, refl, sym, ap, subst, ◌∙◌, inl, inr, arith, rules}
 use Rattle.std.specs.Prelude.{Ok, Err, Result, IfOk, IfSome, is_some}
 use Rattle.std.specs.List.{list_any}
 use Rattle.std.specs.Option.{option_and_then}
 use Rattle.std.specs.List.Sorted.{IsSorted, IsBinarySearchResult, IsPermutation}
-use Rattle.std.specs.declared.cmp.Ordering.TheVariants.{Less, Greater}
+use Rattle.std.specs.declared.cmp.Ordering.TheVariants.{Less, Equal, Greater}
 use Rattle.std.specs.Ordering.{is_eq}
-use Rattle.std.specs.Cmp.{both_ways, eq_by_cmp_equiv}
+use Rattle.std.specs.Cmp.{both_ways, eq_by_cmp_equiv, tied_itself}
 use Rattle.std.specs.FinSet as set
 use Rattle.std.proofs.lemmas.Bool.{cases_lt}
 use Rattle.std.proofs.lemmas.List.Sorted.{searchable_from_sorted, list_any-IsPermutation}
 use Rattle.std.proofs.lemmas.Map.Made.{is_member-filter}
-use Rattle.std.proofs.lemmas.List.{take_more, map-append, append-nil}
+use Rattle.std.proofs.lemmas.List.{take_more, map-append, append-nil, get_or_default}
 use Rattle.std.proofs.lemmas.List.Elements.{filter-append}
 use Rattle.std.proofs.lemmas.List.FromFn.{length-map-range_with_len, get_or-map-range_with_len}
-use Rattle.rapid_model.specs.Configuration.{Configuration, position_of}
-use Rattle.rapid_model.specs.Process.{Process, ProcessSet, process_cmp, same_bytes, is_in}
+use Rattle.rapid_model.specs.Configuration.{Configuration, position_of, identifiers_ascend}
+use Rattle.rapid_model.specs.Process.{Process, ProcessSet, process_cmp, identifier, same_bytes, is_in}
 use Rattle.rapid_model.proofs.Orders.{processes_total, same_bytes_decides}
-use Rattle.rapid_config.proofs.Ascending.{flipped}
-use Rattle.rapid_config.proofs.Places.{any_none, search_finds, in_by_place}
+use Rattle.rapid_config.proofs.Ascending.{bytes_total, flipped}
+use Rattle.rapid_config.proofs.Places.{any_none, search_finds, in_by_place, found_at, by_identifier}
 use Rattle.rapid_rings.specs.Following.{HaveCome}
 use Rattle.rapid_rings.specs.Seats.{Seat, Seats, seat, seats_of, rings_of, seat_cmp, same_seat}
 use Rattle.rapid_rings.proofs.Rounds.{seats_total, seats_exact, contains-seats, seated, seats_have, same_seat_is, own_seat}
@@ -120,6 +120,27 @@ left_push {X} f g xs i x lt is =
     one : (b : Bool) → map f (filter (λ m. not (g m)) (take i xs)) ++ map f (cond (not b) (x ∷ []) []) ≡ cond b (map f (filter (λ m. not (g m)) (take i xs))) (map f (filter (λ m. not (g m)) (take i xs)) ++ f x ∷ [])
     one true = append-nil (map f (filter (λ m. not (g m)) (take i xs)))
     one false = refl
+
+-- the same with no function
+pub kept_push : {X : Type 0} (g : X → Bool) (xs : List X) (i : ℕ) (x : X) → i < length xs → x ≡ get_or xs i x
+    → filter (λ m. not (g m)) (take (i + 1) xs) ≡ cond (g x) (filter (λ m. not (g m)) (take i xs)) (filter (λ m. not (g m)) (take i xs) ++ x ∷ [])
+kept_push {X} g xs i x lt is =
+    ap (filter (λ m. not (g m))) (take_more xs i x lt ∙ ap (λ p. take i xs ++ p ∷ []) (sym is))
+    ∙ filter-append (λ m. not (g m)) (take i xs) (x ∷ [])
+    ∙ one (g x)
+  where
+    one : (b : Bool) → filter (λ m. not (g m)) (take i xs) ++ cond (not b) (x ∷ []) [] ≡ cond b (filter (λ m. not (g m)) (take i xs)) (filter (λ m. not (g m)) (take i xs) ++ x ∷ [])
+    one true = append-nil (filter (λ m. not (g m)) (take i xs))
+    one false = refl
+
+-- a member that is where it was guessed to be
+pub at_guess : (ms : List Process) (p q : Process) (i : ℕ) → identifiers_ascend ms ≡ true → i < length ms → q ≡ get_or ms i q → same_bytes p q ≡ true → position (same_bytes p) ms ≡ Some i
+at_guess ms p q i up l at t =
+    let here : q ≡ get_or ms i p = at ∙ get_or_default ms i q p l in
+    let same : p ≡ get_or ms i p = (same_bytes_decides p q).0 t ∙ here in
+    found_at ms p i up l
+    (λ d. subst (λ x. by_identifier p x ≡ Equal) (same ∙ get_or_default ms i p d l) (tied_itself bytes_total (identifier p)))
+    (subst (λ x. same_bytes p x ≡ true) here t)
 
 -- the newcomers among members with their places before
 pub come_from : (k : ℕ) (f : Process → Option ℕ) (g : Process → Bool) → ((m : Process) → is_some (f m) ≡ g m) → (ms : List Process)

@@ -1,9 +1,10 @@
 // Members that are members no more.
 
-ghost use Rattle.std.specs.Prelude.{◌≡◌, ◌&&◌, not, filter, IfOk};
+ghost use Rattle.std.specs.Prelude.{◌≡◌, [], ◌∷◌, ◌++◌, ◌&&◌, not, filter, if◌then◌else◌, IfOk, OnOk};
 ghost use Rattle.std.specs.FinSet as set;
 ghost use Rattle.rapid_model.specs.Process.{Process as ModelProcess, is_in};
 
+use crate::places::{guess_after, place_near};
 use rapid_config::Configuration;
 use rapid_endpoint::Process;
 use std::alloc::{AllocError, Global};
@@ -81,9 +82,26 @@ fn strangers(
 ) -> Result<Vec<Process>, AllocError>
     ensures { IfOk result (λ found. found.items ≡ filter (λ p. not (is_in configuration.now.members p)) processes.now) }
 {
-    processes
-        .iter()
-        .filter(|process| !configuration.is_member(process))
-        .copied()
-        .collect(alloc)
+    let mut found = Vec::new(alloc);
+    let mut guess = 0;
+    for process in processes {
+        let place = place_near(configuration, guess, process);
+        guess = guess_after(place, guess);
+        push_unless(&mut found, place.is_some(), process)?;
+    }
+    Ok(found)
+}
+
+// Adds a process, unless it is known.
+fn push_unless(
+    found: &mut Vec<Process>,
+    is_known: bool,
+    process: &Process,
+) -> Result<(), AllocError>
+    ensures { OnOk result (found.new.items ≡ (if is_known then found.old.items else found.old.items ++ process.now ∷ [])) }
+{
+    if !is_known {
+        found.push(*process)?;
+    }
+    Ok(())
 }

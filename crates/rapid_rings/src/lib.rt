@@ -8,6 +8,7 @@ mod departed;
 mod edge_key;
 mod edge_map;
 mod observer_table;
+mod places;
 mod process_set;
 mod ring;
 mod rings;

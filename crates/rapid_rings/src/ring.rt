@@ -1,6 +1,6 @@
 // One ring.
 
-ghost use Rattle.std.specs.Prelude.{◌≡◌, ◌&&◌, ◌||◌, not, ℕ, true, List, Some, None, IfOk};
+ghost use Rattle.std.specs.Prelude.{◌≡◌, ◌+◌, ◌-◌, ◌<◌, ◌≤◌, ◌++◌, ◌&&◌, ◌||◌, not, ℕ, true, List, length, take, drop, if◌then◌else◌, Some, None, IfOk, OnOk};
 ghost use Rattle.std.specs.Option.{option_eq};
 ghost use Rattle.std.specs.List.{find, list_any};
 ghost use Rattle.std.specs.Ordering.{is_lt, is_le};
@@ -14,6 +14,9 @@ use rapid_endpoint::Process;
 use sha2::{Digest, Sha256};
 use std::alloc::{AllocError, Global};
 use std::marker::Model;
+
+/// Up to so many seats are put in their places one by one: that costs less than a sort of all.
+const FEW: usize = 8;
 
 /// A process with its key on a ring. Seats are ordered by key; ties are broken by process.
 pub(crate) type Seat = ([u8; 32], Process);
@@ -72,7 +75,7 @@ impl Ring {
         Ring { seats }
     }
 
-    /// The same ring without the seats of those that departed, and with more seats: they are merged in.
+    /// The same ring without the seats of those that departed, and with more seats.
     pub(crate) fn next(
         &self,
         alloc: Global,
@@ -82,30 +85,38 @@ impl Ring {
         ensures { IfOk result (λ ring. (q : ModelSeat) →
             set.contains ring q ≡ ((set.contains self.now q && not (set.contains departed.now q.1)) || list_any (same_seat q) newcomers.now)) }
     {
-        let mut seats = self.remaining(alloc, departed, newcomers.len())?;
-        seats.extend_from_slice(newcomers)?;
-        seats.sort()?;
-        Ok(Ring { seats })
+        let kept = self.remaining(alloc, departed, newcomers.len())?;
+        if newcomers.len() <= FEW {
+            with_few(kept, newcomers)
+        } else {
+            with_many(kept, newcomers)
+        }
     }
 
-    // The seats of those that did not depart, in order, with room for more.
-    fn remaining(
-        &self,
-        alloc: Global,
-        departed: &Departed,
-        more: usize,
-    ) -> Result<Vec<Seat>, AllocError>
+    // The ring of the seats of those that did not depart, with room for more.
+    fn remaining(&self, alloc: Global, departed: &Departed, more: usize) -> Result<Ring, AllocError>
         ensures { IfOk result (λ kept. (q : ModelSeat) →
-            list_any (same_seat q) kept.items ≡ (set.contains self.now q && not (set.contains departed.now q.1))) }
+            set.contains kept q ≡ (set.contains self.now q && not (set.contains departed.now q.1))) }
     {
         let seats = self.seats.as_slice();
         let mut kept = Vec::with_capacity(alloc, seats.len().saturating_add(more))?;
-        for seat in seats {
-            if !departed.has(&seat.1) {
-                kept.push(*seat)?;
-            }
+        let mut start = 0;
+        for place in 0..seats.len() {
+            let is_gone = departed.has(&seats[place].1);
+            start = keep_until(&mut kept, seats, start, place, is_gone)?;
         }
-        Ok(kept)
+        kept.extend_from_slice(&seats[start..])?;
+        Ok(Ring { seats: kept })
+    }
+
+    // Puts a seat in its place.
+    fn insert(&mut self, seat: Seat) -> Result<(), AllocError>
+        ensures { OnOk result ((q : ModelSeat) → set.contains self.new q ≡ (set.contains self.old q || same_seat q seat)) }
+    {
+        let seats = self.seats.as_slice();
+        let place = seats.partition_point(|other| is_below(other, &seat));
+        self.seats.insert(place, seat)?;
+        Ok(())
     }
 
     /// The process in the seat next before this one, going round.
@@ -217,4 +228,47 @@ impl Ring {
     {
         self.seats.as_slice().first().copied()
     }
+}
+
+// Where the seat at a place is gone, keeps those from start up to it. Answers where the next stretch starts.
+fn keep_until(
+    kept: &mut Vec<Seat>,
+    seats: &[Seat],
+    start: usize,
+    place: usize,
+    is_gone: bool,
+) -> Result<usize, AllocError>
+    requires { (start ≤ place) × (place < length seats.now) }
+    ensures kept { OnOk result (kept.new.items ≡ (if is_gone then kept.old.items ++ take (place - start) (drop start seats.now) else kept.old.items)) }
+    ensures next { IfOk result (λ next. next ≡ (if is_gone then place + 1 else start)) }
+{
+    if is_gone {
+        kept.extend_from_slice(&seats[start..place])?;
+        Ok(place + 1)
+    } else {
+        Ok(start)
+    }
+}
+
+// The ring with a few more seats: each is put in its place.
+fn with_few(kept: Ring, newcomers: &[Seat]) -> Result<Ring, AllocError>
+    ensures { IfOk result (λ ring. (q : ModelSeat) →
+        set.contains ring q ≡ (set.contains kept q || list_any (same_seat q) newcomers.now)) }
+{
+    let mut ring = kept;
+    for seat in newcomers {
+        ring.insert(*seat)?;
+    }
+    Ok(ring)
+}
+
+// The ring with many more seats: all are sorted.
+fn with_many(kept: Ring, newcomers: &[Seat]) -> Result<Ring, AllocError>
+    ensures { IfOk result (λ ring. (q : ModelSeat) →
+        set.contains ring q ≡ (set.contains kept q || list_any (same_seat q) newcomers.now)) }
+{
+    let mut seats = kept.seats;
+    seats.extend_from_slice(newcomers)?;
+    seats.sort()?;
+    Ok(Ring { seats })
 }

@@ -12,6 +12,7 @@ ghost use Rattle.rapid_model.specs.Ring.{observers_of, subject_on, subjects_of};
 
 use crate::ObserverTable;
 use crate::departed::Departed;
+use crate::places::{guess_after, place_near};
 use crate::ring::{Ring, Seat, ring_key};
 use crate::seating::Seating;
 use rapid_config::{ConfigId, Configuration, Params};
@@ -191,18 +192,21 @@ fn locate(
     ensures { IfOk result (λ located. located.items ≡ map (λ m. (m, option_and_then (λ rings. position_of rings.now m) before.entry)) members.now) }
 {
     let mut located = Vec::with_capacity(alloc, members.len())?;
+    let mut guess = 0;
     for member in members {
-        located.push((*member, place_before(before, member)))?;
+        let place = place_before(before, guess, member);
+        guess = guess_after(place, guess);
+        located.push((*member, place))?;
     }
     Ok(located)
 }
 
 // The place of a process in the configuration before.
-fn place_before(before: Option<&Rings>, process: &Process) -> Option<usize>
+fn place_before(before: Option<&Rings>, guess: usize, process: &Process) -> Option<usize>
     ensures { result ≡ option_and_then (λ rings. position_of rings.now process.now) before.entry }
 {
     match before {
-        Some(rings) => rings.configuration.position(process),
+        Some(rings) => place_near(&rings.configuration, guess, process),
         None => None,
     }
 }

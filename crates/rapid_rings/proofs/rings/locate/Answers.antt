@@ -11,7 +11,7 @@ loop-member-preserved c =
     let member = c.member-item.result in
     let below : c.loop-member.member-index < length c.args.members.now = omega (arith, c.loop-member-test.true) in
     c.in_ok-push.ensures.items
-    ∙ ap (λ place. c.loop-member.located.items ++ (member, place) ∷ []) c.place_before.ensures
+    ∙ ap (λ place. c.loop-member.located.items ++ (member, place) ∷ []) c.place_before-place.ensures
     ∙ ap (λ (ms : List (Process × Option ℕ)). ms ++ own member ∷ []) c.loop-member.invariant
     ∙ sym (map_push own c.args.members.now c.loop-member.member-index member below c.member-item.is)
 
