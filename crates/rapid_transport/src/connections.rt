@@ -4,6 +4,7 @@ ghost use Rattle.std.specs.Prelude.{◌≡◌, ◌≤◌, ◌<◌, vec_len, IfSo
 
 use crate::counted::Metered;
 use crate::engine::send;
+use crate::slow::SlowPeers;
 use crate::timed::Timed;
 use bytes::Bytes;
 use rapid_endpoint::Endpoint;
@@ -16,7 +17,21 @@ use std::time::{Clock, Duration};
 const MOST_CONNECTIONS: usize = 64;
 
 /// How long connecting takes at most, in milliseconds.
-const LONGEST_CONNECT: u64 = 1_000;
+const LONGEST_CONNECT: u64 = 100;
+
+/// How long a write waits at most where there is no room, in milliseconds.
+const LONGEST_WAIT: u64 = 50;
+
+/// What became of a frame.
+#[derive(Clone, Copy, Debug, PartialEq, Eq)]
+enum Outcome {
+    /// It was sent.
+    Sent,
+    /// There was no connection, or that has failed.
+    Broken,
+    /// The peer was too slow.
+    Late,
+}
 
 /// An open connection, and the endpoint that it leads to.
 #[derive(Drop)]
@@ -25,10 +40,12 @@ struct Connection {
     stream: TcpStream,
 }
 
-/// The open connections of a sender, at most 64, from the oldest on.
+/// The open connections of a sender, at most 64, from the oldest on, and the peers that it leaves
+/// alone.
 #[derive(Drop)]
 pub(crate) struct Connections {
     all: Vec<Connection>,
+    slow: SlowPeers,
     ghost few: { vec_len all ≤ 64 },
 }
 
@@ -38,7 +55,8 @@ pub(crate) fn address_of(endpoint: Endpoint) -> SocketAddr {
     SocketAddr::V4(SocketAddrV4::new(address, endpoint.port()))
 }
 
-/// Opens a connection. It fails after a second.
+/// Opens a connection. It fails after 0.1 seconds, and so do writes after half of that in which there
+/// is no room.
 fn connect<R>(rt: &R, to: Endpoint) -> io::Result<TcpStream>
 where
     R: Net<Listener = TcpListener, Stream = TcpStream>,
@@ -46,6 +64,7 @@ where
     let longest = Duration::from_millis(LONGEST_CONNECT);
     let stream = TcpStream::connect_timeout(rt, &address_of(to), longest)?;
     stream.set_nodelay(true)?;
+    stream.set_write_timeout(Some(Duration::from_millis(LONGEST_WAIT)))?;
     Ok(stream)
 }
 
@@ -66,6 +85,7 @@ impl Connections {
     pub(crate) fn new(alloc: Global) -> Connections {
         Connections {
             all: Vec::new(alloc),
+            slow: SlowPeers::new(alloc),
         }
     }
 
@@ -85,35 +105,60 @@ impl Connections {
         }
     }
 
-    /// Opens a connection to this endpoint, where none is open.
-    fn reach<R>(&mut self, rt: &R, to: Endpoint) -> Option<usize>
-    where
-        R: Net<Listener = TcpListener, Stream = TcpStream>,
-        ensures { IfSome result (λ place. place < vec_len self.new.all) }
-    {
-        if let Some(place) = self.place(to) {
-            return Some(place);
-        }
+    /// Keeps a connection open; not where there is no memory for that.
+    fn keep(&mut self, to: Endpoint, stream: TcpStream) {
         self.make_room();
-        let stream = connect(rt, to).ok()?;
-        self.all.push(Connection { to, stream }).ok()?;
-        Some(self.all.len() - 1)
+        let _ = self.all.push(Connection { to, stream });
     }
 
-    /// Sends a frame to this endpoint, by the connection that is open or by a new one. Where that
-    /// fails or takes more than a second, the connection is closed, and the answer is false.
+    /// Sends a frame by the connection to this endpoint that is open, which is closed where that fails.
+    fn send_by_open<R: Clock>(&mut self, rt: &R, to: Endpoint, frame: &Bytes) -> Outcome {
+        let Some(place) = self.place(to) else {
+            return Outcome::Broken;
+        };
+        let outcome = write(rt, &self.all[place].stream, frame);
+        if outcome != Outcome::Sent {
+            self.all.remove(place);
+        }
+        outcome
+    }
+
+    /// Sends a frame by a new connection to this endpoint, which stays open where that succeeds.
+    fn send_by_new<R>(&mut self, rt: &R, to: Endpoint, frame: &Bytes) -> Outcome
+    where
+        R: Net<Listener = TcpListener, Stream = TcpStream> + Clock,
+    {
+        let stream = match connect(rt, to) {
+            Ok(stream) => stream,
+            Err(error) if error.kind() == ErrorKind::TimedOut => return Outcome::Late,
+            Err(_) => return Outcome::Broken,
+        };
+        let outcome = write(rt, &stream, frame);
+        if outcome == Outcome::Sent {
+            self.keep(to, stream);
+        }
+        outcome
+    }
+
+    /// Sends a frame to this endpoint, by the connection that is open or else by a new one, and says
+    /// whether it was sent. Where the open one has failed, as it does when somebody cut it, all of the
+    /// frame goes by a new one. A peer that is too slow is left alone for a second: nothing is sent to
+    /// it then.
     pub(crate) fn deliver<R>(&mut self, rt: &R, to: Endpoint, frame: &Bytes) -> bool
     where
         R: Net<Listener = TcpListener, Stream = TcpStream> + Clock,
     {
-        let Some(place) = self.reach(rt, to) else {
+        if self.slow.has(rt, to) {
             return false;
-        };
-        if write(rt, &self.all[place].stream, frame) {
-            return true;
         }
-        self.all.remove(place);
-        false
+        let mut outcome = self.send_by_open(rt, to, frame);
+        if outcome == Outcome::Broken {
+            outcome = self.send_by_new(rt, to, frame);
+        }
+        if outcome == Outcome::Late {
+            self.slow.add(rt, to);
+        }
+        outcome == Outcome::Sent
     }
 
     /// Closes the connections that their peers have closed.
@@ -122,10 +167,18 @@ impl Connections {
     }
 }
 
-/// Writes a frame within a second.
-fn write<R: Clock>(rt: &R, stream: &TcpStream, frame: &Bytes) -> bool {
+/// Writes a frame, within 0.1 seconds.
+fn write<R: Clock>(rt: &R, stream: &TcpStream, frame: &Bytes) -> Outcome {
     let Ok(timed) = Timed::new(rt, stream) else {
-        return false;
+        return Outcome::Broken;
     };
-    send(&mut Metered::new(timed), frame).is_ok()
+    let mut writer = Metered::new(timed);
+    if send(&mut writer, frame).is_ok() {
+        return Outcome::Sent;
+    }
+    if writer.stream().is_late() {
+        Outcome::Late
+    } else {
+        Outcome::Broken
+    }
 }

@@ -11,6 +11,7 @@ mod peers;
 mod queue;
 mod readers;
 mod sender;
+mod slow;
 mod timed;
 
 pub use counted::{Counted, CountedRead, CountedWrite, Failed, Metered};

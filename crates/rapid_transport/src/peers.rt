@@ -200,8 +200,8 @@ impl Peers {
     }
 
     /// Ends `run`: the readers at once, the senders when what is queued is sent, or after 0.3 seconds
-    /// where that takes longer; a connection or a write that is under way takes up to a second. It
-    /// may be called by any thread, also before `run`, and calls after the first do nothing.
+    /// where that takes longer; a frame that is under way takes up to 0.3 seconds more. It may be
+    /// called by any thread, also before `run`, and calls after the first do nothing.
     pub fn stop<R>(&self, rt: &R)
     where
         R: Net<Listener = TcpListener, Stream = TcpStream> + Wait + Clock,

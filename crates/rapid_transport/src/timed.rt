@@ -1,4 +1,4 @@
-// A stream that is written to for a second.
+// A stream that is written to for a short time.
 
 ghost use Rattle.std.specs.Io.{WritesAtMost};
 
@@ -6,35 +6,49 @@ use std::io::{self, ErrorKind, Write};
 use std::net::TcpStream;
 use std::time::{Clock, Duration, Instant};
 
-/// How long writing a frame takes at most, in milliseconds.
-const LONGEST_WRITE: u64 = 1_000;
+/// How long writing a frame takes at most before the last of its writes, in milliseconds.
+const LONGEST_WRITE: u64 = 50;
 
-/// A stream whose writes fail once a second has gone by.
+/// A stream whose writes fail once 50 milliseconds have gone by. It knows whether one was too slow.
 #[derive(Drop)]
 pub(crate) struct Timed<'a, R: Clock> {
     rt: &'a R,
     stream: &'a TcpStream,
     begun: Instant,
+    late: bool,
 }
 
 impl<'a, R: Clock> Timed<'a, R> {
-    /// The stream, whose second begins now.
+    /// The stream, whose time begins now. A write of the stream itself waits for room for as long as
+    /// was set when it was opened.
     pub(crate) fn new(rt: &'a R, stream: &'a TcpStream) -> io::Result<Timed<'a, R>> {
         let begun = Instant::now(rt)?;
-        Ok(Timed { rt, stream, begun })
+        Ok(Timed {
+            rt,
+            stream,
+            begun,
+            late: false,
+        })
+    }
+
+    /// Whether a write found no room in time.
+    pub(crate) fn is_late(&self) -> bool {
+        self.late
     }
 }
 
 impl<R: Clock> Write for Timed<'_, R> {
     fn write(&mut self, buf: &[u8]) -> io::Result<usize> {
-        let longest = Duration::from_millis(LONGEST_WRITE);
-        let left = longest.saturating_sub(self.begun.elapsed(self.rt)?);
-        if left.is_zero() {
+        if self.begun.elapsed(self.rt)? >= Duration::from_millis(LONGEST_WRITE) {
+            self.late = true;
             return Err(io::Error::from(ErrorKind::TimedOut));
         }
-        self.stream.set_write_timeout(Some(left))?;
         let mut stream = self.stream;
-        stream.write(buf)
+        let written = stream.write(buf);
+        if let Err(error) = &written {
+            self.late = error.kind() == ErrorKind::WouldBlock;
+        }
+        written
     }
 
     fn flush(&mut self) -> io::Result<()> {

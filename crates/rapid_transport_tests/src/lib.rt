@@ -15,4 +15,6 @@ mod receiving;
 #[cfg(test)]
 mod sending;
 #[cfg(test)]
+mod slow;
+#[cfg(test)]
 mod worked;

@@ -18,7 +18,7 @@ use std::time::{Clock, Duration};
 
 /// Counts the messages in which the process with the number 2 asks to join.
 #[derive(Drop)]
-struct Tally {
+pub(crate) struct Tally {
     asked: AtomicU64,
 }
 
@@ -31,7 +31,7 @@ impl<R: Wait> Inbox<R> for Tally {
 }
 
 /// Waits until so many messages came, for some seconds at most.
-fn wait_for<R: Clock>(rt: &R, tally: &Tally, count: u64) -> bool {
+pub(crate) fn wait_for<R: Clock>(rt: &R, tally: &Tally, count: u64) -> bool {
     for _ in 0..1_000 {
         if tally.asked.load(Ordering::SeqCst) >= count {
             return true;
@@ -59,7 +59,7 @@ fn is_closed(stream: &mut TcpStream) -> bool {
 }
 
 /// Posts so many frames that go to this endpoint.
-fn post_all<R: Wait>(
+pub(crate) fn post_all<R: Wait>(
     rt: &R,
     alloc: Global,
     peers: &Peers,
@@ -74,7 +74,7 @@ fn post_all<R: Wait>(
 }
 
 /// Nobody has asked to join yet.
-fn none_asked() -> Tally {
+pub(crate) fn none_asked() -> Tally {
     Tally {
         asked: AtomicU64::new(0),
     }
