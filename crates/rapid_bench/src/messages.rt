@@ -11,7 +11,7 @@ use std::alloc::Global;
 /// The fast vote of a member for the cut of the processes up to a number, in a list of its own.
 pub fn vote(alloc: Global, sender: Process, id: ConfigId, last: u16) -> Result<Message> {
     let cut = cut(alloc, 1, last)?;
-    Ok(Message::new(sender, Body::FastVote(id, cut)))
+    Ok(Message::new(sender, Body::FastVote(id, cut))?)
 }
 
 /// Adds alerts of a batch that are to remove these members, each on its ring.

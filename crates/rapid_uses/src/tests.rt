@@ -27,8 +27,8 @@ fn frames_alone(rt: HostRuntime) -> Result<(), Fail> {
     let said = Vec::from_array(
         alloc,
         [
-            Message::new(process(1), Body::PreJoin),
-            Message::new(process(2), Body::PreJoin),
+            Message::new(process(1), Body::PreJoin)?,
+            Message::new(process(2), Body::PreJoin)?,
         ],
     )?;
     let come = over_a_stream(alloc, said.as_slice())?;
@@ -59,7 +59,7 @@ fn a_desk_and_a_subscriber(rt: HostRuntime) -> Result<(), Fail> {
     let id = seat.stamp().id();
     let desk = Mutex::new(desk);
     let cut = Cut::new(Vec::from_array(alloc, [process(2)])?)?;
-    let event = Event::Receive(Message::new(process(2), Body::Decision(id, cut)));
+    let event = Event::Receive(Message::new(process(2), Body::Decision(id, cut))?);
     assert_eq!(&rt; hand(&rt, &desk, event)?.len(), 0);
     let view = next_view(&rt, &mut subscription, &mut seat)?.expect(&rt, "a view");
     assert_eq!(&rt; view.configuration().members().len(), 2);
