@@ -1,7 +1,7 @@
 // A node, from its options to its end.
 
 use crate::posts::Posts;
-use crate::threads::run_threads;
+use crate::threads::{run_threads, tell};
 use rapid_endpoint::Process;
 use rapid_service::{NodeFault, NodeOptions, Post, Service, Shared, identify};
 use rapid_transport::{ListenError, Peers, SenderEnd};
@@ -10,6 +10,7 @@ use std::io::{Read, Write};
 use std::net::{Net, TcpListener, TcpStream};
 use std::random::RandomSource;
 use std::sync::Wait;
+use std::sync::atomic::{AtomicBool, Ordering};
 use std::thread::Threads;
 use std::time::{Clock, Duration};
 
@@ -53,7 +54,7 @@ fn print_first<O: Write>(lines: &[u8], writer: &mut O) -> Result<(), NodeFault> 
 }
 
 /// Runs the node of a service until it ends. The view with which it begins is printed first.
-fn serve<W, R, P, I, O>(
+fn serve<W, R, P, I, O, E>(
     rt: &W,
     alloc: Global,
     peers: &Peers,
@@ -62,6 +63,8 @@ fn serve<W, R, P, I, O>(
     period: Duration,
     reader: &mut I,
     writer: &mut O,
+    err: &mut E,
+    told: &AtomicBool,
 ) -> Result<(), NodeFault>
 where
     W: Net<Listener = TcpListener, Stream = TcpStream> + Threads + Wait + Clock + Sync,
@@ -69,6 +72,7 @@ where
     P: Post + Drop + Send + Sync,
     I: Read + Send,
     O: Write + Send,
+    E: Write + Send,
 {
     print_first(service.take_lines().as_slice(), writer)?;
     let shared = Shared::new(alloc, service);
@@ -81,7 +85,39 @@ where
         period,
         &mut *reader,
         &mut *writer,
+        &mut *err,
+        told,
     )
+}
+
+/// Runs a node until it ends. Where a fault was told meanwhile, `told` is true then.
+fn run<R, S, I, O, E>(
+    rt: &R,
+    alloc: Global,
+    options: NodeOptions,
+    source: &S,
+    reader: &mut I,
+    writer: &mut O,
+    err: &mut E,
+    told: &AtomicBool,
+) -> Result<(), NodeFault>
+where
+    R: Net<Listener = TcpListener, Stream = TcpStream> + Threads + Wait + Clock + Sync,
+    S: RandomSource,
+    I: Read + Send,
+    O: Write + Send,
+    E: Write + Send,
+{
+    let id = identify(options.id, source)?;
+    let me = Process::new(id, options.listen);
+    let (peers, ends) = listen(rt, alloc, &options)?;
+    let period = Duration::from_millis(u64::from(options.tick_ms));
+    match open(rt, alloc, &options, me, &peers) {
+        Ok(service) => serve(
+            rt, alloc, &peers, ends, service, period, reader, writer, err, told,
+        ),
+        Err(fault) => Err(fault),
+    }
 }
 
 /// Runs a node over loopback TCP until it ends: by the line `quit`, at the end of the input, or by a
@@ -92,33 +128,37 @@ where
 ///
 /// When it returns, all its threads have ended and its sockets are closed. What was queued for the
 /// peers was sent as far as 0.3 seconds sufficed. A read that waits for input cannot be interrupted,
-/// so after a fault it returns only once the input gives a line or ends; the node is silent till then.
+/// so after a fault it returns only once the input gives a line or ends.
 ///
 /// # Errors
 ///
 /// `NoPort` where the port was not to be had, `NoIdentifier` where the source failed, `Read` and
 /// `Write` where the input or the output failed, `JournalFull` and `Halted` by the node itself, and
-/// `OutOfMemory`, also where a thread was not to be had.
-pub fn run_node<R, S, I, O>(
+/// `OutOfMemory`, also where a thread was not to be had. Each is told by one line of the error output,
+/// `error: ` and the fault, as soon as it ends the node, whatever the input does; a fault of the error
+/// output is passed over.
+pub fn run_node<R, S, I, O, E>(
     rt: &R,
     alloc: Global,
     options: NodeOptions,
     source: &S,
     reader: &mut I,
     writer: &mut O,
+    err: &mut E,
 ) -> Result<(), NodeFault>
 where
     R: Net<Listener = TcpListener, Stream = TcpStream> + Threads + Wait + Clock + Sync,
     S: RandomSource,
     I: Read + Send,
     O: Write + Send,
+    E: Write + Send,
 {
-    let id = identify(options.id, source)?;
-    let me = Process::new(id, options.listen);
-    let (peers, ends) = listen(rt, alloc, &options)?;
-    let period = Duration::from_millis(u64::from(options.tick_ms));
-    match open(rt, alloc, &options, me, &peers) {
-        Ok(service) => serve(rt, alloc, &peers, ends, service, period, reader, writer),
-        Err(fault) => Err(fault),
+    let told = AtomicBool::new(false);
+    let ended = run(rt, alloc, options, source, reader, writer, err, &told);
+    if let Err(fault) = &ended
+        && !told.load(Ordering::SeqCst)
+    {
+        tell(*fault, err);
     }
+    ended
 }

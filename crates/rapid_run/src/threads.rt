@@ -13,6 +13,12 @@ use std::sync::atomic::{AtomicBool, Ordering};
 use std::thread::{self, Threads};
 use std::time::{Clock, Duration};
 
+/// Tells of a fault by one line.
+pub(crate) fn tell<E: Write>(fault: NodeFault, err: &mut E) {
+    let _ = writeln!(err, "error: {fault}");
+    let _ = err.flush();
+}
+
 /// Prints what is added to the console until that is closed. Where it cannot be written the node ends.
 fn print<W: Wait, R: Wait + Copy + Drop, P: Post + Drop, O: Write + Drop>(
     rt: &W,
@@ -36,16 +42,22 @@ fn answer<W: Wait, R: Wait + Copy + Drop, P: Post + Drop, I: Read + Drop>(
     run_lines(rt, alloc, shared, &mut reader);
 }
 
-/// Stops the peers once the node ends, whoever ends it.
-fn stop_at_the_end<W, R: Wait + Copy + Drop, P: Post + Drop>(
+/// Tells of the fault by which the node ends, once it ends, whoever ends it, and stops the peers.
+fn stop_at_the_end<W, R: Wait + Copy + Drop, P: Post + Drop, E: Write + Drop>(
     rt: &W,
     shared: &Shared<R, P>,
     peers: &Peers,
+    mut err: E,
+    told: &AtomicBool,
 )
 where
     W: Net<Listener = TcpListener, Stream = TcpStream> + Wait + Clock,
 {
     shared.ending().await_it(rt);
+    if let Err(fault) = shared.ending().outcome(rt) {
+        tell(fault, &mut err);
+        told.store(true, Ordering::SeqCst);
+    }
     peers.stop(rt);
 }
 
@@ -56,7 +68,7 @@ fn give_up<W: Wait, R: Wait + Copy + Drop, P: Post + Drop>(rt: &W, shared: &Shar
 
 /// Lets the node take lines, ticks and messages until it ends. It returns when the threads for that
 /// have ended; the caller's thread accepts connections.
-fn work<W, R, P, I>(
+fn work<W, R, P, I, E>(
     rt: &W,
     alloc: Global,
     peers: &Peers,
@@ -64,21 +76,24 @@ fn work<W, R, P, I>(
     shared: &Shared<R, P>,
     period: Duration,
     reader: I,
+    err: E,
+    told: &AtomicBool,
 )
 where
     W: Net<Listener = TcpListener, Stream = TcpStream> + Threads + Wait + Clock + Sync,
     R: Wait + Copy + Drop + Send + Sync,
     P: Post + Drop + Send + Sync,
     I: Read + Send + Drop,
+    E: Write + Send + Drop,
 {
     thread::scope(
         thread::scope_env(),
         rt,
         |scope|
-            requires { IsSync W.row × IsSend R.row × IsSync R.row × IsSend P.row × IsSync P.row × IsSend I.row }
+            requires { IsSync W.row × IsSend R.row × IsSync R.row × IsSend P.row × IsSync P.row × IsSend I.row × IsSend E.row }
         {
             if scope
-                .spawn(move || stop_at_the_end(rt, shared, peers))
+                .spawn(move || stop_at_the_end(rt, shared, peers, err, told))
                 .is_err()
             {
                 return give_up(rt, shared);
@@ -100,8 +115,9 @@ where
 }
 
 /// Runs the threads of a node until it ends, and says why it did. When it returns all have ended, and
-/// what was added to the console is printed.
-pub(crate) fn run_threads<W, R, P, I, O>(
+/// what was added to the console is printed. A fault that ends the node is told at once, and then
+/// `told` is true.
+pub(crate) fn run_threads<W, R, P, I, O, E>(
     rt: &W,
     alloc: Global,
     peers: &Peers,
@@ -110,6 +126,8 @@ pub(crate) fn run_threads<W, R, P, I, O>(
     period: Duration,
     reader: I,
     writer: O,
+    err: E,
+    told: &AtomicBool,
 ) -> Result<(), NodeFault>
 where
     W: Net<Listener = TcpListener, Stream = TcpStream> + Threads + Wait + Clock + Sync,
@@ -117,6 +135,7 @@ where
     P: Post + Drop + Send + Sync,
     I: Read + Send + Drop,
     O: Write + Send + Drop,
+    E: Write + Send + Drop,
 {
     let unwritten = AtomicBool::new(false);
     let failed = &unwritten;
@@ -124,7 +143,7 @@ where
         thread::scope_env(),
         rt,
         |scope|
-            requires { IsSync W.row × IsSend R.row × IsSync R.row × IsSend P.row × IsSync P.row × IsSend I.row × IsSend O.row }
+            requires { IsSync W.row × IsSend R.row × IsSync R.row × IsSend P.row × IsSync P.row × IsSend I.row × IsSend O.row × IsSend E.row }
         {
             if scope
                 .spawn(move || print(rt, shared, writer, failed))
@@ -132,7 +151,7 @@ where
             {
                 return give_up(rt, shared);
             }
-            work(rt, alloc, peers, ends, shared, period, reader);
+            work(rt, alloc, peers, ends, shared, period, reader, err, told);
             shared.console().close(rt);
         },
     );

@@ -113,7 +113,7 @@ pub(crate) fn node_words<'a>(matches: &ArgMatches<'a>) -> Option<NodeWords<'a>> 
     }
 }
 
-/// Runs a node as its words ask, tells of a fault, and answers the status. Where its words are
+/// Runs a node as its words ask, which tells of a fault, and answers the status. Where its words are
 /// refused nothing was written.
 pub(crate) fn run_as_node<T, R, O, E>(
     rt: &T,
@@ -132,7 +132,7 @@ where
         + Sync,
     R: Read + Send,
     O: Write + Send,
-    E: Write,
+    E: Write + Send,
     ensures refused { result ≡ 2 → out.new ≡ out.old }
     ensures status { result ≤ 3 }
 {
@@ -143,11 +143,8 @@ where
             return REFUSED;
         }
     };
-    match run_node(rt, alloc, options, rt, reader, out) {
+    match run_node(rt, alloc, options, rt, reader, out, err) {
         Ok(()) => DONE,
-        Err(fault) => {
-            let _ = writeln!(err, "error: {fault}");
-            fault.status()
-        }
+        Err(fault) => fault.status(),
     }
 }

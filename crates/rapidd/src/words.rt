@@ -330,7 +330,7 @@ where
     S: AsStr,
     R: Read + Send,
     O: Write + Send,
-    E: Write,
+    E: Write + Send,
     ensures refused { result ≡ 2 → out.new ≡ out.old }
     ensures status { result ≤ 3 }
 {
@@ -366,7 +366,7 @@ where
     S: AsStr,
     R: Read + Send,
     O: Write + Send,
-    E: Write,
+    E: Write + Send,
     ensures written { result ≡ 0 → NamesNode S.text words.now ⊎
         ((job : Job) × Wrote job (R.remaining reader.old) (O.contents out.old) (O.contents out.new)) ⊎ (reader.new ≡ reader.old) }
     ensures failed { result ≡ 1 → NamesNode S.text words.now ⊎
