@@ -40,7 +40,7 @@ pub(crate) fn after(
 /// decided.
 pub(crate) fn decision(alloc: Global, id: ConfigId, number: u16) -> Result<Event, Fail> {
     let cut = Cut::new(Vec::from_array(alloc, [process(number)])?)?;
-    let message = Message::new(process(2), Body::Decision(id, cut));
+    let message = Message::new(process(2), Body::Decision(id, cut))?;
     Ok(Event::Receive(message))
 }
 

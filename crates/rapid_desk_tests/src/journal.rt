@@ -39,7 +39,7 @@ fn successive_ticks_share_a_record(rt: HostRuntime) -> Result<(), Fail> {
 fn probes_are_not_kept(rt: HostRuntime) -> Result<(), Fail> {
     let mut desk = alone(&rt, rt.alloc(), 1)?;
     for _ in 0..65_600 {
-        let message = Message::new(process(2), Body::Probe(ConfigId::zero()));
+        let message = Message::new(process(2), Body::Probe(ConfigId::zero()))?;
         assert_eq!(rt; desk.step(Event::Receive(message))?.len(), 1);
     }
     Ok(())

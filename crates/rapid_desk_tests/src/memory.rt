@@ -5,7 +5,7 @@ use crate::founding::{after, alone, decision, founding, process};
 use rapid_config::Configuration;
 use rapid_desk::{Desk, DeskError, Subscription, Taken};
 use rapid_endpoint::Endpoint;
-use rapid_node::{Body, Event, Message, NodeFault};
+use rapid_node::{Body, Event, Message, MessageError, NodeFault};
 use rapid_view::ViewSeat;
 use std::alloc::{AllocError, Global};
 use std::process::Abort;
@@ -94,8 +94,9 @@ fn want_of_memory_at_decisions(rt: HostRuntime) -> Result<(), Fail> {
 }
 
 /// Process 1 confirms that the configuration was installed.
-fn confirm(configuration: Configuration) -> Event {
-    Event::Receive(Message::new(process(1), Body::Confirm(configuration)))
+fn confirm(configuration: Configuration) -> Result<Event, MessageError> {
+    let message = Message::new(process(1), Body::Confirm(configuration))?;
+    Ok(Event::Receive(message))
 }
 
 #[test]
@@ -106,7 +107,8 @@ fn want_of_memory_at_a_first_view(rt: HostRuntime) -> Result<(), Fail> {
     let mut desk = Box::new(alloc, desk)?;
     let configuration = after(alloc, &founding(alloc)?, 2)?;
     let copy = configuration.try_copy(alloc)?;
-    hand_over(&rt, &mut *desk, confirm(configuration), confirm(copy))?;
+    let (first, again) = (confirm(configuration)?, confirm(copy)?);
+    hand_over(&rt, &mut *desk, first, again)?;
     assert!(rt; desk.take_seats().is_some());
     Ok(())
 }

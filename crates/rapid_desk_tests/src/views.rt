@@ -45,7 +45,7 @@ fn a_joiner_publishes_what_it_is_let_into(rt: HostRuntime) -> Result<(), Fail> {
     assert_eq!(rt; desk.step(Event::Tick)?.len(), 1);
     assert!(rt; desk.take_seats().is_none());
     let configuration = after(alloc, &founding(alloc)?, 2)?;
-    let message = Message::new(process(1), Body::Confirm(configuration));
+    let message = Message::new(process(1), Body::Confirm(configuration))?;
     desk.step(Event::Receive(message))?;
     let mut seats = desk.take_seats().expect(&rt, "the seats");
     let mut seat = seats.pop().expect(&rt, "one seat");

@@ -75,7 +75,7 @@ fn a_node_is_made_to_halt(rt: HostRuntime) -> Result<(), Fail> {
 /// A fast vote of the first process for the second.
 fn vote(alloc: Global) -> Result<Message, Fail> {
     let body = Body::FastVote(ConfigId::zero(), cut(alloc, 2)?);
-    Ok(Message::new(process(1), body))
+    Ok(Message::new(process(1), body)?)
 }
 
 /// Checks that a message is that vote.
@@ -90,7 +90,7 @@ fn messages_are_copied(rt: HostRuntime) -> Result<(), Fail> {
     let message = vote(rt.alloc())?;
     assert_vote(&rt, &message.try_copy(rt.alloc())?);
     let body = message.body().try_copy(rt.alloc())?;
-    assert_vote(&rt, &Message::new(message.sender(), body));
+    assert_vote(&rt, &Message::new(message.sender(), body)?);
     Ok(())
 }
 

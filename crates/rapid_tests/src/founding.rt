@@ -75,7 +75,7 @@ pub fn shown(rt: &impl Abort, node: &Node) -> ConfigId {
 /// The message to a node, from the process with this number, that the cut of that process is decided in its configuration.
 pub fn decision(rt: &impl Abort, alloc: Global, node: &Node, number: u16) -> Result<Event, Fail> {
     let body = Body::Decision(shown(rt, node), cut(alloc, number)?);
-    Ok(Event::Receive(Message::new(process(number), body)))
+    Ok(Event::Receive(Message::new(process(number), body)?))
 }
 
 /// That the edge of a node to the process with this number went down on a ring.

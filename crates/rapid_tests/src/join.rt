@@ -91,7 +91,7 @@ fn is_in_use(outputs: &Outputs, joiner: &Process) -> bool {
 
 /// Asks a node to let a process in.
 fn asked(node: &mut Node, joiner: Process) -> Result<Outputs, Fail> {
-    let question = Event::Receive(Message::new(joiner, Body::PreJoin));
+    let question = Event::Receive(Message::new(joiner, Body::PreJoin)?);
     Ok(told(node, &question)?)
 }
 
@@ -143,7 +143,7 @@ fn a_joiner_that_is_late_begins_anew(rt: HostRuntime) -> Result<(), Fail> {
 fn confirmed(rt: &impl Abort, alloc: Global, founders: &[u16]) -> Result<Box<Node>, Fail> {
     let configuration = founding(rt, alloc, (3, 3, 1), founders)?;
     let mut node = Box::new(alloc, joiner(alloc, 2, 1)?)?;
-    let confirmation = Event::Receive(Message::new(process(1), Body::Confirm(configuration)));
+    let confirmation = Event::Receive(Message::new(process(1), Body::Confirm(configuration))?);
     assert_answers(rt, &mut *node, &confirmation, &[])?;
     Ok(node)
 }

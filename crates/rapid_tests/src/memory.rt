@@ -82,7 +82,7 @@ fn batch(rt: &impl Abort, alloc: Global, node: &Node) -> Result<Event, Fail> {
 fn host(rt: &impl Abort, alloc: Global) -> Result<Box<Node>, Fail> {
     let mut node = member(rt, alloc, (1, 1, 1), &[1], 1)?;
     let body = Body::JoinRequest(shown(rt, &*node), 0);
-    let request = Event::Receive(Message::new(process(3), body));
+    let request = Event::Receive(Message::new(process(3), body)?);
     assert_answers(rt, &mut *node, &request, &[])?;
     Ok(node)
 }

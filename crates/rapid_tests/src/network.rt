@@ -118,7 +118,8 @@ pub fn joining(
         config: configuration.id(),
     };
     let batch = Batch::new(Vec::from_array(alloc, [alert])?)?;
-    Ok(Message::new(observer, Body::Batch(configuration.id(), batch)))
+    let body = Body::Batch(configuration.id(), batch);
+    Ok(Message::new(observer, body)?)
 }
 
 impl Network {

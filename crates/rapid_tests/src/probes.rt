@@ -4,19 +4,19 @@ use crate::assertions::{assert_answers, assert_outputs, assert_phase, told};
 use crate::founding::{decision, member, process, shown};
 use crate::said::{Said, To};
 use rapid_config::ConfigId;
-use rapid_node::{Body, Event, Message, Node, Outputs, Phase};
+use rapid_node::{Body, Event, Message, MessageError, Node, Outputs, Phase};
 use std::alloc::Global;
 use std::process::Abort;
 use std::test::Fail;
 
 /// A probe of the third process about a configuration.
-fn probe(id: ConfigId) -> Event {
-    Event::Receive(Message::new(process(3), Body::Probe(id)))
+fn probe(id: ConfigId) -> Result<Event, MessageError> {
+    Ok(Event::Receive(Message::new(process(3), Body::Probe(id))?))
 }
 
 /// The third process says that it got a probe about a configuration.
-fn acknowledgement(id: ConfigId) -> Event {
-    Event::Receive(Message::new(process(3), Body::ProbeAck(id)))
+fn acknowledgement(id: ConfigId) -> Result<Event, MessageError> {
+    Ok(Event::Receive(Message::new(process(3), Body::ProbeAck(id))?))
 }
 
 /// The node of the first of two founders, to whom it was told that the cut of a process is decided, and the configuration
@@ -52,7 +52,7 @@ fn assert_acknowledges(
     about: ConfigId,
     own: ConfigId,
 ) -> Result<(), Fail> {
-    let outputs = told(node, &probe(about))?;
+    let outputs = told(node, &probe(about)?)?;
     assert_outputs(rt, &outputs, &[(To::Node(3), Said::ProbeAck)]);
     assert!(rt; acknowledged(&outputs) == Some(own));
     Ok(())
@@ -72,7 +72,7 @@ fn a_probe_is_acknowledged(rt: HostRuntime) -> Result<(), Fail> {
 fn a_late_probe_at_a_member(rt: HostRuntime) -> Result<(), Fail> {
     let (mut node, left) = after_cut(&rt, rt.alloc(), 2)?;
     assert_phase(&rt, &*node, Phase::Member);
-    let outputs = told(&mut *node, &probe(left))?;
+    let outputs = told(&mut *node, &probe(left)?)?;
     let answers = [
         (To::Node(3), Said::ProbeAck),
         (To::Node(3), Said::Decision(2)),
@@ -89,7 +89,7 @@ fn a_late_probe_at_a_removed_node(rt: HostRuntime) -> Result<(), Fail> {
     let (mut node, left) = after_cut(&rt, rt.alloc(), 1)?;
     assert_phase(&rt, &*node, Phase::Removed);
     let answers = [(To::Node(3), Said::Decision(1))];
-    assert_answers(&rt, &mut *node, &probe(left), &answers)?;
+    assert_answers(&rt, &mut *node, &probe(left)?, &answers)?;
     assert_answers(&rt, &mut *node, &Event::Tick, &[])
 }
 
@@ -98,7 +98,7 @@ fn a_late_probe_at_a_removed_node(rt: HostRuntime) -> Result<(), Fail> {
 fn a_late_acknowledgement(rt: HostRuntime) -> Result<(), Fail> {
     let (mut node, left) = after_cut(&rt, rt.alloc(), 2)?;
     let answers = [(To::Node(3), Said::Decision(2))];
-    assert_answers(&rt, &mut *node, &acknowledgement(left), &answers)?;
+    assert_answers(&rt, &mut *node, &acknowledgement(left)?, &answers)?;
     let own = shown(&rt, &*node);
-    assert_answers(&rt, &mut *node, &acknowledgement(own), &[])
+    assert_answers(&rt, &mut *node, &acknowledgement(own)?, &[])
 }
