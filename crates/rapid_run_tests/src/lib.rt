@@ -7,4 +7,6 @@ mod clusters;
 #[cfg(test)]
 mod devices;
 #[cfg(test)]
+mod memory;
+#[cfg(test)]
 mod rows;

@@ -18,7 +18,7 @@ use std::time::{Clock, Duration};
 
 /// Runs a node at this port: it founds a cluster, or joins one by the seed at
 /// that port.
-fn ran<R, I, O, E>(
+pub(crate) fn ran<R, I, O, E>(
     rt: &R,
     alloc: Global,
     port: u16,

@@ -141,7 +141,10 @@ impl<R: Wait + Copy + Drop, P: Post + Drop> Service<R, P> {
         if !configuration.is_member(&me) {
             return Err(NodeFault::Halted);
         }
-        let desk = Desk::seed(rt, alloc, &configuration, me, 1)?;
+        // A first view is not published only where there is no memory for that.
+        let Ok(desk) = Desk::seed(rt, alloc, &configuration, me, 1) else {
+            return Err(NodeFault::OutOfMemory);
+        };
         let mut service = Service::at(rt, alloc, me, desk, post)?;
         service.enter(View::new(configuration))?;
         Ok(service)
