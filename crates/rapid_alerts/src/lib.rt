@@ -1,5 +1,6 @@
-//! Alerts of cut detection (Rapid, USENIX ATC 2018): an observer asks to remove a member or to let a joiner in.
-//! What it asks it raises once in an [`Outbox`], from which it goes out in [`Batch`]es.
+//! Alerts of cut detection (Rapid, USENIX ATC 2018): an observer asks to remove a member or to let
+//! a joiner in. What it asks it raises once in an [`Outbox`], from which it goes out in
+//! [`Batch`]es.
 #![tactic(auto)]
 
 mod alert;

@@ -100,9 +100,11 @@ fn oldest(alloc: Global, raised: &[Alert], flushed: usize) -> Result<Vec<Alert>,
     Ok(alerts)
 }
 
-/// The outbox of one observer in one configuration: the alerts that it raised, in order, and how many of them went out.
+/// The outbox of one observer in one configuration: the alerts that it raised, in order, and how
+/// many of them went out.
 ///
-/// An alert is raised once and never withdrawn. It goes out in a batch, and again after each [`Outbox::resend`].
+/// An alert is raised once and never withdrawn. It goes out in a batch, and again after each
+/// [`Outbox::resend`].
 #[derive(Debug, Drop)]
 pub struct Outbox<T: ObserverTable> {
     table: T,
@@ -148,11 +150,12 @@ impl<T: ObserverTable> Outbox<T> {
     ///
     /// # Errors
     ///
-    /// The first that holds: `OldConfiguration` where the alert is of another configuration than the table's;
-    /// `WrongObserver` where the owner is not the alert's observer or not the table's observer of this subject on this
-    /// ring; `WrongKind` unless the kind is Remove exactly where the subject is a member; `TooManyJoiners` where the
-    /// alert is on a 513th joiner. `OutOfMemory` comes only for an alert that would be raised. Each leaves the outbox as
-    /// it was.
+    /// The first that holds: `OldConfiguration` where the alert is of another configuration than
+    /// the table's; `WrongObserver` where the owner is not the alert's observer or not the table's
+    /// observer of this subject on this ring; `WrongKind` unless the kind is Remove exactly where
+    /// the subject is a member; `TooManyJoiners` where the alert is on a 513th joiner.
+    /// `OutOfMemory` comes only for an alert that would be raised. Each leaves the outbox as it
+    /// was.
     pub fn raise(&mut self, alert: Alert) -> Result<Raising, RaiseError>
         ensures raised { OnOk result (self.new.outbox ≡ model.raise (T.observers self.old.table) self.old.owner self.old.outbox (alert_of alert)) }
         ensures answer { IfOk result (λ raising. model.raising (T.observers self.old.table) self.old.owner self.old.outbox (alert_of alert) ≡ answer_of raising) }
@@ -194,8 +197,8 @@ impl<T: ObserverTable> Outbox<T> {
         }
     }
 
-    /// The batch of the oldest alerts that are not flushed, at most 2,048, which count as flushed from now on; none
-    /// where there is none. Want of memory leaves the outbox as it was.
+    /// The batch of the oldest alerts that are not flushed, at most 2,048, which count as flushed
+    /// from now on; none where there is none. Want of memory leaves the outbox as it was.
     pub fn flush(&mut self) -> Result<Option<Batch>, AllocError>
         ensures flushed { OnOk result (self.new.outbox ≡ model.flush self.old.outbox) }
         ensures batch { IfOk result (λ batch. batch ≡ batch_of (model.unflushed self.old.outbox)) }
@@ -222,7 +225,8 @@ impl<T: ObserverTable> Outbox<T> {
         self.flushed = 0;
     }
 
-    /// The alerts that were raised, in order: each is the owner's and well-formed, and none stands there twice.
+    /// The alerts that were raised, in order: each is the owner's and well-formed, and none stands
+    /// there twice.
     pub fn raised(&self) -> &[Alert]
         ensures value { map alert_of result.now ≡ self.now.outbox.raised }
         ensures sound { AreRaised (T.observers self.now.table) self.now.owner self.now.outbox.raised }

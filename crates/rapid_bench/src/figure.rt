@@ -10,7 +10,8 @@ pub trait Work {
     fn once(&self, alloc: Global) -> Result<u64>;
 }
 
-/// Prints a figure's name and how many nanoseconds one unit of its work takes, in the fastest of so many runs.
+/// Prints a figure's name and how many nanoseconds one unit of its work takes, in the fastest of so
+/// many runs.
 pub fn measure<R: Print + Clock, W: Work>(
     rt: &R,
     alloc: Global,

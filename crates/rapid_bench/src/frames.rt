@@ -47,7 +47,8 @@ struct Feeding {
     piece: usize,
 }
 
-/// Feeds a frame in pieces of so many bytes, asks for a message after each, and answers how many came.
+/// Feeds a frame in pieces of so many bytes, asks for a message after each, and answers how many
+/// came.
 fn feed_frame(feed: &mut Feed, frame: &[u8], piece: usize) -> Result<usize> {
     let mut messages = 0usize;
     for bytes in frame.chunks(piece.max(1)) {
@@ -84,7 +85,8 @@ fn print_encoding<R: Print + Clock>(
     measure(rt, alloc, name, 50, &Encoding { message, length })
 }
 
-/// Prints the figures of a frame that is fed whole and in pieces of 1,500, 7 and 1 bytes, under these names.
+/// Prints the figures of a frame that is fed whole and in pieces of 1,500, 7 and 1 bytes, under
+/// these names.
 fn print_feeding<R: Print + Clock>(
     rt: &R,
     alloc: Global,
@@ -100,8 +102,8 @@ fn print_feeding<R: Print + Clock>(
     Ok(())
 }
 
-/// Prints the figures `encode_vote`, `encode_batch`, `feed_vote_whole` and so on: a vote for a cut of 100 processes and a
-/// batch of 2,048 alerts.
+/// Prints the figures `encode_vote`, `encode_batch`, `feed_vote_whole` and so on: a vote for a cut
+/// of 100 processes and a batch of 2,048 alerts.
 pub fn print<R: Print + Clock>(rt: &R, alloc: Global) -> Result<()> {
     let id = ConfigId::new([7; 32]);
     let vote = vote(alloc, process(1), id, 100)?;

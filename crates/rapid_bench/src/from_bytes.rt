@@ -21,7 +21,8 @@ impl Work for FromBytes {
     }
 }
 
-/// Prints the figure `from_bytes`: a configuration of 1,024 members, read and checked, with its identifier.
+/// Prints the figure `from_bytes`: a configuration of 1,024 members, read and checked, with its
+/// identifier.
 pub fn print<R: Print + Clock>(rt: &R, alloc: Global) -> Result<()> {
     let work = FromBytes {
         bytes: configuration(alloc, MEMBERS)?.to_bytes(alloc)?,

@@ -1,5 +1,5 @@
-//! Measures the calls that a member makes most. `bench/plain.rs` does the same work in plain Rust, and `bench/README.md`
-//! has the figures of both.
+//! Measures the calls that a member makes most. `bench/plain.rs` does the same work in plain Rust,
+//! and `bench/README.md` has the figures of both.
 #![tactic(auto)]
 
 mod cluster;

@@ -23,7 +23,8 @@ fn put_removals(frame: &mut Vec<u8>, subjects: &[(u8, Process)]) -> Result<()> {
     Ok(())
 }
 
-/// The frame of a batch of an observer that is to remove these members, at most 2,048, each on its ring.
+/// The frame of a batch of an observer that is to remove these members, at most 2,048, each on its
+/// ring.
 fn batch_frame(
     alloc: Global,
     observer: Process,
@@ -45,7 +46,8 @@ fn batch_frame(
     Ok(frame)
 }
 
-/// The batch of an observer that is to remove these members, each on its ring, as it is read from its frame.
+/// The batch of an observer that is to remove these members, each on its ring, as it is read from
+/// its frame.
 pub fn batch(
     alloc: Global,
     observer: Process,

@@ -23,7 +23,8 @@ impl Work for RingsNext {
     }
 }
 
-/// Prints the figure `rings_next`: the sixteen rings of 1,024 members after one left and one joined.
+/// Prints the figure `rings_next`: the sixteen rings of 1,024 members after one left and one
+/// joined.
 pub fn print<R: Print + Clock>(rt: &R, alloc: Global) -> Result<()> {
     let founding = configuration(alloc, MEMBERS)?;
     let mut change = Vec::new(alloc);

@@ -187,8 +187,8 @@ fn print_long_times<R: Print + Clock>(rt: &R, alloc: Global) -> Result<()> {
     print_time(rt, alloc, &*node, &late_batch_steps(alloc, &configuration)?)
 }
 
-/// Prints the figures of time: `vote_step_5`, `batch_step_5`, `tick_step_5`, `copy_5` and so on, `great_batch_step_1024` and
-/// `late_batch_step_1024`.
+/// Prints the figures of time: `vote_step_5`, `batch_step_5`, `tick_step_5`, `copy_5` and so on,
+/// `great_batch_step_1024` and `late_batch_step_1024`.
 pub fn print<R: Print + Clock>(rt: &R, alloc: Global) -> Result<()> {
     for members in SIZES {
         print_times_among(rt, alloc, members)?;
@@ -275,8 +275,8 @@ fn print_long_bytes<R: Print + Files + Alloc>(rt: &R, alloc: Global) -> Result<(
     print_held(rt, alloc, &*node, &late_batch_steps(alloc, &configuration)?)
 }
 
-/// Prints the figures of memory: `vote_step_5_bytes`, `copy_5_bytes` and so on. They are all that a step allocates where
-/// the allocator gives nothing back.
+/// Prints the figures of memory: `vote_step_5_bytes`, `copy_5_bytes` and so on. They are all that a
+/// step allocates where the allocator gives nothing back.
 pub fn print_bytes<R: Print + Files + Alloc>(rt: &R, alloc: Global) -> Result<()> {
     for members in SIZES {
         print_bytes_among(rt, alloc, members)?;

@@ -1,5 +1,6 @@
-//! Measures reads of the published view by one and by four threads, beside reads under a lock, and steps of a desk beside
-//! those of its node. `bench/plain.rs` does the same work in plain Rust, and `bench/README.md` has the figures of both.
+//! Measures reads of the published view by one and by four threads, beside reads under a lock, and
+//! steps of a desk beside those of its node. `bench/plain.rs` does the same work in plain Rust, and
+//! `bench/README.md` has the figures of both.
 #![tactic(auto)]
 
 mod desks;

@@ -145,8 +145,8 @@ fn print_locked_views<R: Print + Clock + Threads + Wait + Sync>(
     measure(rt, "locked_members", readers.as_slice(), VIEWS)
 }
 
-/// Prints the figures `stamp_1`, `stamp_4`, `locked_stamp_1` and so on, of `stamp`, `locked_stamp`, `members` and
-/// `locked_members`.
+/// Prints the figures `stamp_1`, `stamp_4`, `locked_stamp_1` and so on, of `stamp`, `locked_stamp`,
+/// `members` and `locked_members`.
 pub fn print<R: Print + Clock + Threads + Wait + Sync>(rt: &R, alloc: Global) -> Result<()> {
     let configuration = configuration(alloc)?;
     print_stamps(rt, alloc, &configuration)?;

@@ -1,5 +1,6 @@
-//! Measures worlds of founders of which some crash, until all others have installed the next view. `bench/plain.rs`
-//! does the same work in plain Rust, and `bench/README.md` has the figures of both.
+//! Measures worlds of founders of which some crash, until all others have installed the next view.
+//! `bench/plain.rs` does the same work in plain Rust, and `bench/README.md` has the figures of
+//! both.
 #![tactic(auto)]
 
 mod crashes;

@@ -17,8 +17,9 @@ use std::alloc::{AllocError, Global};
 use std::marker::Model;
 use std::sync::ledger::{Blank, Book, Ledger, Share};
 
-/// A world that many threads drive, with what turns remember and the book of a ledger that counts the stored events. It is kept
-/// in a Mutex: whenever that is free the world is the run of its stored events, and the book's total is their number.
+/// A world that many threads drive, with what turns remember and the book of a ledger that counts
+/// the stored events. It is kept in a Mutex: whenever that is free the world is the run of its
+/// stored events, and the book's total is their number.
 #[derive(Drop)]
 pub struct ClusterBook<L: Ledger> {
     cluster: Cluster,
@@ -40,9 +41,10 @@ impl<L: Ledger> Model for ClusterBook<L> {
 }
 
 impl<L: Ledger> ClusterBook<L> {
-    /// A world of these founders in the configuration of height 0 with these parameters, and a share of its ledger that has every
-    /// part. The caller sees that they can be founders: at least one, at most 1,024, with ascending identifiers and no endpoint
-    /// twice; and that the ledger has at least 33 parts.
+    /// A world of these founders in the configuration of height 0 with these parameters, and a
+    /// share of its ledger that has every part. The caller sees that they can be founders: at least
+    /// one, at most 1,024, with ascending identifiers and no endpoint twice; and that the ledger
+    /// has at least 33 parts.
     pub fn new(
         alloc: Global,
         params: Params,
@@ -66,12 +68,14 @@ impl<L: Ledger> ClusterBook<L> {
         Ok((book, share))
     }
 
-    /// Does a job: its event is stored, and the share, which is one of this book's ledger, is raised by one.
+    /// Does a job: its event is stored, and the share, which is one of this book's ledger, is
+    /// raised by one.
     ///
     /// # Errors
     ///
-    /// Those of [`World::step`] for the job's event. Of a turn `EventsFull` where 1,000,000 events were accepted, which is
-    /// tested first, and `NoSuchNode` where no node runs. Each leaves the book and the share as they were.
+    /// Those of [`World::step`] for the job's event. Of a turn `EventsFull` where 1,000,000 events
+    /// were accepted, which is tested first, and `NoSuchNode` where no node runs. Each leaves the
+    /// book and the share as they were.
     pub fn step(&mut self, share: &mut Share<L>, job: &Job) -> Result<Vec<Report>, WorldError>
         requires { 0 < share.old.parts }
         ensures done { IfOk result (λ reports. DoesJob job.now self.old self.new (map report_of reports.items)) }

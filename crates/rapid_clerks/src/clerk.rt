@@ -24,9 +24,10 @@ impl<L: Ledger> Clerk<L> {
         Clerk { worker, share }
     }
 
-    /// Does these jobs in order, each under the lock, and says how many were done. A job that is refused counts as none; where no
-    /// further event is accepted, or there is no memory, the clerk stops. Before each job and after it the clerk calls the gate,
-    /// while it holds no lock, and where that does not let it in it stops.
+    /// Does these jobs in order, each under the lock, and says how many were done. A job that is
+    /// refused counts as none; where no further event is accepted, or there is no memory, the clerk
+    /// stops. Before each job and after it the clerk calls the gate, while it holds no lock, and
+    /// where that does not let it in it stops.
     pub fn run<G: Gate, R: Wait>(
         &mut self,
         rt: &R,

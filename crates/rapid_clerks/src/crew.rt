@@ -9,7 +9,8 @@ use std::sync::{Mutex, Wait};
 use std::thread;
 use std::thread::Threads;
 
-/// A clerk's place while the threads run: the clerk, with one part of the ledger, and how many jobs it did.
+/// A clerk's place while the threads run: the clerk, with one part of the ledger, and how many jobs
+/// it did.
 #[derive(Drop)]
 struct Place<L: Ledger> {
     clerk: Clerk<L>,
@@ -55,7 +56,8 @@ fn work<L: Ledger, G: Gate, R: Wait>(
     place.lock(rt).work(rt, book, gate, jobs);
 }
 
-/// Starts a thread for each place, and returns once all have ended. Where a thread is not to be had nothing is done at its place.
+/// Starts a thread for each place, and returns once all have ended. Where a thread is not to be had
+/// nothing is done at its place.
 fn start_all<L: Ledger + Send + Sync, G: Gate + Sync, R: Threads + Wait + Sync>(
     rt: &R,
     book: &Mutex<ClusterBook<L>>,
@@ -70,9 +72,10 @@ fn start_all<L: Ledger + Send + Sync, G: Gate + Sync, R: Threads + Wait + Sync>(
     });
 }
 
-/// Starts so many clerks, numbered from 0, each in a thread of its own with so many turns to take, and says how many each took: 0
-/// where its thread was not to be had. All that it needs memory for is made before the first one starts. The caller sees that the
-/// share is one of the book's ledger, and has every part of it and more parts than there are workers. It has every part again
+/// Starts so many clerks, numbered from 0, each in a thread of its own with so many turns to take,
+/// and says how many each took: 0 where its thread was not to be had. All that it needs memory for
+/// is made before the first one starts. The caller sees that the share is one of the book's ledger,
+/// and has every part of it and more parts than there are workers. It has every part again
 /// afterwards, and its amount is raised by the turns that were taken: so many events were stored.
 ///
 /// # Errors

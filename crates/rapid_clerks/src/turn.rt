@@ -47,7 +47,8 @@ fn first_above<'a>(running: &'a [ProcessId], last: &ProcessId) -> Option<&'a Pro
     running.iter().find(|id| is_above(id, last))
 }
 
-/// The next of these identifiers, which ascend, above the one ticked last, going round from the least.
+/// The next of these identifiers, which ascend, above the one ticked last, going round from the
+/// least.
 pub(crate) fn next_node(running: &[ProcessId], ticked: Option<ProcessId>) -> Option<ProcessId>
     ensures { result ≡ model.next_node running.now ticked }
 {

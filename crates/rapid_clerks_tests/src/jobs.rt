@@ -62,7 +62,8 @@ fn refused_jobs_are_not_counted(rt: HostRuntime) -> Result<(), Fail> {
 }
 
 /// A clerk that was refused a job for want of memory comes to no further one. The last job is
-/// refused for another reason, so that a clerk which went on would have come to more jobs than that.
+/// refused for another reason, so that a clerk which went on would have come to more jobs than
+/// that.
 #[test]
 fn a_clerk_stops_at_want_of_memory(rt: HostRuntime) -> Result<(), Fail> {
     let door = Door::until(6);

@@ -10,8 +10,8 @@ ghost use Rattle.rapid_cluster.specs.Noting.{Notes};
 use rapid_config::Stamp;
 use std::alloc::{AllocError, Global};
 
-/// What is kept of stamps that were seen: one for each height and identifier, and whether two of one height had different
-/// identifiers.
+/// What is kept of stamps that were seen: one for each height and identifier, and whether two of
+/// one height had different identifiers.
 #[derive(Drop)]
 pub(crate) struct Agreement {
     kept: Vec<Stamp>,

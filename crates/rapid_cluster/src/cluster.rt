@@ -18,7 +18,8 @@ use std::sync::ledger::{Blank, Ledger, Share};
 use std::sync::{Mutex, Wait};
 use std::thread::Threads;
 
-/// Into how many parts the ledger is cut: one for each of 32 clerks, and one for the thread that starts them.
+/// Into how many parts the ledger is cut: one for each of 32 clerks, and one for the thread that
+/// starts them.
 const PARTS: u64 = 33;
 
 /// A gate that lets all in.
@@ -52,7 +53,8 @@ fn start_others<L: Ledger>(
     Ok(())
 }
 
-/// Lets so many clerks take so many turns each in a cluster of so many nodes, and says what is printed of it.
+/// Lets so many clerks take so many turns each in a cluster of so many nodes, and says what is
+/// printed of it.
 #[tactic(auto, using(crate::proofs::Founding::one_founder))]
 fn drive<L: Ledger + Send + Sync, R: Threads + Wait + Sync>(
     rt: &R,
@@ -78,16 +80,17 @@ fn drive<L: Ledger + Send + Sync, R: Threads + Wait + Sync>(
     report(alloc, book.world(), nodes)
 }
 
-/// Starts a cluster of so many nodes, of which process 1 is the founder and the others ask it to let them in, lets so many
-/// clerks in threads of their own take so many turns each in it, and writes what it is then: how many events are stored, the
-/// view of each member, and whether two nodes hold different identifiers at one height. The world is the run of the stored
-/// events, so where no two different configurations share an identifier all that holds of runs holds of it. The caller sees
-/// that there are at most 32 clerks.
+/// Starts a cluster of so many nodes, of which process 1 is the founder and the others ask it to
+/// let them in, lets so many clerks in threads of their own take so many turns each in it, and
+/// writes what it is then: how many events are stored, the view of each member, and whether two
+/// nodes hold different identifiers at one height. The world is the run of the stored events, so
+/// where no two different configurations share an identifier all that holds of runs holds of it.
+/// The caller sees that there are at most 32 clerks.
 ///
 /// # Errors
 ///
-/// `Write` where the output could not be written; a beginning of the report was. `OutOfMemory` where there was no memory to
-/// begin with, or for the report; nothing was written.
+/// `Write` where the output could not be written; a beginning of the report was. `OutOfMemory`
+/// where there was no memory to begin with, or for the report; nothing was written.
 pub fn run_cluster<R: Threads + Wait + Sync, W: Write>(
     rt: &R,
     alloc: Global,

@@ -1,4 +1,5 @@
-//! `cluster`: many threads drive one simulated cluster, and what its nodes hold at the end is written.
+//! `cluster`: many threads drive one simulated cluster, and what its nodes hold at the end is
+//! written.
 #![tactic(auto)]
 
 mod agreement;

@@ -21,8 +21,8 @@ use std::marker::Model;
 use std::sync::ArcSlice;
 
 /// A cut: the processes that a view change removes or adds, strictly ascending, from 1 to 1,536 of
-/// them. Copies share one list. Cuts are ordered by the number of processes and then as lists, which
-/// is the order of their bytes.
+/// them. Copies share one list. Cuts are ordered by the number of processes and then as lists,
+/// which is the order of their bytes.
 #[derive(Debug, Drop)]
 pub struct Cut {
     processes: ArcSlice<Process>,
@@ -64,8 +64,8 @@ impl Cut {
     pub const MOST: usize = 1536;
 
     /// The cut of these processes. The first that holds: `EmptyCut` where there is none, `TooMany`
-    /// where there are more than 1,536, `NotSorted` where they do not strictly ascend. `OutOfMemory`
-    /// comes only where none of them holds.
+    /// where there are more than 1,536, `NotSorted` where they do not strictly ascend.
+    /// `OutOfMemory` comes only where none of them holds.
     pub fn new(processes: Vec<Process>) -> Result<Cut, ConfigError>
         ensures value { IfOk result (λ cut. cut ≡ processes.items) }
         ensures valid { IfOk result IsCut }

@@ -104,8 +104,9 @@ fn join_all(
     Ok(members)
 }
 
-/// The members that a cut makes of others: those outside the cut stay, and the others of the cut join
-/// in ascending order, each skipped where its identifier or its endpoint is held or there is no room.
+/// The members that a cut makes of others: those outside the cut stay, and the others of the cut
+/// join in ascending order, each skipped where its identifier or its endpoint is held or there is
+/// no room.
 pub(crate) fn members_after(
     alloc: Global,
     members: &[Process],

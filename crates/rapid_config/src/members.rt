@@ -24,7 +24,8 @@ pub(crate) fn identifiers_ascend(processes: &[Process]) -> bool
 
 /// That these can be the members of a configuration, or why not. The first that holds: `TooMany`
 /// where there are more than 1,024, `NotSorted` where their identifiers do not strictly ascend,
-/// `EndpointTwice` where two have one endpoint. `OutOfMemory` comes only where neither of the first two holds.
+/// `EndpointTwice` where two have one endpoint. `OutOfMemory` comes only where neither of the first
+/// two holds.
 pub(crate) fn check_members(alloc: Global, processes: &[Process]) -> Result<(), ConfigError>
     ensures valid { OnOk result (AreMembers processes.now) }
     ensures allowed { OnOk result (members_fault processes.now ≡ None) }

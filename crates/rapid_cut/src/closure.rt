@@ -94,8 +94,8 @@ fn add_implied<T: ObserverTable>(
     Ok(())
 }
 
-/// Adds all that the direct reports imply to what is known with some of it: one pass over those with
-/// at least L direct reports, since what is implied goes to no other process.
+/// Adds all that the direct reports imply to what is known with some of it: one pass over those
+/// with at least L direct reports, since what is implied goes to no other process.
 pub fn close<T: ObserverTable>(
     table: &T,
     kept: &KeptObservers,

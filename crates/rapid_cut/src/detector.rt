@@ -193,11 +193,11 @@ fn take_batch<T: ObserverTable>(
 
 /// The cut detector over a table of observers (Rapid, USENIX ATC 2018).
 ///
-/// It takes batches of alerts until they have a cut. The reports are the pairs of subject and ring of
-/// the well-formed alerts that it took, and further each pair where the subject and its observer on
-/// that ring both have at least L reports. A process is stable with at least H reports and unstable
-/// with L to H - 1. There is a cut where some process is stable and none is unstable: all that are
-/// stable. Of joiners at most 512 are taken; alerts on others are skipped.
+/// It takes batches of alerts until they have a cut. The reports are the pairs of subject and ring
+/// of the well-formed alerts that it took, and further each pair where the subject and its observer
+/// on that ring both have at least L reports. A process is stable with at least H reports and
+/// unstable with L to H - 1. There is a cut where some process is stable and none is unstable: all
+/// that are stable. Of joiners at most 512 are taken; alerts on others are skipped.
 #[derive(Debug, Drop)]
 pub struct Detector<T: ObserverTable> {
     table: T,

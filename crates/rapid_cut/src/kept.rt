@@ -13,8 +13,8 @@ use rapid_rings::ObserverTable;
 use std::alloc::{AllocError, Global};
 use std::collections::HashMap;
 
-/// The observers of joiners, by ring. A joiner is on no ring, so that a table has to compute where it would stand each
-/// time that it is asked for one.
+/// The observers of joiners, by ring. A joiner is on no ring, so that a table has to compute where
+/// it would stand each time that it is asked for one.
 #[derive(Debug, Drop)]
 pub struct KeptObservers {
     // where the observers of each joiner begin
@@ -42,7 +42,8 @@ impl KeptObservers {
         self.places.get(&SubjectKey::new(*subject)).copied()
     }
 
-    /// The observer on the ring of the process whose observers begin at the place, if they are kept.
+    /// The observer on the ring of the process whose observers begin at the place, if they are
+    /// kept.
     fn at<T: ObserverTable>(
         &self,
         table: &T,

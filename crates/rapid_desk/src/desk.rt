@@ -283,8 +283,8 @@ impl<R: Wait + Copy + Drop> Desk<R> {
         self.board.take_seats()
     }
 
-    /// A subscription to the views that come after the one that the node shows now, with room for so
-    /// many that wait.
+    /// A subscription to the views that come after the one that the node shows now, with room for
+    /// so many that wait.
     ///
     /// # Errors
     ///
@@ -320,8 +320,8 @@ impl<R: Wait + Copy + Drop> Desk<R> {
         self.outlets.clear();
     }
 
-    /// What a subscriber has taken is a beginning of what was put for it, in order, each change once.
-    /// The number is that of its subscription among those that the desk serves, by age.
+    /// What a subscriber has taken is a beginning of what was put for it, in order, each change
+    /// once. The number is that of its subscription among those that the desk serves, by age.
     pub fn compare(&mut self, number: usize, subscription: &mut Subscription)
         requires served { IsSomeAnd (slice_get self.old.subscriptions number) (λ s. s.queue ≡ subscription.old.0) }
         ensures same { (self.new ≡ self.old) × (subscription.new ≡ subscription.old) }

@@ -57,8 +57,8 @@ pub(crate) fn subscribe(
 
 #[tactic(auto, using(crate::proofs::Marks::state_of_now, crate::proofs::Marks::height_now, crate::proofs::Marks::next_in_queue))]
 impl Outlet {
-    /// Puts a view of the configuration, and a mark in its place where there is no room or no memory
-    /// for it. Behind a mark nothing is put.
+    /// Puts a view of the configuration, and a mark in its place where there is no room or no
+    /// memory for it. Behind a mark nothing is put.
     pub(crate) fn offer<R: Wait>(&mut self, rt: &R, alloc: Global, configuration: &Configuration)
         ensures { Offered configuration.now self.old self.new }
     {

@@ -140,9 +140,9 @@ impl ProbeBook {
         hear(self.edges.as_mut_slice(), process);
     }
 
-    /// Begins a round: each observed edge by ring, with none in the first round, and then whether its
-    /// subject has acknowledged since the last one. From now on nobody has acknowledged. Want of
-    /// memory leaves the book as it was.
+    /// Begins a round: each observed edge by ring, with none in the first round, and then whether
+    /// its subject has acknowledged since the last one. From now on nobody has acknowledged. Want
+    /// of memory leaves the book as it was.
     pub fn round(&mut self, alloc: Global) -> Result<Vec<Probing>, AllocError>
         ensures answers { (subjects : List (ℕ × ModelProcess)) (begun : Bool) (acks : List ModelProcess) → self.old ≡ book_when subjects begun acks →
             IfOk result (λ edges. edges.items ≡ round_when subjects begun acks) }

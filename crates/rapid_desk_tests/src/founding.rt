@@ -44,8 +44,8 @@ pub(crate) fn decision(alloc: Global, id: ConfigId, number: u16) -> Result<Event
     Ok(Event::Receive(message))
 }
 
-/// The desk of process 1 alone, with so many seats. Where its first view was not published, that was
-/// for want of memory.
+/// The desk of process 1 alone, with so many seats. Where its first view was not published, that
+/// was for want of memory.
 pub(crate) fn alone<R: Wait + Abort>(
     rt: &R,
     alloc: Global,

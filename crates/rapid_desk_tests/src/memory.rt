@@ -40,8 +40,8 @@ fn hand_over<R: Wait + Abort>(
     }
 }
 
-/// Whether the subscriber is told the heights from 1 on, each once, and at the latest after two that
-/// it lagged.
+/// Whether the subscriber is told the heights from 1 on, each once, and at the latest after two
+/// that it lagged.
 fn is_told_in_order<R: Wait>(rt: &R, subscription: &mut Subscription) -> bool {
     let mut last = 0u64;
     for _ in 0..3 {

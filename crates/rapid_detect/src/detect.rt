@@ -238,8 +238,8 @@ impl Engine for DetectRun {
 }
 
 /// Reads lines and writes what they print, and nothing else. After a fault a beginning of that is
-/// written: `Read` where the input could not be read, `Write` where the output could not be written,
-/// `OutOfMemory` where there was no memory.
+/// written: `Read` where the input could not be read, `Write` where the output could not be
+/// written, `OutOfMemory` where there was no memory.
 pub fn run_detect<R: Read, W: Write>(
     alloc: Global,
     reader: &mut R,

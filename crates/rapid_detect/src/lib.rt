@@ -1,5 +1,5 @@
-//! `detect`: who observes whom and alerts are read line by line, and the cuts that they make (Rapid,
-//! USENIX ATC 2018) are written.
+//! `detect`: who observes whom and alerts are read line by line, and the cuts that they make
+//! (Rapid, USENIX ATC 2018) are written.
 #![tactic(auto)]
 
 mod command;

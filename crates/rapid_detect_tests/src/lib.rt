@@ -1,5 +1,5 @@
-//! Tests of `detect` over readers and writers. The crate has nothing else, so that a run is not proved
-//! a second time for its tests.
+//! Tests of `detect` over readers and writers. The crate has nothing else, so that a run is not
+//! proved a second time for its tests.
 #![tactic(auto)]
 
 #[cfg(test)]

@@ -11,12 +11,12 @@ use crate::{Endpoint, ParseError};
 use std::fmt;
 
 impl Endpoint {
-    /// The endpoint that a text such as `127.0.0.1:7000` spells. What stands before the first colon, or all,
-    /// is the host.
+    /// The endpoint that a text such as `127.0.0.1:7000` spells. What stands before the first
+    /// colon, or all, is the host.
     ///
-    /// Errors, in this order: `NotFourParts` where the host has not exactly four parts between dots,
-    /// `PartRange` where a part is no number from 0 to 255, `BadPort` where there is no colon or what
-    /// follows it is no number from 0 to 65,535. Numbers have no needless zero in front.
+    /// Errors, in this order: `NotFourParts` where the host has not exactly four parts between
+    /// dots, `PartRange` where a part is no number from 0 to 255, `BadPort` where there is no colon
+    /// or what follows it is no number from 0 to 65,535. Numbers have no needless zero in front.
     pub fn parse(text: &str) -> Result<Endpoint, ParseError>
         ensures { result ≡ endpoint_from text.now }
     {

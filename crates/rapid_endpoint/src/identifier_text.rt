@@ -8,8 +8,8 @@ use std::fmt;
 use uuid::Uuid;
 
 impl ProcessId {
-    /// The identifier that the text of a UUID spells, in each of the forms that `uuid` reads: hyphenated,
-    /// simple, braced and URN, in either case.
+    /// The identifier that the text of a UUID spells, in each of the forms that `uuid` reads:
+    /// hyphenated, simple, braced and URN, in either case.
     ///
     /// Errors: `BadIdentifier` where the text is no UUID.
     pub fn parse(text: &str) -> Result<ProcessId, ParseError>

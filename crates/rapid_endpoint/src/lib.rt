@@ -1,7 +1,8 @@
 //! Endpoints, identifiers and processes.
 //!
 //! A process of the membership service (Rapid, USENIX ATC 2018) is an identifier of sixteen bytes
-//! and an IPv4 endpoint. Contracts see each of these as its bytes, and the order is that of the bytes.
+//! and an IPv4 endpoint. Contracts see each of these as its bytes, and the order is that of the
+//! bytes.
 #![tactic(auto)]
 
 mod bytes;

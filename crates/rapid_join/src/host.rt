@@ -22,8 +22,8 @@ use std::alloc::{AllocError, Global};
 use std::marker::Model;
 use std::sync::Arc;
 
-/// The side of a member in its configuration: it answers joiners, and keeps those that asked it as an observer until
-/// the next change. At most 512 are pending.
+/// The side of a member in its configuration: it answers joiners, and keeps those that asked it as
+/// an observer until the next change. At most 512 are pending.
 #[derive(Debug, Drop)]
 pub struct Host {
     configuration: Configuration,
@@ -55,7 +55,8 @@ impl Host {
     /// The most joiners that can be pending.
     pub const MOST: usize = 512;
 
-    /// The host of a member in a configuration, at which nobody is pending. It computes the rings of the configuration.
+    /// The host of a member in a configuration, at which nobody is pending. It computes the rings
+    /// of the configuration.
     pub fn new(
         alloc: Global,
         configuration: &Configuration,
@@ -67,7 +68,8 @@ impl Host {
         Host::with_rings(alloc, configuration, &rings, process)
     }
 
-    /// The host of a member in the configuration of these rings, which it shares; nobody is pending.
+    /// The host of a member in the configuration of these rings, which it shares; nobody is
+    /// pending.
     pub fn with_rings(
         alloc: Global,
         configuration: &Configuration,
@@ -88,10 +90,10 @@ impl Host {
         })
     }
 
-    /// A joiner's first question. The answer is the first of these that holds: `Confirm` of the configuration where
-    /// the joiner is a member, `EndpointInUse` where a member has its identifier or its endpoint, `TooManyJoiners`
-    /// where 512 others are pending here, else `Safe` with its observers by ring, of whom there is one where the host
-    /// is of a member.
+    /// A joiner's first question. The answer is the first of these that holds: `Confirm` of the
+    /// configuration where the joiner is a member, `EndpointInUse` where a member has its
+    /// identifier or its endpoint, `TooManyJoiners` where 512 others are pending here, else `Safe`
+    /// with its observers by ring, of whom there is one where the host is of a member.
     #[tactic(auto, unfolding(rapid_model::specs::Host::pre_join))]
     pub fn pre_join(&self, joiner: &Process) -> Result<HostAnswer, AllocError>
         ensures answer { IfOk result (λ answer. host_answer_of answer ≡ model.pre_join self.now.config self.now.pending joiner.now) }
@@ -109,11 +111,12 @@ impl Host {
         self.safe(joiner)
     }
 
-    /// A joiner's request to its observer on a ring, in the configuration with the identifier. The answer is the first
-    /// of these that holds: `Confirm` of the configuration where the joiner is a member, `ConfigurationChanged` where
-    /// the identifier is another, `EndpointInUse` where a member has the joiner's identifier or endpoint, `Nothing`
-    /// where this member does not observe it on the ring, `TooManyJoiners` where 512 others are pending here, else
-    /// `Raise`, and the joiner is pending. Want of memory leaves the host as it was.
+    /// A joiner's request to its observer on a ring, in the configuration with the identifier. The
+    /// answer is the first of these that holds: `Confirm` of the configuration where the joiner is
+    /// a member, `ConfigurationChanged` where the identifier is another, `EndpointInUse` where a
+    /// member has the joiner's identifier or endpoint, `Nothing` where this member does not observe
+    /// it on the ring, `TooManyJoiners` where 512 others are pending here, else `Raise`, and the
+    /// joiner is pending. Want of memory leaves the host as it was.
     #[tactic(auto, unfolding(rapid_model::specs::Host::join_request))]
     pub fn join_request(
         &mut self,
@@ -144,9 +147,9 @@ impl Host {
         }
     }
 
-    /// What each pending joiner gets after a change to the next configuration, by ascending process: `Confirm` of it
-    /// where the joiner is a member there, else `ConfigurationChanged`. None is pending afterwards. Want of memory
-    /// leaves the host as it was.
+    /// What each pending joiner gets after a change to the next configuration, by ascending
+    /// process: `Confirm` of it where the joiner is a member there, else `ConfigurationChanged`.
+    /// None is pending afterwards. Want of memory leaves the host as it was.
     pub fn confirms(
         &mut self,
         next: &Configuration,

@@ -14,7 +14,8 @@ use std::marker::Model;
 /// After how many ticks a joiner asks again.
 const PATIENCE: u8 = 10;
 
-/// The side of a process that joins: it asks its seed at its ticks 1, 11, 21 and so on. It keeps nothing of a reply.
+/// The side of a process that joins: it asks its seed at its ticks 1, 11, 21 and so on. It keeps
+/// nothing of a reply.
 #[derive(Debug, Drop)]
 pub struct Joiner {
     process: Process,
@@ -46,7 +47,8 @@ impl Joiner {
         }
     }
 
-    /// A tick: `PreJoin` to the seed at the ticks 1, 11, 21 and so on, `Nothing` at the others. It takes no memory.
+    /// A tick: `PreJoin` to the seed at the ticks 1, 11, 21 and so on, `Nothing` at the others. It
+    /// takes no memory.
     pub fn on_tick(&mut self) -> JoinerAnswer
         ensures answer { result ≡ question_to (asks_at_tick self.old.joiner) }
         ensures after { self.new ≡ record self.old { joiner = after_tick self.old.joiner } }
@@ -60,8 +62,9 @@ impl Joiner {
         }
     }
 
-    /// A reply to this process: at `Safe` one request a ring, rings ascending, to that ring's observer; at
-    /// `ConfigurationChanged` `PreJoin` to the seed; at the others, and at a reply to another process, `Nothing`.
+    /// A reply to this process: at `Safe` one request a ring, rings ascending, to that ring's
+    /// observer; at `ConfigurationChanged` `PreJoin` to the seed; at the others, and at a reply to
+    /// another process, `Nothing`.
     pub fn on_reply(
         &self,
         alloc: Global,

@@ -13,7 +13,8 @@ pub enum Reply {
     Safe(ConfigId, RingObservers),
     /// A member has the joiner's identifier or its endpoint.
     EndpointInUse,
-    /// The host is in another configuration than the joiner asked in, or the change left the joiner out.
+    /// The host is in another configuration than the joiner asked in, or the change left the joiner
+    /// out.
     ConfigurationChanged,
     /// 512 other joiners are pending at the host.
     TooManyJoiners,

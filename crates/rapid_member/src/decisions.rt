@@ -17,7 +17,8 @@ use std::sync::ArcSlice;
 /// How many decisions are kept.
 const KEPT: usize = 64;
 
-/// The last 64 configurations that were left, each with the cut decided there. Copies share one list.
+/// The last 64 configurations that were left, each with the cut decided there. Copies share one
+/// list.
 #[derive(Debug, Drop)]
 pub struct Decisions {
     decided: ArcSlice<(ConfigId, Cut)>,

@@ -103,9 +103,9 @@ pub fn send_joining(
     }
 }
 
-/// Says, in the name of this process, to the joiners that wait at a member what they get after a change to the next
-/// configuration. None waits afterwards. Want of memory says nothing; who waits is open then, and the rest of the member
-/// stays.
+/// Says, in the name of this process, to the joiners that wait at a member what they get after a
+/// change to the next configuration. None waits afterwards. Want of memory says nothing; who waits
+/// is open then, and the rest of the member stays.
 pub fn confirm_pending(
     alloc: Global,
     out: &mut Vec<Output>,

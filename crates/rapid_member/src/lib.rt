@@ -1,5 +1,6 @@
-//! One member of the membership service (Rapid, USENIX ATC 2018) in its configuration: the messages that nodes send each
-//! other, and what a member does at a tick and with a message. A node, which joins, installs and is removed, is made of it.
+//! One member of the membership service (Rapid, USENIX ATC 2018) in its configuration: the messages
+//! that nodes send each other, and what a member does at a tick and with a message. A node, which
+//! joins, installs and is removed, is made of it.
 #![tactic(auto)]
 
 mod ages;

@@ -26,7 +26,8 @@ use std::alloc::{AllocError, Global};
 use std::marker::Model;
 use std::sync::Arc;
 
-/// What a member keeps in a configuration. Its parts are shared with all copies until one of them changes a part.
+/// What a member keeps in a configuration. Its parts are shared with all copies until one of them
+/// changes a part.
 #[derive(Debug, Drop)]
 pub struct MemberState {
     context: Arc<Context, Global>,
@@ -122,7 +123,8 @@ impl MemberState {
         self.context.rings.get()
     }
 
-    /// What each pending joiner gets after a change to the next configuration. None is pending afterwards.
+    /// What each pending joiner gets after a change to the next configuration. None is pending
+    /// afterwards.
     #[tactic(auto, using(crate::proofs::Hosts::confirms_give))]
     pub(crate) fn confirms(
         &mut self,

@@ -14,7 +14,8 @@ use rapid_paxos::{Ballot, copy_vote};
 use std::alloc::{AllocError, Global};
 use std::marker::Model;
 
-/// What a message says. Where it begins with an identifier, that is of the configuration that it is about.
+/// What a message says. Where it begins with an identifier, that is of the configuration that it is
+/// about.
 #[derive(Debug, Drop)]
 pub enum Body {
     /// Alerts of the sender.
@@ -69,8 +70,8 @@ impl Body {
         })
     }
 
-    /// The identifier of the configuration for which the message is answered with a decision, once the
-    /// receiver has left it.
+    /// The identifier of the configuration for which the message is answered with a decision, once
+    /// the receiver has left it.
     pub fn caught_up_by(&self) -> Option<ConfigId>
         ensures { result ≡ caught_up_by (body_of self.now) }
     {
@@ -92,8 +93,8 @@ impl Body {
     }
 }
 
-/// A message: who sends it, and what it says. A sender's batch has its own alerts, and only a fast vote
-/// and the vote that a promise reports can be at the fast ballot.
+/// A message: who sends it, and what it says. A sender's batch has its own alerts, and only a fast
+/// vote and the vote that a promise reports can be at the fast ballot.
 #[derive(Debug, Drop)]
 pub struct Message {
     sender: Process,
@@ -112,10 +113,11 @@ impl Model for Message {
 }
 
 impl Message {
-    /// The message of this sender that says this, where the sender can say it. The error is `OtherObserver` where a batch
-    /// has alerts of another than the sender, else `OtherConfiguration` where it has alerts for another configuration than
-    /// the one that it names; `FastBallot` where a Prepare, a Promise, an Accept or an Accepted is at the fast ballot;
-    /// `NoObserver` where a reply Safe names no observer.
+    /// The message of this sender that says this, where the sender can say it. The error is
+    /// `OtherObserver` where a batch has alerts of another than the sender, else
+    /// `OtherConfiguration` where it has alerts for another configuration than the one that it
+    /// names; `FastBallot` where a Prepare, a Promise, an Accept or an Accepted is at the fast
+    /// ballot; `NoObserver` where a reply Safe names no observer.
     pub fn new(sender: Process, body: Body) -> Result<Message, MessageError>
         ensures value { IfOk result (λ message. message ≡ record { sender = sender; body = body_of body }) }
         ensures said { OnOk result (CanSay sender body) }

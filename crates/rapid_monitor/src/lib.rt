@@ -1,4 +1,5 @@
-//! Failure detectors of single edges: a window of probe results, and the verdict by it (Rapid, ATC 2018, section 6).
+//! Failure detectors of single edges: a window of probe results, and the verdict by it (Rapid, ATC
+//! 2018, section 6).
 #![tactic(auto)]
 
 mod edge;

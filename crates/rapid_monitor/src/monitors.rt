@@ -13,7 +13,8 @@ use rapid_rings::{ObserverTable, Rings};
 use std::alloc::{AllocError, Global};
 use std::marker::Model;
 
-/// The probe windows of a member in one configuration: one for each ring on which it observes another.
+/// The probe windows of a member in one configuration: one for each ring on which it observes
+/// another.
 #[derive(Drop)]
 pub struct Monitors {
     /// By ring, from 0.
@@ -66,8 +67,8 @@ fn is_named(ring: u8, subjects: &[(u8, Process)]) -> bool
 }
 
 impl Monitors {
-    /// The monitors of a member in the configuration of these rings: an edge that was not probed for each ring on
-    /// which it observes another, with the room for its window.
+    /// The monitors of a member in the configuration of these rings: an edge that was not probed
+    /// for each ring on which it observes another, with the room for its window.
     pub fn new(alloc: Global, rings: &Rings, process: &Process) -> Result<Monitors, AllocError>
         ensures { IfOk result (λ monitors. monitors ≡ fresh_monitors rings.now process.now) }
     {
@@ -89,8 +90,8 @@ impl Monitors {
         Ok(Monitors { edges })
     }
 
-    /// Takes the result of one more probe on a ring, and gives the verdict of the results on that ring; none exactly
-    /// where nobody is observed on it. It takes no memory.
+    /// Takes the result of one more probe on a ring, and gives the verdict of the results on that
+    /// ring; none exactly where nobody is observed on it. It takes no memory.
     pub fn probe(&mut self, ring: u8, ok: bool) -> Option<Verdict>
         ensures after { self.new ≡ probed_at self.old ring ok }
         ensures verdict { result ≡ option_map (λ is_down. if is_down then Down else Up) (is_down_after self.old ring ok) }

@@ -7,7 +7,8 @@ use rapid_endpoint::Process;
 /// What happens to a node.
 #[derive(Debug, Drop)]
 pub enum Event {
-    /// In the configuration with this identifier, the edge to this process on this ring, from 0, went down.
+    /// In the configuration with this identifier, the edge to this process on this ring, from 0,
+    /// went down.
     EdgeDown(ConfigId, u8, Process),
     /// A tick of its clock.
     Tick,

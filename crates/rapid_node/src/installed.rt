@@ -7,7 +7,8 @@ use std::alloc::{AllocError, Global};
 use std::marker::Model;
 use std::sync::Arc;
 
-/// The stamps of the configurations that a node installed, in order. Copies share one list until one of them grows.
+/// The stamps of the configurations that a node installed, in order. Copies share one list until
+/// one of them grows.
 #[derive(Debug, Drop)]
 pub(crate) struct Installed {
     stamps: Arc<Vec<Stamp>, Global>,
@@ -40,7 +41,8 @@ impl Installed {
         self.stamps.as_slice()
     }
 
-    /// One stamp more. A list that is shared is copied first. Want of memory leaves the stamps as they were.
+    /// One stamp more. A list that is shared is copied first. Want of memory leaves the stamps as
+    /// they were.
     pub(crate) fn push(&mut self, stamp: Stamp) -> Result<(), AllocError>
         ensures ok { OnOk result (self.new ≡ self.old ++ stamp ∷ []) }
         ensures unchanged { OnErr result (self.new ≡ self.old) }

@@ -43,8 +43,9 @@ use std::sync::Arc;
 /// How many views a node installs at most.
 const MOST_VIEWS: usize = 65536;
 
-/// One node of the service: a process that joins, is a member, was removed or has halted. It does no input or output: it
-/// is told of events, one [`Node::step`] each, and answers what is to be sent.
+/// One node of the service: a process that joins, is a member, was removed or has halted. It does
+/// no input or output: it is told of events, one [`Node::step`] each, and answers what is to be
+/// sent.
 #[derive(Debug, Drop)]
 pub struct Node {
     me: Process,
@@ -106,8 +107,8 @@ impl Node {
         })
     }
 
-    /// The node of a founder: a member of this configuration, which has the height 0. The caller sees that the process
-    /// is a member.
+    /// The node of a founder: a member of this configuration, which has the height 0. The caller
+    /// sees that the process is a member.
     pub fn seed(
         alloc: Global,
         configuration: &Configuration,
@@ -170,8 +171,8 @@ impl Node {
         self.past.installed.as_slice()
     }
 
-    /// The configuration that it shows: the present one, or the last where it was removed or has halted; none before
-    /// the first.
+    /// The configuration that it shows: the present one, or the last where it was removed or has
+    /// halted; none before the first.
     #[tactic(auto, using(crate::proofs::Showing::shows))]
     pub fn configuration(&self) -> Option<&Configuration>
         ensures { option_map (λ c. c.now) result ≡ model.configuration_of self.now }
@@ -179,8 +180,8 @@ impl Node {
         self.past.shown.get()
     }
 
-    /// The configuration that [`Node::configuration`] gives, shared with the node. It fails only where there are too
-    /// many owners.
+    /// The configuration that [`Node::configuration`] gives, shared with the node. It fails only
+    /// where there are too many owners.
     #[tactic(auto, using(crate::proofs::Showing::shows))]
     pub fn shared_configuration(&self) -> Result<Option<Arc<Configuration, Global>>, AllocError>
         ensures { IfOk result (λ shared. option_map (λ c. arc_value c) shared ≡ model.configuration_of self.now) }
@@ -198,8 +199,8 @@ impl Node {
         }
     }
 
-    /// The member that it observes on a ring, from 0; none where there is no such ring, where it observes nobody and
-    /// where it is no member. It costs a search on each ring.
+    /// The member that it observes on a ring, from 0; none where there is no such ring, where it
+    /// observes nobody and where it is no member. It costs a search on each ring.
     pub fn observed(&self, ring: u8) -> Result<Option<Process>, AllocError>
         ensures { IfOk result (λ subject. subject ≡ option_map (λ x. x.1) (observed_in (model.member_in self.now) self.now.me ring)) }
     {
@@ -297,7 +298,8 @@ impl Node {
         Ok(())
     }
 
-    /// Installs what a decided cut makes: the pending joiners are answered, and the next configuration is entered.
+    /// Installs what a decided cut makes: the pending joiners are answered, and the next
+    /// configuration is entered.
     #[tactic(auto, unfolding(rapid_model::specs::NodeStep::install))]
     fn install(
         &mut self,
@@ -567,15 +569,17 @@ impl Node {
         }
     }
 
-    /// One step, and what is to be sent after it, in order. What goes to [`rapid_member::Destination::Others`] goes to
-    /// the other members of the configuration in which the node was a member *before* the step: a driver asks for
-    /// [`Node::configuration`] before it makes the step, since a step that installs leaves it.
+    /// One step, and what is to be sent after it, in order. What goes to
+    /// [`rapid_member::Destination::Others`] goes to the other members of the configuration in
+    /// which the node was a member *before* the step: a driver asks for [`Node::configuration`]
+    /// before it makes the step, since a step that installs leaves it.
     ///
     /// # Errors
     ///
-    /// `Halted` exactly where the node had halted, which changes nothing. `OutOfMemory`, and `HistoryFull` where a
-    /// decided cut cannot be installed because 65,536 views are installed or the height is the last: the node halts, sends
-    /// nothing of this step and shows what it showed before.
+    /// `Halted` exactly where the node had halted, which changes nothing. `OutOfMemory`, and
+    /// `HistoryFull` where a decided cut cannot be installed because 65,536 views are installed or
+    /// the height is the last: the node halts, sends nothing of this step and shows what it showed
+    /// before.
     pub fn step(&mut self, event: &Event) -> Result<Outputs, NodeFault>
         ensures step { IfOk result (λ sent. HasOutcome self.old.me (step.node_step self.old (event_of event.now)) self.new sent.items) }
         ensures fault { IfErr result (IsFault self.old (event_of event.now) self.new) }
@@ -585,8 +589,8 @@ impl Node {
         self.step_in(&mut views, event)
     }
 
-    /// One step, as [`Node::step`] makes it, by views that nodes share: what the node enters is looked up there, and kept
-    /// there where it was not.
+    /// One step, as [`Node::step`] makes it, by views that nodes share: what the node enters is
+    /// looked up there, and kept there where it was not.
     ///
     /// # Errors
     ///

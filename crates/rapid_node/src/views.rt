@@ -184,10 +184,10 @@ impl Known {
     }
 }
 
-/// The views that the nodes of one process entered last. A view is looked up by its configuration, or by the
-/// configuration before it and the cut, all compared as values: the first node that enters a view computes it, and the
-/// others share it. What it holds is never wrong and changes no step: a store that is empty, full or another node's
-/// costs time alone.
+/// The views that the nodes of one process entered last. A view is looked up by its configuration,
+/// or by the configuration before it and the cut, all compared as values: the first node that
+/// enters a view computes it, and the others share it. What it holds is never wrong and changes no
+/// step: a store that is empty, full or another node's costs time alone.
 #[derive(Debug, Drop)]
 pub struct Views {
     // the newest last

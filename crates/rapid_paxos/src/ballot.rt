@@ -31,8 +31,8 @@ impl Ballot {
         position: 0,
     };
 
-    /// The classic ballot of a round and a coordinator's position; `None` unless the round is from 2 to 250 and the
-    /// position is below 1,024.
+    /// The classic ballot of a round and a coordinator's position; `None` unless the round is from
+    /// 2 to 250 and the position is below 1,024.
     pub fn classic(round: u8, position: usize) -> Option<Ballot>
         ensures some { IfSome result (λ b. (b ≡ record { round = round; position = position }) × IsClassicBallot b) }
         ensures none { IfNone result (IsClassicBallot (record { round = round; position = position }) → ⊥) }

@@ -36,11 +36,11 @@ impl RoundsUsed {
     }
 }
 
-/// The coordinator of one member: the ballot that it began last, who promised it, and how many of them reported each
-/// cut at the highest ballot of a vote.
+/// The coordinator of one member: the ballot that it began last, who promised it, and how many of
+/// them reported each cut at the highest ballot of a vote.
 ///
-/// That it asks only for what the rule of Fast Paxos lets it ask for, and once a ballot, is the contract of
-/// `rapid_agreement::coordinators_ask_lawfully`.
+/// That it asks only for what the rule of Fast Paxos lets it ask for, and once a ballot, is the
+/// contract of `rapid_agreement::coordinators_ask_lawfully`.
 #[derive(Debug, Drop)]
 pub struct Coordinator {
     size: usize,
@@ -112,7 +112,8 @@ impl Coordinator {
         }
     }
 
-    /// Begins a ballot: its round is one above both that of `above` and that of the last begun here, and at least 2.
+    /// Begins a ballot: its round is one above both that of `above` and that of the last begun
+    /// here, and at least 2.
     ///
     /// # Errors
     ///
@@ -137,13 +138,15 @@ impl Coordinator {
         Ok(ballot)
     }
 
-    /// Hears the promise of the member at a position; the request to be sent, at the promise that completes a classic
-    /// quorum, where the promises heard and the own proposal give a cut to ask for. A promise of another ballot than
-    /// that begun last, or of a position heard already, is ignored. Want of memory leaves the coordinator as it was.
+    /// Hears the promise of the member at a position; the request to be sent, at the promise that
+    /// completes a classic quorum, where the promises heard and the own proposal give a cut to ask
+    /// for. A promise of another ballot than that begun last, or of a position heard already, is
+    /// ignored. Want of memory leaves the coordinator as it was.
     ///
-    /// The cut is the one that the rule of Fast Paxos allows (Lamport, 2006): the own proposal where no vote was
-    /// reported, else the only cut reported at the highest ballot, else the one that so many reported there that a
-    /// fast quorum may have chosen it, else the least of those reported there by its bytes.
+    /// The cut is the one that the rule of Fast Paxos allows (Lamport, 2006): the own proposal
+    /// where no vote was reported, else the only cut reported at the highest ballot, else the one
+    /// that so many reported there that a fast quorum may have chosen it, else the least of those
+    /// reported there by its bytes.
     pub fn hear_promise(
         &mut self,
         position: usize,

@@ -1,4 +1,5 @@
-//! Classic recovery of Fast Paxos (Lamport, 2006): the acceptor, the coordinator and the learner of one member.
+//! Classic recovery of Fast Paxos (Lamport, 2006): the acceptor, the coordinator and the learner of
+//! one member.
 #![tactic(auto)]
 
 mod acceptor;

@@ -14,7 +14,8 @@ use std::marker::Model;
 /// The positions that gave notice of a cut at a ballot.
 type Entry = ((Ballot, Cut), PositionSet);
 
-/// Notices that members accepted cuts at ballots: for each ballot and cut, in this order, a set of positions.
+/// Notices that members accepted cuts at ballots: for each ballot and cut, in this order, a set of
+/// positions.
 #[derive(Debug, Drop)]
 pub struct NoticeSet {
     entries: Vec<Entry>,
@@ -36,7 +37,8 @@ impl Model for NoticeSet {
     ghost invariant = { λ n. AreEntries n.entries.items };
 }
 
-/// The place of the entry of a ballot and a cut among entries that ascend, or the place where it would stand.
+/// The place of the entry of a ballot and a cut among entries that ascend, or the place where it
+/// would stand.
 fn place(entries: &[Entry], ballot: Ballot, cut: &Cut) -> Result<usize, usize>
     ensures bound { IsSearchInRange result (length entries.now) }
     ensures position { IsBinarySearchResult (λ e. key_cmp e.0 (ballot, cut.now)) entries.now result }

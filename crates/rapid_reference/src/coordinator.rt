@@ -11,8 +11,8 @@ use std::alloc::{AllocError, Global};
 /// How many calls a sequence has after the first ballot is begun.
 const LENGTH: usize = 3;
 
-/// How many calls there are: one of four positions promises one of two ballots and reports no vote or a vote at one of
-/// two ballots for one of two cuts; or a ballot is begun.
+/// How many calls there are: one of four positions promises one of two ballots and reports no vote
+/// or a vote at one of two ballots for one of two cuts; or a ballot is begun.
 const CALLS: usize = 41;
 
 /// How many sequences there are.
@@ -44,8 +44,8 @@ impl PromiseList {
         reported.filter(|report| *report == Some(vote)).count()
     }
 
-    /// Whether a fast quorum of so many members may have cast this vote: all that promised and reported something else
-    /// are few enough.
+    /// Whether a fast quorum of so many members may have cast this vote: all that promised and
+    /// reported something else are few enough.
     fn may_be_chosen(&self, size: usize, vote: Vote) -> bool
         requires { size ≤ 1024 }
     {
@@ -104,8 +104,8 @@ fn reported(
     }
 }
 
-/// A promise reaches both, where the own proposal is the cut of number 7 if the position is even; answers whether a
-/// request was sent.
+/// A promise reaches both, where the own proposal is the cut of number 7 if the position is even;
+/// answers whether a request was sent.
 fn hear(
     alloc: Global,
     cuts: &Cuts,
@@ -151,8 +151,8 @@ fn begin(alloc: Global, coordinator: &mut Coordinator, list: &mut PromiseList) -
     Ok(())
 }
 
-/// Tries one sequence, where votes are reported at the fast ballot and at one above; answers how many requests were sent
-/// in it.
+/// Tries one sequence, where votes are reported at the fast ballot and at one above; answers how
+/// many requests were sent in it.
 fn try_one(
     alloc: Global,
     cuts: &Cuts,

@@ -9,7 +9,8 @@ use std::alloc::Global;
 /// How many notices a sequence has.
 const LENGTH: usize = 4;
 
-/// How many sequences there are: each notice is of one of four positions, at one of two ballots, for one of two cuts.
+/// How many sequences there are: each notice is of one of four positions, at one of two ballots,
+/// for one of two cuts.
 const SEQUENCES: usize = 65_536;
 
 /// Every notice, and whether a cut was answered.
@@ -20,7 +21,8 @@ struct NoticeList {
 }
 
 impl NoticeList {
-    /// The cut, where `enough` of four positions gave notice of it at this ballot and none was answered.
+    /// The cut, where `enough` of four positions gave notice of it at this ballot and none was
+    /// answered.
     fn hear(
         &mut self,
         enough: usize,

@@ -1,8 +1,9 @@
-//! Compares what a member keeps for the vote, which are counters, with lists of all that it heard, from which each answer
-//! is counted anew. Every sequence of calls of four positions, two cuts and two ballots is tried, up to a short length.
-//! A cut detector over a small table is compared with a list of reports that repeated passes close, for every short
-//! sequence of batches. A difference ends the program. The numbers that it must print were counted by another program,
-//! so that a comparison that is passed over shows too.
+//! Compares what a member keeps for the vote, which are counters, with lists of all that it heard,
+//! from which each answer is counted anew. Every sequence of calls of four positions, two cuts and
+//! two ballots is tried, up to a short length. A cut detector over a small table is compared with a
+//! list of reports that repeated passes close, for every short sequence of batches. A difference
+//! ends the program. The numbers that it must print were counted by another program, so that a
+//! comparison that is passed over shows too.
 #![tactic(auto)]
 
 mod acceptor;

@@ -1,4 +1,5 @@
-// The batch that implies most: one report on each of 1,024 processes, of which all sixteen rings follow.
+// The batch that implies most: one report on each of 1,024 processes, of which all sixteen rings
+// follow.
 use crate::detector::process;
 use anyhow::Result;
 use rapid_alerts::{Alert, Kind};

@@ -1,7 +1,8 @@
 //! Who observes whom.
 //!
-//! A membership service (Rapid, USENIX ATC 2018) has each process watched by one observer on each of K rings.
-//! Whoever takes alerts asks an [`ObserverTable`]: the [`Rings`] of a configuration, or a [`Table`] of explicit edges.
+//! A membership service (Rapid, USENIX ATC 2018) has each process watched by one observer on each
+//! of K rings. Whoever takes alerts asks an [`ObserverTable`]: the [`Rings`] of a configuration, or
+//! a [`Table`] of explicit edges.
 #![tactic(auto)]
 
 mod departed;

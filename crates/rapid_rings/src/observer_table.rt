@@ -10,8 +10,9 @@ use rapid_endpoint::Process;
 pub trait ObserverTable {
     ghost observers: { Self → Observers };
 
-    /// The number of rings and the two marks. A caller learns here that the rules of observers hold:
-    /// the parameters are in order, there is no observer beyond the rings, and at most 1,024 members have one.
+    /// The number of rings and the two marks. A caller learns here that the rules of observers
+    /// hold: the parameters are in order, there is no observer beyond the rings, and at most 1,024
+    /// members have one.
     fn params(&self) -> Params
         ensures value { result ≡ (observers self.now).params }
         ensures rules { AreObservers (observers self.now) };
@@ -24,12 +25,13 @@ pub trait ObserverTable {
     fn is_member(&self, process: &Process) -> bool
         ensures { result ≡ (observers self.now).is_member process.now };
 
-    /// The member that observes the subject, a member or a joiner, on a ring from 0; none at a ring not below K.
+    /// The member that observes the subject, a member or a joiner, on a ring from 0; none at a ring
+    /// not below K.
     fn observer(&self, ring: u8, subject: &Process) -> Option<Process>
         ensures { result ≡ (observers self.now).observer ring subject.now };
 
-    /// Whether the subject is a member, and who observes it on a ring: what `is_member` and `observer` answer, for
-    /// the cost of one search where the table has a cheaper way than both.
+    /// Whether the subject is a member, and who observes it on a ring: what `is_member` and
+    /// `observer` answer, for the cost of one search where the table has a cheaper way than both.
     fn member_and_observer(&self, ring: u8, subject: &Process) -> (bool, Option<Process>)
         ensures member { result.0 ≡ (observers self.now).is_member subject.now }
         ensures observer { result.1 ≡ (observers self.now).observer ring subject.now }

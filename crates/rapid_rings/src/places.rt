@@ -1,4 +1,5 @@
-// The places of members, which are guessed first: lists that differ in few have most members in a row.
+// The places of members, which are guessed first: lists that differ in few have most members in a
+// row.
 
 ghost use Rattle.std.specs.Prelude.{◌≡◌};
 ghost use Rattle.rapid_model.specs.Configuration.{position_of};
@@ -6,7 +7,8 @@ ghost use Rattle.rapid_model.specs.Configuration.{position_of};
 use rapid_config::Configuration;
 use rapid_endpoint::Process;
 
-/// The place of a process in a configuration. It is searched for only where the process is not at the guessed place.
+/// The place of a process in a configuration. It is searched for only where the process is not at
+/// the guessed place.
 pub(crate) fn place_near(
     configuration: &Configuration,
     guess: usize,

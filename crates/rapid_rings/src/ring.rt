@@ -21,7 +21,8 @@ const FEW: usize = 8;
 /// A process with its key on a ring. Seats are ordered by key; ties are broken by process.
 pub(crate) type Seat = ([u8; 32], Process);
 
-/// The key of a process on a ring: the SHA-256 (FIPS 180-4) of the ring's number, the identifier and the endpoint.
+/// The key of a process on a ring: the SHA-256 (FIPS 180-4) of the ring's number, the identifier
+/// and the endpoint.
 pub(crate) fn ring_key(ring: u8, process: &Process) -> [u8; 32]
     ensures { result ≡ model.ring_key ring process.now }
 {
@@ -131,7 +132,8 @@ impl Ring {
         }
     }
 
-    /// The process in the seat next after that of a member, going round: the member that it observes.
+    /// The process in the seat next after that of a member, going round: the member that it
+    /// observes.
     pub(crate) fn subject(&self, seat: &Seat) -> Option<Process>
         ensures { (ring : ℕ) (members : List ModelProcess) (observer : ModelProcess) →
             self.now ≡ seats_of ring members → seat.now.0 ≡ model.ring_key ring observer → seat.now.1 ≡ observer → is_in members observer ≡ true →
@@ -230,7 +232,8 @@ impl Ring {
     }
 }
 
-// Where the seat at a place is gone, keeps those from start up to it. Answers where the next stretch starts.
+// Where the seat at a place is gone, keeps those from start up to it. Answers where the next
+// stretch starts.
 fn keep_until(
     kept: &mut Vec<Seat>,
     seats: &[Seat],

@@ -20,8 +20,9 @@ use rapid_endpoint::Process;
 use std::alloc::{AllocError, Global};
 use std::marker::Model;
 
-/// The rings of a configuration: on each of them the members are ordered by their keys, and each process is observed
-/// by the member next before it, going round. Rings never change: they are shared by an `Arc`.
+/// The rings of a configuration: on each of them the members are ordered by their keys, and each
+/// process is observed by the member next before it, going round. Rings never change: they are
+/// shared by an `Arc`.
 #[derive(Debug, Drop)]
 pub struct Rings {
     configuration: Configuration,
@@ -57,8 +58,8 @@ impl Rings {
         build(alloc, configuration, Some(self))
     }
 
-    /// The pairs of a ring and the member that the process observes on it, by ring. It costs a search for the
-    /// process and one on each ring.
+    /// The pairs of a ring and the member that the process observes on it, by ring. It costs a
+    /// search for the process and one on each ring.
     pub fn subjects_of(
         &self,
         alloc: Global,
@@ -105,7 +106,8 @@ impl Rings {
         }
     }
 
-    // The observer of a process on a ring. It is found sooner where the process is the member at this place.
+    // The observer of a process on a ring. It is found sooner where the process is the member at
+    // this place.
     #[tactic(auto, unfolding(rapid_model::specs::Ring::observers_of))]
     fn observer_of(&self, ring: u8, place: Option<usize>, process: &Process) -> Option<Process>
         ensures { result ≡ (observers_of self.now).observer ring process.now }
@@ -116,7 +118,8 @@ impl Rings {
         }
     }
 
-    // The key of a process on a ring, which is computed only where it is not that of the member at this place.
+    // The key of a process on a ring, which is computed only where it is not that of the member at
+    // this place.
     fn key(&self, ring: u8, place: Option<usize>, process: &Process) -> [u8; 32]
         ensures { result ≡ model.ring_key ring process.now }
     {
@@ -126,7 +129,8 @@ impl Rings {
         }
     }
 
-    // The key of a process on a ring, which is computed only where another member or none is at this place.
+    // The key of a process on a ring, which is computed only where another member or none is at
+    // this place.
     fn key_near(&self, ring: u8, place: usize, process: &Process) -> [u8; 32]
         ensures { result ≡ model.ring_key ring process.now }
     {
@@ -225,7 +229,8 @@ fn departed_from(
     }
 }
 
-// The members on the ring with this number, by place, and the seats of those that have no place before.
+// The members on the ring with this number, by place, and the seats of those that have no place
+// before.
 fn seat_members(
     alloc: Global,
     number: u8,
@@ -259,7 +264,8 @@ fn add_newcomer(
     Ok(())
 }
 
-// The ring with this number: made of the ring before, if there is one, else of the seats of all members.
+// The ring with this number: made of the ring before, if there is one, else of the seats of all
+// members.
 fn ring_of(
     alloc: Global,
     number: u8,

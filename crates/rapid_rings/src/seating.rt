@@ -9,7 +9,8 @@ use rapid_endpoint::Process;
 use std::alloc::{AllocError, Global};
 use std::marker::Model;
 
-/// The seats of the members on one ring by their place in the configuration, so that no key is computed twice.
+/// The seats of the members on one ring by their place in the configuration, so that no key is
+/// computed twice.
 #[derive(Debug, Drop)]
 pub(crate) struct Seating {
     seats: Vec<Seat>,

@@ -1,5 +1,5 @@
-//! One running node of the membership service: its peers over loopback TCP, its lines and its clock,
-//! each in threads of their own.
+//! One running node of the membership service: its peers over loopback TCP, its lines and its
+//! clock, each in threads of their own.
 #![tactic(auto)]
 
 mod arrivals;

@@ -120,23 +120,23 @@ where
     }
 }
 
-/// Runs a node over loopback TCP until it ends: by the line `quit`, at the end of the input, or by a
-/// fault. It founds a cluster, whose view it prints before it reads a line, or joins one by the seed
-/// of its options; without an identifier of its own it draws one from the source. Each view that it
-/// enters prints a line. Where `tick_ms` is above 0 a ticker ticks it too, once every so many
-/// milliseconds.
+/// Runs a node over loopback TCP until it ends: by the line `quit`, at the end of the input, or by
+/// a fault. It founds a cluster, whose view it prints before it reads a line, or joins one by the
+/// seed of its options; without an identifier of its own it draws one from the source. Each view
+/// that it enters prints a line. Where `tick_ms` is above 0 a ticker ticks it too, once every so
+/// many milliseconds.
 ///
 /// When it returns, all its threads have ended and its sockets are closed. What was queued for the
-/// peers was sent as far as 0.3 seconds sufficed. A read that waits for input cannot be interrupted,
-/// so after a fault it returns only once the input gives a line or ends.
+/// peers was sent as far as 0.3 seconds sufficed. A read that waits for input cannot be
+/// interrupted, so after a fault it returns only once the input gives a line or ends.
 ///
 /// # Errors
 ///
 /// `NoPort` where the port was not to be had, `NoIdentifier` where the source failed, `Read` and
 /// `Write` where the input or the output failed, `JournalFull` and `Halted` by the node itself, and
-/// `OutOfMemory`, also where a thread was not to be had. Each is told by one line of the error output,
-/// `error: ` and the fault, as soon as it ends the node, whatever the input does; a fault of the error
-/// output is passed over.
+/// `OutOfMemory`, also where a thread was not to be had. Each is told by one line of the error
+/// output, `error: ` and the fault, as soon as it ends the node, whatever the input does; a fault
+/// of the error output is passed over.
 pub fn run_node<R, S, I, O, E>(
     rt: &R,
     alloc: Global,

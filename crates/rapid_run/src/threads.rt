@@ -19,7 +19,8 @@ pub(crate) fn tell<E: Write>(fault: NodeFault, err: &mut E) {
     let _ = err.flush();
 }
 
-/// Prints what is added to the console until that is closed. Where it cannot be written the node ends.
+/// Prints what is added to the console until that is closed. Where it cannot be written the node
+/// ends.
 fn print<W: Wait, R: Wait + Copy + Drop, P: Post + Drop, O: Write + Drop>(
     rt: &W,
     shared: &Shared<R, P>,
@@ -114,9 +115,9 @@ where
     );
 }
 
-/// Runs the threads of a node until it ends, and says why it did. When it returns all have ended, and
-/// what was added to the console is printed. A fault that ends the node is told at once, and then
-/// `told` is true.
+/// Runs the threads of a node until it ends, and says why it did. When it returns all have ended,
+/// and what was added to the console is printed. A fault that ends the node is told at once, and
+/// then `told` is true.
 pub(crate) fn run_threads<W, R, P, I, O, E>(
     rt: &W,
     alloc: Global,

@@ -23,8 +23,8 @@ const BETWEEN_LOOKS: u64 = 10;
 /// How long is waited after connections were cut, in milliseconds.
 const AFTER_A_CUT: u64 = 150;
 
-/// A node's place: its port and that of the founder, what it printed, the connections that it opened,
-/// and whether its input is over.
+/// A node's place: its port and that of the founder, what it printed, the connections that it
+/// opened, and whether its input is over.
 #[derive(Drop)]
 struct Place {
     port: u16,
@@ -152,7 +152,8 @@ fn come_to_open<R: Wait + Clock>(rt: &R, places: &[Place]) -> bool {
     false
 }
 
-/// Cuts the connections of these nodes, once each has opened one since the last cut; whether they did.
+/// Cuts the connections of these nodes, once each has opened one since the last cut; whether they
+/// did.
 fn cut_all<R: Wait + Clock>(rt: &R, places: &[Place]) -> bool {
     if !come_to_open(rt, places) {
         return false;

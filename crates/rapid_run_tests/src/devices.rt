@@ -89,8 +89,8 @@ impl Write for Broken {
     }
 }
 
-/// The host's network, threads and clock. It keeps a handle of each connection that is opened by it,
-/// so that a test can cut them.
+/// The host's network, threads and clock. It keeps a handle of each connection that is opened by
+/// it, so that a test can cut them.
 #[derive(Drop)]
 pub(crate) struct Wires<'a, R> {
     pub rt: &'a R,

@@ -190,8 +190,8 @@ fn is_told<R: Wait + Clock>(rt: &R, told: &Mutex<Vec<u8>>, over: &AtomicBool) ->
     is_told
 }
 
-/// Runs a node whose output fails, and whose input is quiet after a line; whether it was told of the
-/// fault before the input ended, and how it ended.
+/// Runs a node whose output fails, and whose input is quiet after a line; whether it was told of
+/// the fault before the input ended, and how it ended.
 fn quiet<'a, R>(rt: &'a R, alloc: Global, told: &'a Mutex<Vec<u8>>) -> (Result<(), NodeFault>, bool)
 where
     R: Net<Listener = TcpListener, Stream = TcpStream>

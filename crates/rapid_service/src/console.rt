@@ -7,8 +7,8 @@ use std::io::Write;
 use std::mem;
 use std::sync::{Condvar, Mutex, Wait};
 
-/// The lines that are to be printed. Many threads add lines, each of them whole, and one prints them
-/// in that order, so that no thread waits for the output.
+/// The lines that are to be printed. Many threads add lines, each of them whole, and one prints
+/// them in that order, so that no thread waits for the output.
 #[derive(Drop)]
 pub struct Console {
     alloc: Global,
@@ -77,7 +77,8 @@ impl Console {
         Some(pending.take(self.alloc))
     }
 
-    /// Prints the lines as they are added, until the console is closed; whether all could be written.
+    /// Prints the lines as they are added, until the console is closed; whether all could be
+    /// written.
     pub fn print<R: Wait, W: Write>(&self, rt: &R, writer: &mut W) -> bool {
         for _ in rt.forever() {
             let Some(lines) = self.next(rt) else {

@@ -7,8 +7,8 @@ use std::marker::Model;
 /// How many ticks lie between two rounds.
 const TICKS_PER_ROUND: u8 = 10;
 
-/// Counts the ticks, whoever makes them: after every tenth a round begins. Contracts see the number of
-/// ticks modulo ten.
+/// Counts the ticks, whoever makes them: after every tenth a round begins. Contracts see the number
+/// of ticks modulo ten.
 #[derive(Debug, Drop)]
 pub struct Rounds {
     ticks: u8,

@@ -21,8 +21,8 @@ use std::sync::Wait;
 /// How many changes of the view wait for the service: it takes each at once.
 const CHANGES: usize = 4;
 
-/// A node at its desk, with the probes of those whom it observes in its present view. It is kept under
-/// a lock, and whoever holds it hands it ticks and messages.
+/// A node at its desk, with the probes of those whom it observes in its present view. It is kept
+/// under a lock, and whoever holds it hands it ticks and messages.
 #[derive(Drop)]
 pub struct Service<R: Wait + Copy + Drop, P: Post + Drop> {
     rt: R,
@@ -126,8 +126,8 @@ impl<R: Wait + Copy + Drop, P: Post + Drop> Service<R, P> {
         })
     }
 
-    /// The service of a process that founds a cluster, in which it is alone. Its first view is entered
-    /// at once.
+    /// The service of a process that founds a cluster, in which it is alone. Its first view is
+    /// entered at once.
     pub fn found(
         rt: R,
         alloc: Global,
@@ -162,8 +162,8 @@ impl<R: Wait + Copy + Drop, P: Post + Drop> Service<R, P> {
         Service::at(rt, alloc, me, desk, post)
     }
 
-    /// A tick of the node. After every tenth the observed members are probed, and edges of which too
-    /// many probes were not acknowledged are handed to the node.
+    /// A tick of the node. After every tenth the observed members are probed, and edges of which
+    /// too many probes were not acknowledged are handed to the node.
     pub fn tick(&mut self) -> Result<(), NodeFault> {
         self.step(Event::Tick)?;
         if self.rounds.tick() {

@@ -14,8 +14,8 @@ use std::io::Read;
 use std::sync::Wait;
 use std::thread;
 
-/// What answers the lines of a node: it prints at the node's console, among the views that are entered
-/// meanwhile, and nothing by itself.
+/// What answers the lines of a node: it prints at the node's console, among the views that are
+/// entered meanwhile, and nothing by itself.
 #[derive(Drop)]
 struct Session<'a, W: Wait, R: Wait + Copy + Drop, P: Post + Drop> {
     rt: &'a W,

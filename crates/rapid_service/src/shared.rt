@@ -10,7 +10,8 @@ use rapid_view::ViewSeat;
 use std::alloc::{AllocError, Global};
 use std::sync::{Mutex, Wait};
 
-/// What the threads of a node share: its service under a lock, what is printed, and whether it goes on.
+/// What the threads of a node share: its service under a lock, what is printed, and whether it goes
+/// on.
 #[derive(Drop)]
 pub struct Shared<R: Wait + Copy + Drop, P: Post + Drop> {
     service: Mutex<Service<R, P>>,
@@ -38,8 +39,8 @@ impl<R: Wait + Copy + Drop, P: Post + Drop> Shared<R, P> {
         &self.ending
     }
 
-    /// Prints the views that the service has entered, while its lock is held: views are printed in the
-    /// order in which they were entered.
+    /// Prints the views that the service has entered, while its lock is held: views are printed in
+    /// the order in which they were entered.
     fn show<W: Wait>(&self, rt: &W, service: &mut Service<R, P>) -> Result<(), AllocError> {
         let lines = service.take_lines();
         self.console.add(rt, lines.as_slice())

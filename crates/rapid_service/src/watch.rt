@@ -17,8 +17,8 @@ use std::alloc::{AllocError, Global};
 /// How many rings there are at most.
 const MOST_RINGS: usize = 16;
 
-/// What a member does about those whom it observes in one view: it probes them, and judges each edge
-/// by what was acknowledged.
+/// What a member does about those whom it observes in one view: it probes them, and judges each
+/// edge by what was acknowledged.
 #[derive(Drop)]
 pub struct Watch {
     monitors: Monitors,

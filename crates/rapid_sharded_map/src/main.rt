@@ -42,8 +42,8 @@ fn weight(member: &Process, key: &str) -> u64 {
     )
 }
 
-/// The member that owns a key, at which the key weighs most, so that a change of the members moves no
-/// key between two that stay. None where there are no members.
+/// The member that owns a key, at which the key weighs most, so that a change of the members moves
+/// no key between two that stay. None where there are no members.
 #[tactic(auto, using(crate::proofs::Members::in_at))]
 fn owner(configuration: &Configuration, key: &str) -> Option<Process>
     ensures { IfSome result (λ owner. is_member configuration.now owner ≡ true) }
@@ -148,8 +148,8 @@ fn seat<R: Wait + Copy + Drop>(desk: &mut Desk<R>) -> Result<ViewSeat> {
     seats.pop().context("the desk has no seat")
 }
 
-/// Tells the desk that this process was decided to come or to go. What the node would send is dropped
-/// here: nobody listens.
+/// Tells the desk that this process was decided to come or to go. What the node would send is
+/// dropped here: nobody listens.
 fn decide<R: Wait + Copy + Drop>(
     desk: &mut Desk<R>,
     alloc: Global,

@@ -88,7 +88,8 @@ fn probe_result(word: &[u8]) -> Option<bool>
     }
 }
 
-/// How often an event happens, by the words of a line: from 1 to 1,000 times, once where there are none.
+/// How often an event happens, by the words of a line: from 1 to 1,000 times, once where there are
+/// none.
 fn count(line: &[u8]) -> Option<u64>
     ensures { result ≡ count_in (words line.now) }
 {

@@ -61,8 +61,9 @@ impl NumberSet {
     }
 }
 
-/// The packets that are settled, by their numbers from 1. Those from the first on that are settled without a gap are only counted,
-/// so a flow, which settles the least one each time, finds it at once and takes no memory.
+/// The packets that are settled, by their numbers from 1. Those from the first on that are settled
+/// without a gap are only counted, so a flow, which settles the least one each time, finds it at
+/// once and takes no memory.
 #[derive(Debug, Drop)]
 pub(crate) struct Settled {
     // the packets up to this one are settled
@@ -126,7 +127,8 @@ impl Settled {
     }
 }
 
-/// Up to which packet all are settled, where they are up to this one and these are; those are taken out of the others.
+/// Up to which packet all are settled, where they are up to this one and these are; those are taken
+/// out of the others.
 fn all_from(first: u64, above: &mut NumberSet) -> u64
     ensures same { settled_by result above.new ≡ settled_by first above.old }
     ensures gap { HasGap result above.new }

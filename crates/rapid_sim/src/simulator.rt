@@ -131,8 +131,8 @@ impl Simulator {
         Ok(())
     }
 
-    /// Settles the least packet that is not settled, and delivers it where a node runs at its endpoint;
-    /// whether the flow goes on.
+    /// Settles the least packet that is not settled, and delivers it where a node runs at its
+    /// endpoint; whether the flow goes on.
     fn pass(&mut self, packet: u64, output: &mut Vec<u8>) -> Result<bool, AllocError>
         requires from_1 { 1 ≤ packet }
         requires least { least_unsettled (simulation_of self.old) ≡ Some packet }
@@ -172,7 +172,8 @@ impl Simulator {
         Ok(())
     }
 
-    /// Makes all that run lose the member of an identifier: four probes fail on each ring on which it is observed.
+    /// Makes all that run lose the member of an identifier: four probes fail on each ring on which
+    /// it is observed.
     pub(crate) fn lose(
         &mut self,
         alloc: Global,
@@ -228,7 +229,8 @@ fn push_failing(
     push_failed(observer, ring, events)
 }
 
-/// Appends four failed probes of an observer on a ring, where it observes the member of an identifier there.
+/// Appends four failed probes of an observer on a ring, where it observes the member of an
+/// identifier there.
 fn push_where_observed(
     world: &World,
     observer: &ProcessId,
@@ -246,7 +248,8 @@ fn push_where_observed(
     }
 }
 
-/// Appends four failed probes of an observer for each of so many rings on which it observes the member of an identifier.
+/// Appends four failed probes of an observer for each of so many rings on which it observes the
+/// member of an identifier.
 fn push_losing(
     world: &World,
     observer: &ProcessId,
@@ -262,7 +265,8 @@ fn push_losing(
     Ok(())
 }
 
-/// Appends the probes by which each of these observers loses the member of an identifier, on so many rings.
+/// Appends the probes by which each of these observers loses the member of an identifier, on so
+/// many rings.
 fn push_each(
     world: &World,
     observers: &[ProcessId],

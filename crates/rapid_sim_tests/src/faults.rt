@@ -86,8 +86,8 @@ const RECOVERED: &[u8] =
 const RECOVERED_VIEWS: &[u8] = b"node 1 height 0 members 1 2 3\nnode 2 height 0 members 1 2 3\n\
       node 3 height 0 members 1 2 3\nnode 2 height 1 members 1 2\nnode 1 height 1 members 1 2\n";
 
-/// Want of memory, wherever it is met, ends a run by name, or is counted: then an event was refused for it, or a node halted. Where it
-/// is not met the output is whole.
+/// Want of memory, wherever it is met, ends a run by name, or is counted: then an event was refused
+/// for it, or a node halted. Where it is not met the output is whole.
 #[test]
 fn ends_by_name_or_counts_want_of_memory(rt: HostRuntime) {
     let mut output = [0u8; 512];

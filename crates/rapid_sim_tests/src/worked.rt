@@ -119,12 +119,14 @@ fn refuses_lines_by_their_rules(rt: HostRuntime) -> Result<(), Fail> {
     Ok(())
 }
 
-/// A packet that is dropped, or delivered once, is passed over by later flows; it can still be delivered.
+/// A packet that is dropped, or delivered once, is passed over by later flows; it can still be
+/// delivered.
 #[test]
 fn settles_packets(rt: HostRuntime) -> Result<(), Fail> {
     let rows = [
         (
-            // the second packet is settled before the first: the flow delivers the first alone, and the answer to it
+            // the second packet is settled before the first: the flow delivers the first alone, and
+            // the answer to it
             "params 3 3 1 / found 1 / start 2 2 1 / start 3 3 1 / tick 2 / tick 3 / drop 2 / \
              flow / packets",
             "node 1 height 0 members 1 / packets 6",

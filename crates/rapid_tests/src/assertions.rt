@@ -30,7 +30,8 @@ pub fn assert_installs(rt: &impl Abort, network: &Network, expected: &[(u16, u64
     assert!(rt; network.installs() == expected, "{:?}", network.installs());
 }
 
-/// Checks that a node shows the configuration of this height and these members, and that it installed that last.
+/// Checks that a node shows the configuration of this height and these members, and that it
+/// installed that last.
 pub fn assert_shows(rt: &impl Abort, node: &Node, height: u64, members: &[u16]) {
     let shown = node.configuration().expect(rt, "a configuration");
     let last = node.installed().last().expect(rt, "a stamp");

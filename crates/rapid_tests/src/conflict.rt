@@ -7,8 +7,9 @@ use std::alloc::Global;
 use std::process::Abort;
 use std::test::Fail;
 
-/// Five founders: two vote for one joiner and two for another, no vote is heard, and the first member begins a ballot at its
-/// tick 20. The packets from 21 on are its Prepare, to the members 2 to 5.
+/// Five founders: two vote for one joiner and two for another, no vote is heard, and the first
+/// member begins a ballot at its tick 20. The packets from 21 on are its Prepare, to the members 2
+/// to 5.
 const BALLOT_BEGINS: [Action; 5] = [
     Action::Joining { joiner: 6, node: 1 },
     Action::Joining { joiner: 6, node: 2 },
@@ -17,8 +18,8 @@ const BALLOT_BEGINS: [Action; 5] = [
     Action::Tick(1, 20),
 ];
 
-/// Two members hear of the ballot and promise, the last member, who did not vote yet, accepts with all others and then hears
-/// of the second joiner. The packets from 31 on are notices of votes.
+/// Two members hear of the ballot and promise, the last member, who did not vote yet, accepts with
+/// all others and then hears of the second joiner. The packets from 31 on are notices of votes.
 const ALL_ACCEPT: [Action; 9] = [
     Action::Deliver(21),
     Action::Deliver(22),
@@ -66,7 +67,8 @@ fn decided(rt: &impl Abort, alloc: Global) -> Result<Network, Fail> {
     Ok(network)
 }
 
-/// The first member asks for the cut that two of the three members promised for; who has accepted sends no fast vote.
+/// The first member asks for the cut that two of the three members promised for; who has accepted
+/// sends no fast vote.
 #[test]
 fn recovery_asks_for_the_cut_that_may_be_chosen(rt: HostRuntime) -> Result<(), Fail> {
     let network = accepted(&rt, rt.alloc())?;
@@ -84,7 +86,8 @@ fn all_let_the_same_joiner_in_once(rt: HostRuntime) -> Result<(), Fail> {
     Ok(())
 }
 
-/// What comes for the configuration that was left is answered with the decision: ten notices that came late, and then a vote.
+/// What comes for the configuration that was left is answered with the decision: ten notices that
+/// came late, and then a vote.
 #[test]
 fn who_is_late_is_told_the_decision(rt: HostRuntime) -> Result<(), Fail> {
     let mut network = decided(&rt, rt.alloc())?;

@@ -5,7 +5,8 @@ use crate::network::{Action, Network};
 use crate::said::{Said, To};
 use std::test::Fail;
 
-// The process 2 observes the process 5, which was computed by Python's hashlib from the rule that none is between.
+// The process 2 observes the process 5, which was computed by Python's hashlib from the rule that
+// none is between.
 
 #[test]
 fn four_votes_of_five_cut_a_process_out(rt: HostRuntime) -> Result<(), Fail> {

@@ -6,7 +6,8 @@ use crate::said::{Said, To};
 use rapid_node::Phase;
 use std::test::Fail;
 
-/// What the first of two members sends in 41 ticks, after one of three edges to the other went down.
+/// What the first of two members sends in 41 ticks, after one of three edges to the other went
+/// down.
 const SENT: [(u16, To, Said); 5] = [
     (1, To::Others, Said::Batch(1)),
     (1, To::Others, Said::Batch(1)),
@@ -22,7 +23,8 @@ const DOWN: Action = Action::Down {
     subject: 2,
 };
 
-/// The process is unstable at the ticks 2 to 41, so nothing but the first alert goes out until the last of these.
+/// The process is unstable at the ticks 2 to 41, so nothing but the first alert goes out until the
+/// last of these.
 #[test]
 fn an_unstable_process_is_echoed_at_the_tick_41(rt: HostRuntime) -> Result<(), Fail> {
     let mut network = Network::found(&rt, rt.alloc(), (3, 3, 1), &[1, 2])?;

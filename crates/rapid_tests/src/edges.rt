@@ -8,8 +8,9 @@ use rapid_node::{Event, Node};
 use std::process::Abort;
 use std::test::Fail;
 
-// Of the founders 1 to 3 the first observes the second on the rings 0 and 1, the third on ring 2, and the joiner 8 on ring 0. This was
-// computed by Python's hashlib, from the rule that none is between.
+// Of the founders 1 to 3 the first observes the second on the rings 0 and 1, the third on ring 2,
+// and the joiner 8 on ring 0. This was computed by Python's hashlib, from the rule that none is
+// between.
 
 /// Checks that an edge that went down is not told at the next tick.
 fn assert_ignored(rt: &impl Abort, node: &mut Node, event: &Event) -> Result<(), Fail> {

@@ -21,7 +21,8 @@ pub fn cut(alloc: Global, number: u16) -> Result<Cut, Fail> {
     Ok(Cut::new(Vec::from_array(alloc, [process(number)])?)?)
 }
 
-/// The founding configuration of the processes with these numbers, with so many rings and these two marks.
+/// The founding configuration of the processes with these numbers, with so many rings and these two
+/// marks.
 pub fn founding(
     rt: &impl Abort,
     alloc: Global,
@@ -72,7 +73,8 @@ pub fn shown(rt: &impl Abort, node: &Node) -> ConfigId {
     node.configuration().expect(rt, "a configuration").id()
 }
 
-/// The message to a node, from the process with this number, that the cut of that process is decided in its configuration.
+/// The message to a node, from the process with this number, that the cut of that process is
+/// decided in its configuration.
 pub fn decision(rt: &impl Abort, alloc: Global, node: &Node, number: u16) -> Result<Event, Fail> {
     let body = Body::Decision(shown(rt, node), cut(alloc, number)?);
     Ok(Event::Receive(Message::new(process(number), body)?))

@@ -20,7 +20,8 @@ fn install(rt: &impl Abort, alloc: Global, node: &mut Node, count: usize) -> Res
     Ok(())
 }
 
-/// Checks that a node has installed 65,536 views, of all heights in order, with one and two members in turn.
+/// Checks that a node has installed 65,536 views, of all heights in order, with one and two members
+/// in turn.
 fn assert_full(rt: &impl Abort, node: &Node) {
     assert_eq!(rt; node.installed().len(), MOST_VIEWS);
     for (place, stamp) in node.installed().iter().enumerate() {

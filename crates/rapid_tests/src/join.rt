@@ -24,7 +24,8 @@ const JOIN: [Action; 7] = [
     Action::Tick(1, 1),
 ];
 
-/// What the two send. There is no other member to whom the batch and the vote could go, so these make no packets.
+/// What the two send. There is no other member to whom the batch and the vote could go, so these
+/// make no packets.
 const SENT: [(u16, To, Said); 8] = [
     (2, To::Node(1), Said::PreJoin),
     (1, To::Node(2), Said::Safe(3)),
@@ -76,7 +77,8 @@ fn a_member_that_asks_again_is_confirmed(rt: HostRuntime) -> Result<(), Fail> {
     Ok(())
 }
 
-/// Whether this is just an answer to a joiner, at its endpoint, that its identifier or its endpoint is held.
+/// Whether this is just an answer to a joiner, at its endpoint, that its identifier or its endpoint
+/// is held.
 fn is_in_use(outputs: &Outputs, joiner: &Process) -> bool {
     match outputs.as_slice() {
         [output] => match output.message().body() {
@@ -104,7 +106,8 @@ fn an_endpoint_in_use_is_refused(rt: HostRuntime) -> Result<(), Fail> {
     Ok(())
 }
 
-/// A joiner is answered in one configuration and asks its observers in the next: it is told, and begins anew at once.
+/// A joiner is answered in one configuration and asks its observers in the next: it is told, and
+/// begins anew at once.
 #[test]
 fn a_joiner_that_is_late_begins_anew(rt: HostRuntime) -> Result<(), Fail> {
     let mut network = Network::found(&rt, rt.alloc(), (3, 3, 1), &[1])?;

@@ -1,5 +1,5 @@
-//! Tests of whole nodes, which hand their messages on to each other. The crate has nothing else, so that a node is not proved a
-//! second time for its tests.
+//! Tests of whole nodes, which hand their messages on to each other. The crate has nothing else, so
+//! that a node is not proved a second time for its tests.
 #![tactic(auto)]
 
 #[cfg(test)]

@@ -19,8 +19,8 @@ struct Outcome<'a> {
     members: &'a [u16],
 }
 
-/// Checks the step of a founder among so many founders at an event: it has the outcome, or, for want of memory, the node has halted and
-/// shows the founding configuration alone.
+/// Checks the step of a founder among so many founders at an event: it has the outcome, or, for
+/// want of memory, the node has halted and shows the founding configuration alone.
 fn assert_step(
     rt: &impl Abort,
     node: &mut Node,

@@ -25,7 +25,8 @@ struct Packet {
     is_settled: bool,
 }
 
-/// What is done to a network. Nodes are named by the numbers of their processes, and packets are numbered from 1 in the order sent.
+/// What is done to a network. Nodes are named by the numbers of their processes, and packets are
+/// numbered from 1 in the order sent.
 #[derive(Clone, Copy, Debug)]
 pub enum Action {
     /// A process starts to join by a seed.

@@ -19,8 +19,8 @@ fn acknowledgement(id: ConfigId) -> Result<Event, MessageError> {
     Ok(Event::Receive(Message::new(process(3), Body::ProbeAck(id))?))
 }
 
-/// The node of the first of two founders, to whom it was told that the cut of a process is decided, and the configuration
-/// that it left.
+/// The node of the first of two founders, to whom it was told that the cut of a process is decided,
+/// and the configuration that it left.
 fn after_cut(rt: &impl Abort, alloc: Global, number: u16) -> Result<(Box<Node>, ConfigId), Fail> {
     let mut node = member(rt, alloc, (3, 3, 1), &[1, 2], 1)?;
     let left = shown(rt, &*node);
@@ -67,7 +67,8 @@ fn a_probe_is_acknowledged(rt: HostRuntime) -> Result<(), Fail> {
     assert_acknowledges(&rt, &mut *node, ConfigId::zero(), own)
 }
 
-/// Who is still a member acknowledges a probe about the configuration that it left, and then tells the decision there.
+/// Who is still a member acknowledges a probe about the configuration that it left, and then tells
+/// the decision there.
 #[test]
 fn a_late_probe_at_a_member(rt: HostRuntime) -> Result<(), Fail> {
     let (mut node, left) = after_cut(&rt, rt.alloc(), 2)?;
@@ -93,7 +94,8 @@ fn a_late_probe_at_a_removed_node(rt: HostRuntime) -> Result<(), Fail> {
     assert_answers(&rt, &mut *node, &Event::Tick, &[])
 }
 
-/// An acknowledgement for the configuration that was left is told the decision, and one for the present has no effect.
+/// An acknowledgement for the configuration that was left is told the decision, and one for the
+/// present has no effect.
 #[test]
 fn a_late_acknowledgement(rt: HostRuntime) -> Result<(), Fail> {
     let (mut node, left) = after_cut(&rt, rt.alloc(), 2)?;

@@ -6,7 +6,8 @@ use crate::said::{Said, To};
 use std::process::Abort;
 use std::test::Fail;
 
-// The process 1 observes the process 3 on ring 2, and the process 2 on rings 0 and 1, which was computed by Python's hashlib.
+// The process 1 observes the process 3 on ring 2, and the process 2 on rings 0 and 1, which was
+// computed by Python's hashlib.
 
 /// Of three founders one crashes, and the two others vote to cut it out.
 const TWO_VOTE: [Action; 5] = [
@@ -74,7 +75,8 @@ const AGAIN: [(u16, To, Said); 2] = [
     (1, To::Others, Said::Batch(3)),
 ];
 
-/// What a member sends in sixty ticks who cuts out the only other one and hears nothing: so many ticks, and what it sends in them.
+/// What a member sends in sixty ticks who cuts out the only other one and hears nothing: so many
+/// ticks, and what it sends in them.
 const ALONE: [(usize, &[(u16, To, Said)]); 9] = [
     (
         1,

@@ -7,7 +7,8 @@ use std::alloc::AllocError;
 
 /// What answers the lines of an input, one after another.
 pub trait Engine {
-    // From this state on these lines may print this text, where want of memory is met so many times, those before among them.
+    // From this state on these lines may print this text, where want of memory is met so many
+    // times, those before among them.
     ghost prints: { Self → List (List ℕ) → List ℕ → ℕ → Type 0 };
 
     // How many times want of memory was met so far.

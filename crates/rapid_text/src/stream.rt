@@ -15,7 +15,8 @@ use std::io::{ErrorKind, Read, Write};
 /// How many bytes are read at a time.
 const BLOCK: usize = 65_536;
 
-/// How many bytes of output there is room for from the start: a block of refused lines prints no more.
+/// How many bytes of output there is room for from the start: a block of refused lines prints no
+/// more.
 const OUTPUT: usize = 8 * BLOCK + 1024;
 
 /// What stands before and after the first end of a line.
@@ -31,7 +32,8 @@ fn split_line(bytes: &[u8]) -> Option<(&[u8], &[u8])>
     None
 }
 
-/// Answers the line that ends behind these bytes: where nothing is kept of it they are all of it, and they are not copied.
+/// Answers the line that ends behind these bytes: where nothing is kept of it they are all of it,
+/// and they are not copied.
 fn end_line<E: Engine>(
     engine: &mut E,
     line: &mut LineBuffer,
@@ -86,7 +88,8 @@ fn finish<E: Engine>(
     engine.answer(last, output)
 }
 
-/// Reads bytes into the block; none where the input has ended. A read that a signal interrupts is tried again.
+/// Reads bytes into the block; none where the input has ended. A read that a signal interrupts is
+/// tried again.
 fn read_some<R: Read>(reader: &mut R, block: &mut [u8]) -> Result<usize, RunFault>
     ensures bound { IfOk result (λ count. count ≤ length block.new) }
     ensures ok { IfOk result (λ count. Consumes (R.remaining reader.old) (R.remaining reader.new) (take count block.new)) }

@@ -55,8 +55,8 @@ pub(crate) fn address_of(endpoint: Endpoint) -> SocketAddr {
     SocketAddr::V4(SocketAddrV4::new(address, endpoint.port()))
 }
 
-/// Opens a connection. It fails after 0.1 seconds, and so do writes after half of that in which there
-/// is no room.
+/// Opens a connection. It fails after 0.1 seconds, and so do writes after half of that in which
+/// there is no room.
 fn connect<R>(rt: &R, to: Endpoint) -> io::Result<TcpStream>
 where
     R: Net<Listener = TcpListener, Stream = TcpStream>,
@@ -111,7 +111,8 @@ impl Connections {
         let _ = self.all.push(Connection { to, stream });
     }
 
-    /// Sends a frame by the connection to this endpoint that is open, which is closed where that fails.
+    /// Sends a frame by the connection to this endpoint that is open, which is closed where that
+    /// fails.
     fn send_by_open<R: Clock>(&mut self, rt: &R, to: Endpoint, frame: &Bytes) -> Outcome {
         let Some(place) = self.place(to) else {
             return Outcome::Broken;
@@ -140,10 +141,10 @@ impl Connections {
         outcome
     }
 
-    /// Sends a frame to this endpoint, by the connection that is open or else by a new one, and says
-    /// whether it was sent. Where the open one has failed, as it does when somebody cut it, all of the
-    /// frame goes by a new one. A peer that is too slow is left alone for a second: nothing is sent to
-    /// it then.
+    /// Sends a frame to this endpoint, by the connection that is open or else by a new one, and
+    /// says whether it was sent. Where the open one has failed, as it does when somebody cut it,
+    /// all of the frame goes by a new one. A peer that is too slow is left alone for a second:
+    /// nothing is sent to it then.
     pub(crate) fn deliver<R>(&mut self, rt: &R, to: Endpoint, frame: &Bytes) -> bool
     where
         R: Net<Listener = TcpListener, Stream = TcpStream> + Clock,

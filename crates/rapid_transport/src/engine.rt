@@ -37,9 +37,9 @@ fn refill<R: CountedRead>(reader: &mut R, feed: &mut Feed) -> Result<bool, Trans
 ///
 /// # Errors
 ///
-/// `PeerClosed` where the input has ended within a frame. `Io` where the device failed in this call.
-/// `Wire` with the feed's fault, at each later call too. `OutOfMemory`, after which bytes that were
-/// read may be lost. The connection is given up after each of them.
+/// `PeerClosed` where the input has ended within a frame. `Io` where the device failed in this
+/// call. `Wire` with the feed's fault, at each later call too. `OutOfMemory`, after which bytes
+/// that were read may be lost. The connection is given up after each of them.
 pub fn receive<W: Wait, R: CountedRead>(
     rt: &W,
     reader: &mut R,
@@ -77,8 +77,8 @@ fn write_some<W: CountedWrite>(writer: &mut W, bytes: &[u8]) -> Result<usize, Tr
     Ok(count)
 }
 
-/// Writes a frame: all of it, or after an error a beginning of it that is not the whole, after which
-/// the connection is given up.
+/// Writes a frame: all of it, or after an error a beginning of it that is not the whole, after
+/// which the connection is given up.
 ///
 /// # Errors
 ///

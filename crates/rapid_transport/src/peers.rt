@@ -31,7 +31,8 @@ const CAPACITY: usize = 4_096;
 /// How long the acceptor waits after a connection could not be accepted, in milliseconds.
 const AFTER_A_FAULT: u64 = 50;
 
-/// How often it is tried to wake the acceptor, and how long each try takes at most, in milliseconds.
+/// How often it is tried to wake the acceptor, and how long each try takes at most, in
+/// milliseconds.
 const WAKES: u32 = 50;
 
 const LONGEST_WAKE: u64 = 200;
@@ -135,9 +136,9 @@ impl Peers {
 
     /// Accepts connections, hands the messages that come by them to the inbox, and sends what is
     /// posted, until `stop`. The caller's thread is the acceptor; the readers, at most 256, and the
-    /// senders have threads of their own, all of which have ended when it returns. The ends are those
-    /// that `listen` gave. A connection beyond 256 is closed at once, and so is one by which something
-    /// comes that is no frame.
+    /// senders have threads of their own, all of which have ended when it returns. The ends are
+    /// those that `listen` gave. A connection beyond 256 is closed at once, and so is one by which
+    /// something comes that is no frame.
     ///
     /// # Errors
     ///
@@ -199,9 +200,9 @@ impl Peers {
         Some((number, stream))
     }
 
-    /// Ends `run`: the readers at once, the senders when what is queued is sent, or after 0.3 seconds
-    /// where that takes longer; a frame that is under way takes up to 0.3 seconds more. It may be
-    /// called by any thread, also before `run`, and calls after the first do nothing.
+    /// Ends `run`: the readers at once, the senders when what is queued is sent, or after 0.3
+    /// seconds where that takes longer; a frame that is under way takes up to 0.3 seconds more. It
+    /// may be called by any thread, also before `run`, and calls after the first do nothing.
     pub fn stop<R>(&self, rt: &R)
     where
         R: Net<Listener = TcpListener, Stream = TcpStream> + Wait + Clock,

@@ -99,8 +99,8 @@ impl SenderQueue {
         }
     }
 
-    /// How many frames were lost: those that found the queue full, and those that the other end said
-    /// to be lost so far. The count stays at 2^64 - 1.
+    /// How many frames were lost: those that found the queue full, and those that the other end
+    /// said to be lost so far. The count stays at 2^64 - 1.
     pub fn losses(&self) -> u64
         ensures { self.now.full ≤ result }
     {

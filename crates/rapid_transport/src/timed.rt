@@ -19,8 +19,8 @@ pub(crate) struct Timed<'a, R: Clock> {
 }
 
 impl<'a, R: Clock> Timed<'a, R> {
-    /// The stream, whose time begins now. A write of the stream itself waits for room for as long as
-    /// was set when it was opened.
+    /// The stream, whose time begins now. A write of the stream itself waits for room for as long
+    /// as was set when it was opened.
     pub(crate) fn new(rt: &'a R, stream: &'a TcpStream) -> io::Result<Timed<'a, R>> {
         let begun = Instant::now(rt)?;
         Ok(Timed {

@@ -56,8 +56,8 @@ fn flood<R: Wait>(
     Ok(())
 }
 
-/// Floods a peer that reads nothing, and posts a hundred frames to the peers themselves, with more for
-/// the other one before each of them.
+/// Floods a peer that reads nothing, and posts a hundred frames to the peers themselves, with more
+/// for the other one before each of them.
 fn post_to_both<R: Wait>(
     rt: &R,
     alloc: Global,
@@ -109,8 +109,9 @@ fn connects<R: Clock>(rt: &R, listener: &TcpListener, count: u32) -> bool {
     false
 }
 
-/// Whether frames to the peers themselves come soon while another peer reads nothing, frames to that
-/// one are lost, and it is connected to again when it was left alone for a while. Stops the peers.
+/// Whether frames to the peers themselves come soon while another peer reads nothing, frames to
+/// that one are lost, and it is connected to again when it was left alone for a while. Stops the
+/// peers.
 fn is_patient<R>(
     rt: &R,
     alloc: Global,

@@ -22,7 +22,8 @@ fn turn(world: &mut World, first: u64) -> Result<u64> {
     Ok(sent.saturating_add(1))
 }
 
-/// The height of the view of a process that joins by another, after so many turns of a world of both.
+/// The height of the view of a process that joins by another, after so many turns of a world of
+/// both.
 pub fn joins(alloc: Global, seed: Process, joiner: Process, turns: u8) -> Result<Option<u64>> {
     let params = Params::new(3, 3, 1)?;
     // that there is such a configuration is what World::new wants of its founders

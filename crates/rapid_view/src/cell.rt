@@ -15,8 +15,8 @@ use left_right::{ReadHandleFactory, WriteHandle};
 use std::alloc::{AllocError, Global};
 use std::sync::Wait;
 
-/// The words of a published list: the count, and for each stamp that there is room for a place of six
-/// words. No place below the count is written again.
+/// The words of a published list: the count, and for each stamp that there is room for a place of
+/// six words. No place below the count is written again.
 #[derive(Drop)]
 pub struct ViewCell {
     pub(crate) table: Table<(), Known, u64, Published, Global>,

@@ -1,7 +1,8 @@
 //! The published view: one writer publishes views, and seats read the last one beside it.
 //!
-//! The stamps of the views stand in a cell of words that are read without a lock (`stamp`). The view
-//! itself is in two copies, of which readers have one while the writer changes the other (`members`).
+//! The stamps of the views stand in a cell of words that are read without a lock (`stamp`). The
+//! view itself is in two copies, of which readers have one while the writer changes the other
+//! (`members`).
 #![tactic(auto)]
 
 mod cell;

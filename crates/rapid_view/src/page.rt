@@ -9,8 +9,9 @@ use left_right::Absorb;
 use rapid_config::Stamp;
 use std::alloc::{AllocError, Global};
 
-/// The last published view, and its stamp. The view shares its list of members with all its copies, so
-/// it takes its place here without memory. It is missing only where even such a copy was refused.
+/// The last published view, and its stamp. The view shares its list of members with all its copies,
+/// so it takes its place here without memory. It is missing only where even such a copy was
+/// refused.
 #[derive(Drop)]
 pub struct Page {
     alloc: Global,

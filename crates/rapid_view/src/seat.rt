@@ -15,8 +15,8 @@ use std::alloc::AllocError;
 use std::marker::Model;
 use std::sync::Wait;
 
-/// A seat at the published view: it reads the last stamp, and the last view. Contracts see which cell
-/// it reads, and the published list as far as it has seen it.
+/// A seat at the published view: it reads the last stamp, and the last view. Contracts see which
+/// cell it reads, and the published list as far as it has seen it.
 #[derive(Drop)]
 pub struct ViewSeat {
     stamps: StampReader,
@@ -59,8 +59,8 @@ impl ViewSeat {
         ViewSeat { stamps, list }
     }
 
-    /// The last stamp of a published list that begins with all that this seat had seen. Afterwards the
-    /// seat has seen that list. It takes no lock and waits for nobody.
+    /// The last stamp of a published list that begins with all that this seat had seen. Afterwards
+    /// the seat has seen that list. It takes no lock and waits for nobody.
     pub fn stamp(&mut self) -> Stamp
         ensures cell { self.new.cell ≡ self.old.cell }
         ensures later { IsBeginning self.old.seen self.new.seen }
@@ -71,8 +71,8 @@ impl ViewSeat {
     }
 
     /// The view of the last stamp of a published list that begins with all that this seat had seen.
-    /// Afterwards the seat has seen that list, also where it answers an error: `Behind` where the view
-    /// of the last stamp is still to be put in the list, or the writer is gone.
+    /// Afterwards the seat has seen that list, also where it answers an error: `Behind` where the
+    /// view of the last stamp is still to be put in the list, or the writer is gone.
     #[tactic(auto, using(crate::proofs::Beginnings::begins_longer))]
     pub fn members<R: Wait>(&mut self, rt: &R) -> Result<View, ViewError>
         ensures cell { self.new.cell ≡ self.old.cell }
@@ -100,8 +100,8 @@ impl ViewSeat {
         unreachable!()
     }
 
-    /// From now on what the other seat has seen was seen by this one too. The other is a seat of the
-    /// same cell.
+    /// From now on what the other seat has seen was seen by this one too. The other is a seat of
+    /// the same cell.
     pub fn told_by(&mut self, other: &mut ViewSeat)
         requires { self.old.cell ≡ other.old.cell }
         ensures other { other.new ≡ other.old }

@@ -124,8 +124,8 @@ impl StampReader {
         })
     }
 
-    /// The last stamp of a published list that begins with all that was seen here. Afterwards that list
-    /// was seen here.
+    /// The last stamp of a published list that begins with all that was seen here. Afterwards that
+    /// list was seen here.
     pub fn stamp(&mut self) -> Stamp
         ensures cell { self.new.cell ≡ self.old.cell }
         ensures later { IsBeginning self.old.seen self.new.seen }

@@ -12,8 +12,8 @@ use left_right::WriteHandle;
 use std::marker::Model;
 use std::sync::Wait;
 
-/// The one writer of a cell. Contracts see which cell it writes, for how many views it has room, the
-/// list that is published, and the view that readers find.
+/// The one writer of a cell. Contracts see which cell it writes, for how many views it has room,
+/// the list that is published, and the view that readers find.
 #[derive(Drop)]
 pub struct ViewWriter<R: Wait + Drop> {
     pub(crate) stamps: StampWriter,
@@ -33,9 +33,9 @@ impl<R: Wait + Drop> Model for ViewWriter<R> {
 }
 
 impl<R: Wait + Drop> ViewWriter<R> {
-    /// Publishes the next view: its stamp, and then the view itself. `NotNext` where its height is not
-    /// one more than the last, else `CellFull` where there is room for no more. An error changes
-    /// nothing.
+    /// Publishes the next view: its stamp, and then the view itself. `NotNext` where its height is
+    /// not one more than the last, else `CellFull` where there is room for no more. An error
+    /// changes nothing.
     pub fn publish(&mut self, view: View) -> Result<(), ViewError>
         ensures same { (self.new.cell ≡ self.old.cell) × (self.new.room ≡ self.old.room) }
         ensures longer { IfOk result (λ _. self.new.seen ≡ self.old.seen ++ model.stamp view ∷ []) }
@@ -56,7 +56,8 @@ impl<R: Wait + Drop> ViewWriter<R> {
         Ok(())
     }
 
-    /// What the seat has seen is a beginning of the published list. The seat is one of the same cell.
+    /// What the seat has seen is a beginning of the published list. The seat is one of the same
+    /// cell.
     pub fn compare(&mut self, seat: &mut ViewSeat)
         requires { self.old.cell ≡ seat.old.cell }
         ensures same { (self.new ≡ self.old) × (seat.new ≡ seat.old) }

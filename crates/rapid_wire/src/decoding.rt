@@ -68,8 +68,8 @@ fn open_frame(whole: &[u8]) -> Result<(u8, &[u8]), WireFault>
     Ok((*kind, rest))
 }
 
-/// The message of a whole frame, after its length. The faults of its first two bytes come first, then
-/// `BadBody` where the rest is not spelt as a message of this kind is.
+/// The message of a whole frame, after its length. The faults of its first two bytes come first,
+/// then `BadBody` where the rest is not spelt as a message of this kind is.
 pub(crate) fn decode(alloc: Global, whole: &[u8]) -> Result<Message, WireFault>
     ensures valid { IfOk result IsMessage }
     ensures spelt { IfOk result (λ m. whole.now ≡ payload m) }

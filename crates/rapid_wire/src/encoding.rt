@@ -22,8 +22,9 @@ fn put_payload(alloc: Global, out: &mut Vec<u8>, message: &Message) -> Result<()
     put_body(alloc, out, body)
 }
 
-/// The frame of a message: the length of what follows in four bytes, high byte first, then the version
-/// of the format, the message's kind, its sender and its body. It is the one spelling of the message.
+/// The frame of a message: the length of what follows in four bytes, high byte first, then the
+/// version of the format, the message's kind, its sender and its body. It is the one spelling of
+/// the message.
 pub fn encode(alloc: Global, message: &Message) -> Result<Vec<u8>, AllocError>
     ensures { IfOk result (λ bytes. IsFrame bytes.items message.now) }
 {

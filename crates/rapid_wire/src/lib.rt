@@ -27,8 +27,8 @@ pub fn every_message_fits()
     ensures { EveryMessageFits }
 {}
 
-/// However a stream is cut, its messages and its end are the same: what a feed answers of its beginning,
-/// and then of what it held with the bytes that follow, is what the whole stream says.
+/// However a stream is cut, its messages and its end are the same: what a feed answers of its
+/// beginning, and then of what it held with the bytes that follow, is what the whole stream says.
 pub fn cutting_changes_nothing()
     ensures { CuttingChangesNothing }
 {}
@@ -38,13 +38,15 @@ pub fn streams_have_one_answer()
     ensures { StreamsHaveOneAnswer }
 {}
 
-/// The frames of messages, one after another, are a stream of these messages, of which nothing is left.
+/// The frames of messages, one after another, are a stream of these messages, of which nothing is
+/// left.
 pub fn frames_are_read_again()
     ensures { FramesAreReadAgain }
 {}
 
-/// Whatever pieces a feed was given, and whenever it was asked: what it answered, and then what the bytes
-/// that it holds say, is what all its pieces say as one stream; a fault that it answers is that stream's.
+/// Whatever pieces a feed was given, and whenever it was asked: what it answered, and then what the
+/// bytes that it holds say, is what all its pieces say as one stream; a fault that it answers is
+/// that stream's.
 pub fn feeds_answer_their_stream()
     ensures { FeedsAnswerTheirStream }
 {}

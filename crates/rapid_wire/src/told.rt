@@ -1,4 +1,5 @@
-// What is known of the parts of messages. These functions do nothing: what they ensure is for proofs.
+// What is known of the parts of messages. These functions do nothing: what they ensure is for
+// proofs.
 
 ghost use Rattle.std.specs.Prelude.{◌≡◌, All, map};
 ghost use Rattle.rapid_model.specs.Process.{IsProcess};

@@ -1,5 +1,5 @@
-//! Tests of messages and frames. The crate has nothing else, so that the functions below it are not proved a
-//! second time for their tests.
+//! Tests of messages and frames. The crate has nothing else, so that the functions below it are not
+//! proved a second time for their tests.
 #![tactic(auto)]
 
 #[cfg(test)]

@@ -2,12 +2,14 @@
 
 use rapid_endpoint::{Endpoint, Process, ProcessId};
 
-/// What happens to a world. Nodes go by their identifiers, and packets by their numbers, from 1 in the order sent.
+/// What happens to a world. Nodes go by their identifiers, and packets by their numbers, from 1 in
+/// the order sent.
 #[derive(Clone, Copy, Debug)]
 pub enum WorldEvent {
     /// The process starts to join by the seed at this endpoint.
     Start(Process, Endpoint),
-    /// The node has this result of a probe of whom it observes on the ring, from 0: whether it was answered.
+    /// The node has this result of a probe of whom it observes on the ring, from 0: whether it was
+    /// answered.
     Probe(ProcessId, u8, bool),
     /// The clock of the node ticks.
     Tick(ProcessId),

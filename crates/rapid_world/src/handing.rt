@@ -51,7 +51,8 @@ fn prepare(alloc: Global, peer: &mut Peer, mail: &mut Mail) -> Result<Box<Ready>
     peer.ready(alloc)
 }
 
-/// A peer takes an event, for which everything is there, and what it sends is put behind the other packets.
+/// A peer takes an event, for which everything is there, and what it sends is put behind the other
+/// packets.
 fn take(
     alloc: Global,
     views: &mut Views,
@@ -98,7 +99,8 @@ pub(crate) fn hand(
     Ok(take(alloc, views, peer, mail, event, ready))
 }
 
-/// A peer has a further result of a probe of its edge to a process; where the edge is down its node is told.
+/// A peer has a further result of a probe of its edge to a process; where the edge is down its node
+/// is told.
 #[tactic(auto, unfolding(crate::specs::Handed::told))]
 pub(crate) fn probe(
     alloc: Global,

@@ -1,5 +1,6 @@
-//! A world of many nodes and the packets between them: a deterministic simulator of a whole cluster, on whose every run the
-//! agreement of the service (Rapid, USENIX ATC 2018) holds by contract.
+//! A world of many nodes and the packets between them: a deterministic simulator of a whole
+//! cluster, on whose every run the agreement of the service (Rapid, USENIX ATC 2018) holds by
+//! contract.
 #![tactic(auto)]
 
 mod error;

@@ -63,7 +63,8 @@ fn if_under(peer: &Peer, place: Option<usize>, id: &ProcessId) -> Option<usize>
     if runs_under(peer, id) { place } else { None }
 }
 
-/// The place of the peer that runs under the identifier. No other could have it than the one at this place.
+/// The place of the peer that runs under the identifier. No other could have it than the one at
+/// this place.
 pub(crate) fn place_under(peers: &[Peer], place: Option<usize>, id: &ProcessId) -> Option<usize>
     requires { IsOnlyAt (has_identifier id.now) peers.now place }
     ensures { result ≡ position (λ p. is_running p && has_identifier id.now p) peers.now }
@@ -81,7 +82,8 @@ fn if_at(peer: &Peer, place: Option<usize>, endpoint: &Endpoint) -> Option<usize
     if runs_at(peer, endpoint) { place } else { None }
 }
 
-/// The place of the peer that runs at the endpoint. No other could run there than the one at this place.
+/// The place of the peer that runs at the endpoint. No other could run there than the one at this
+/// place.
 pub(crate) fn place_at(peers: &[Peer], place: Option<usize>, endpoint: &Endpoint) -> Option<usize>
     requires { IsOnlyAt (λ p. is_running p && has_endpoint endpoint.now p) peers.now place }
     ensures { result ≡ position (λ p. is_running p && has_endpoint endpoint.now p) peers.now }

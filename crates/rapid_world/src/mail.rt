@@ -11,7 +11,8 @@ use rapid_node::Message;
 use std::alloc::{AllocError, Global};
 use std::marker::Model;
 
-/// All packets that were ever sent, by the steps in which they were. They are numbered from 1 in the order sent.
+/// All packets that were ever sent, by the steps in which they were. They are numbered from 1 in
+/// the order sent.
 #[derive(Debug, Drop)]
 pub(crate) struct Mail {
     sendings: Vec<Sending>,

@@ -53,8 +53,8 @@ impl Model for Peer {
     ghost invariant = { λ p. IfSome p.ready (λ r. IsReady p.node r.value) };
 }
 
-/// What has to be there before a node takes an event, so that nothing is wanting afterwards. It serves for all steps
-/// until one sends something or installs.
+/// What has to be there before a node takes an event, so that nothing is wanting afterwards. It
+/// serves for all steps until one sends something or installs.
 #[derive(Drop)]
 pub(crate) struct Ready {
     // to whom its words go that are for the others
@@ -245,7 +245,8 @@ impl Peer {
         }
     }
 
-    /// Its probe of whom its node observes on a ring has this result. Says whether the edge is down.
+    /// Its probe of whom its node observes on a ring has this result. Says whether the edge is
+    /// down.
     #[tactic(auto)]
     pub(crate) fn probe(&mut self, alloc: Global, ring: u8, ok: bool) -> Result<bool, AllocError>
         requires member { is_some (model.member_in self.old.node) ≡ true }

@@ -27,8 +27,8 @@ use std::marker::Model;
 /// How many views nodes share at a time.
 const MOST_VIEWS: usize = 8;
 
-/// All that ever started, in order. Each is found by its identifier and, while it runs, by its endpoint. Their nodes share
-/// the views that they enter.
+/// All that ever started, in order. Each is found by its identifier and, while it runs, by its
+/// endpoint. Their nodes share the views that they enter.
 #[derive(Drop)]
 pub(crate) struct Peers {
     peers: Vec<Peer>,
@@ -162,7 +162,8 @@ impl Peers {
         Ok(told)
     }
 
-    /// The one at a place has a further result of a probe of its edge to a process; where the edge is down its node is told.
+    /// The one at a place has a further result of a probe of its edge to a process; where the edge
+    /// is down its node is told.
     pub(crate) fn probe(
         &mut self,
         place: usize,

@@ -12,7 +12,8 @@ use rapid_node::{Node, Phase};
 use std::alloc::{AllocError, Global};
 use std::marker::Model;
 
-/// To whom a node's words to the others go: the members of its configuration, which is shared, without the node itself.
+/// To whom a node's words to the others go: the members of its configuration, which is shared,
+/// without the node itself.
 #[derive(Debug, Drop)]
 pub(crate) struct Recipients {
     // none where the node is no member

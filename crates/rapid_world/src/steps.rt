@@ -147,8 +147,8 @@ impl World {
         }
     }
 
-    /// The place of the node that runs under an identifier, and its edge on a ring: the identifier of the configuration, and
-    /// the member that it observes.
+    /// The place of the node that runs under an identifier, and its edge on a ring: the identifier
+    /// of the configuration, and the member that it observes.
     fn edge(
         &self,
         id: &ProcessId,
@@ -189,16 +189,17 @@ impl World {
         }
     }
 
-    /// One step by an event, and what it reports. A node that halts in it, for want of memory or room for a further view, is no
-    /// error: the event is accepted.
+    /// One step by an event, and what it reports. A node that halts in it, for want of memory or
+    /// room for a further view, is no error: the event is accepted.
     ///
     /// # Errors
     ///
-    /// `EventsFull` where 1,000,000 events were accepted, which is tested first. At a start `IdentifierUsed` where a node
-    /// ever had the identifier, then `EndpointBusy` where one runs at the endpoint. `NoSuchNode` where none runs under the
-    /// identifier, or at the endpoint of the packet; before the latter `NoSuchPacket` where none with the number was sent.
-    /// `NotObserved` where the node observes nobody on the ring. `OutOfMemory` where the world itself has no memory for the
-    /// event, or to see whom the node observes. Each leaves the world as it was.
+    /// `EventsFull` where 1,000,000 events were accepted, which is tested first. At a start
+    /// `IdentifierUsed` where a node ever had the identifier, then `EndpointBusy` where one runs at
+    /// the endpoint. `NoSuchNode` where none runs under the identifier, or at the endpoint of the
+    /// packet; before the latter `NoSuchPacket` where none with the number was sent. `NotObserved`
+    /// where the node observes nobody on the ring. `OutOfMemory` where the world itself has no
+    /// memory for the event, or to see whom the node observes. Each leaves the world as it was.
     pub fn step(&mut self, event: &WorldEvent) -> Result<Vec<Report>, WorldError>
         ensures stored { IfOk result (λ reports. StoresEvent self.old self.new (event_of event.now) (map report_of reports.items)) }
         ensures refused { IfErr result (Refuses (event_refusal self.old (event_of event.now))) }
@@ -242,7 +243,8 @@ impl World {
         }
     }
 
-    /// Steps by these events in order, and says how many were accepted. The others are passed over: each changes nothing.
+    /// Steps by these events in order, and says how many were accepted. The others are passed over:
+    /// each changes nothing.
     pub fn run(&mut self, events: &[WorldEvent]) -> usize
         ensures run { RunsTo self.old (map event_of events.now) result self.new }
         ensures holds { NoCollision (world_of self.new) → RunHolds (world_of self.new) }

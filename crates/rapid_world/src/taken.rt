@@ -91,8 +91,8 @@ impl Taken {
         }
     }
 
-    /// What comes of it where the node makes a step: it had installed so many views before, and sends by these outputs
-    /// to these recipients, after so many packets.
+    /// What comes of it where the node makes a step: it had installed so many views before, and
+    /// sends by these outputs to these recipients, after so many packets.
     pub(crate) fn of(
         alloc: Global,
         node: &Node,

@@ -15,7 +15,8 @@ use rapid_node::Node;
 use std::alloc::AllocError;
 
 impl World {
-    /// An event that it accepted, from 0 in order, and whether its node halted in it for want of memory.
+    /// An event that it accepted, from 0 in order, and whether its node halted in it for want of
+    /// memory.
     pub fn event(&self, i: usize) -> Option<(WorldEvent, bool)>
         ensures { option_map marked_of result ≡ slice_get self.now.events i }
     {
@@ -29,7 +30,8 @@ impl World {
         self.peers().find_under(id)
     }
 
-    /// The identifiers of all nodes that run, ascending: they were not made to crash, and have not halted.
+    /// The identifiers of all nodes that run, ascending: they were not made to crash, and have not
+    /// halted.
     pub fn running(&self) -> Result<Vec<ProcessId>, AllocError>
         ensures { IfOk result (λ ids. ids.items ≡ model.running (world_of self.now)) }
     {
@@ -53,7 +55,8 @@ impl World {
         }
     }
 
-    /// The member that a node observes on a ring, from 0; none where no node runs under the identifier, or it observes nobody.
+    /// The member that a node observes on a ring, from 0; none where no node runs under the
+    /// identifier, or it observes nobody.
     pub fn observed(&self, id: &ProcessId, ring: u8) -> Result<Option<Process>, AllocError>
         ensures { IfOk result (λ subject. subject ≡ observed_by (world_of self.now) id.now ring) }
     {

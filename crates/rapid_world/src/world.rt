@@ -33,8 +33,9 @@ use std::marker::Model;
 /// How many events a world accepts at most.
 const MOST_EVENTS: usize = 1_000_000;
 
-/// A world of many nodes and the packets between them, which runs by events. Its value is how it was founded and the events
-/// that it accepted, each with the mark whether its node halted in it for want of memory.
+/// A world of many nodes and the packets between them, which runs by events. Its value is how it
+/// was founded and the events that it accepted, each with the mark whether its node halted in it
+/// for want of memory.
 #[derive(Drop)]
 pub struct World {
     founding: Configuration,
@@ -77,8 +78,9 @@ impl World {
         }
     }
 
-    /// What is promised of each world: its founders can be founders, and where no two different configurations that nodes
-    /// installed share an identifier, all that holds of runs holds of its run. It does nothing: what it ensures is for proofs.
+    /// What is promised of each world: its founders can be founders, and where no two different
+    /// configurations that nodes installed share an identifier, all that holds of runs holds of its
+    /// run. It does nothing: what it ensures is for proofs.
     #[tactic(auto, using(crate::proofs::Holding::run_holds))]
     pub fn tell(&self)
         ensures params { AreParams self.now.founding.params }
@@ -182,7 +184,8 @@ impl World {
         Ok(Vec::new(self.alloc))
     }
 
-    /// The node at a place has a result of a probe of its edge to a process by this event, which is stored with its mark.
+    /// The node at a place has a result of a probe of its edge to a process by this event, which is
+    /// stored with its mark.
     pub(crate) fn probe_at(
         &mut self,
         event: WorldEvent,

@@ -1,4 +1,5 @@
-//! Tests of whole worlds. The crate has nothing else, so that a world is not proved a second time for its tests.
+//! Tests of whole worlds. The crate has nothing else, so that a world is not proved a second time
+//! for its tests.
 #![tactic(auto)]
 
 #[cfg(test)]

@@ -1,5 +1,5 @@
-// Want of memory: an event is refused for it and changes nothing, or the node halts whose step it was. The gate runs these tests once for
-// each allocation, with that one refused.
+// Want of memory: an event is refused for it and changes nothing, or the node halts whose step it
+// was. The gate runs these tests once for each allocation, with that one refused.
 
 use crate::joins::join;
 use crate::worlds::{alone, endpoint, id, process};
@@ -7,7 +7,8 @@ use rapid_world::WorldEvent::{Start, Tick};
 use rapid_world::{Report, World, WorldError, WorldEvent};
 use std::test::Fail;
 
-/// Whether a step by the event is accepted and marked as it reports, or refused for want of memory and not counted.
+/// Whether a step by the event is accepted and marked as it reports, or refused for want of memory
+/// and not counted.
 fn is_accounted_for(world: &mut World, event: &WorldEvent) -> bool {
     let before = world.accepted();
     match world.step(event) {

@@ -113,8 +113,8 @@ pub(crate) fn node_words<'a>(matches: &ArgMatches<'a>) -> Option<NodeWords<'a>> 
     }
 }
 
-/// Runs a node as its words ask, which tells of a fault, and answers the status. Where its words are
-/// refused nothing was written.
+/// Runs a node as its words ask, which tells of a fault, and answers the status. Where its words
+/// are refused nothing was written.
 pub(crate) fn run_as_node<T, R, O, E>(
     rt: &T,
     alloc: Global,

@@ -205,8 +205,8 @@ fn run_job<T: Threads + Wait + Sync, R: Read, O: Write>(
     }
 }
 
-/// Runs a command over the input, and tells of a fault. Where the status is 0, what the input prints
-/// was written, and nothing else; else a beginning of that was.
+/// Runs a command over the input, and tells of a fault. Where the status is 0, what the input
+/// prints was written, and nothing else; else a beginning of that was.
 fn run<T: Threads + Wait + Sync, R: Read, O: Write, E: Write>(
     rt: &T,
     alloc: Global,
@@ -345,9 +345,10 @@ where
 
 /// Does what the words ask for, of which the first is the program's name, and answers the status.
 /// Where that is 0, either what the input prints by a command was written, and nothing else, or the
-/// input was not read, as for help. Where it is 1, a beginning of that was written, or the input was
-/// not read and help could not be written. Where it is 2 nothing was written, and where it is 3 a
-/// beginning of what the input prints. Of what `node` writes nothing is said, unless it is refused.
+/// input was not read, as for help. Where it is 1, a beginning of that was written, or the input
+/// was not read and help could not be written. Where it is 2 nothing was written, and where it is 3
+/// a beginning of what the input prints. Of what `node` writes nothing is said, unless it is
+/// refused.
 pub fn run_words<T, S, R, O, E>(
     rt: &T,
     alloc: Global,

@@ -73,7 +73,8 @@ impl MemberState {
         Ok(())
     }
 
-    /// Gives the promise of the member at a place to the coordinator: what is to be asked for, if anything.
+    /// Gives the promise of the member at a place to the coordinator: what is to be asked for, if
+    /// anything.
     pub(super) fn hear_promise(
         &mut self,
         place: usize,

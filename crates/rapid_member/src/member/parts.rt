@@ -183,7 +183,8 @@ impl Raised {
         self.outbox.raise(alert)
     }
 
-    /// Whether some alerts may wait to be flushed: where none does, a flush gives no batch and changes nothing.
+    /// Whether some alerts may wait to be flushed: where none does, a flush gives no batch and
+    /// changes nothing.
     #[tactic(auto, using(crate::proofs::Waiting::still_flushed, crate::proofs::Waiting::none_flushed))]
     pub(crate) fn waits(&self) -> bool
         ensures none { result ≡ false → batch_of (outbox.unflushed self.now.outbox) ≡ None }

@@ -93,8 +93,8 @@ impl MemberState {
         }
     }
 
-    /// Takes a message that is about the configuration, and answers one about a configuration that was left with the
-    /// cut decided there.
+    /// Takes a message that is about the configuration, and answers one about a configuration that
+    /// was left with the cut decided there.
     fn take_or_catch_up(
         &mut self,
         out: &mut Vec<Output>,
@@ -173,9 +173,9 @@ impl MemberState {
         self.answer_joiner(out, joiner, ring, &answered)
     }
 
-    /// A message at a member, where these are the decisions of its node, and the cut that was decided, if any. On an error
-    /// the member is of no further use, but for who it is and where, and nothing that was added to the outputs is to be
-    /// sent.
+    /// A message at a member, where these are the decisions of its node, and the cut that was
+    /// decided, if any. On an error the member is of no further use, but for who it is and where,
+    /// and nothing that was added to the outputs is to be sent.
     pub fn receive(
         &mut self,
         out: &mut Vec<Output>,

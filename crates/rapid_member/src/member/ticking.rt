@@ -72,7 +72,8 @@ impl MemberState {
         Ok(())
     }
 
-    /// Adds the alert that the member raises as an echo on a process for a ring, where it observes it there.
+    /// Adds the alert that the member raises as an echo on a process for a ring, where it observes
+    /// it there.
     fn push_echo(
         &self,
         alerts: &mut Vec<Alert>,
@@ -150,7 +151,8 @@ impl MemberState {
         self.echo(unstable.as_slice())
     }
 
-    /// At every twentieth tick the fast vote, if one was cast, goes out again, and so will all alerts.
+    /// At every twentieth tick the fast vote, if one was cast, goes out again, and so will all
+    /// alerts.
     #[tactic(auto, unfolding(rapid_model::specs::Tick::repeats))]
     fn repeat(&mut self, out: &mut Vec<Output>) -> Result<(), AllocError>
         ensures state { OnOk result (self.new ≡ (tick.repeats self.old).state) }
@@ -177,7 +179,8 @@ impl MemberState {
         )
     }
 
-    /// The batch of alerts that are not flushed, if there are any, all of which are the member's for its configuration.
+    /// The batch of alerts that are not flushed, if there are any, all of which are the member's
+    /// for its configuration.
     fn flush(&mut self) -> Result<Option<Batch>, AllocError>
         ensures state { OnOk result (self.new ≡ record self.old { outbox = outbox.flush self.old.outbox }) }
         ensures batch { IfOk result (λ b. b ≡ batch_of (outbox.unflushed self.old.outbox)) }
@@ -279,9 +282,10 @@ impl MemberState {
         self.send_batch(out)
     }
 
-    /// A tick: votes and alerts go out again where they are due, then the batch, and last a ballot is begun where one is
-    /// due. The result is the cut that was decided, if any. On an error the member is of no further use, but for who it is
-    /// and where, and nothing that was added to the outputs is to be sent.
+    /// A tick: votes and alerts go out again where they are due, then the batch, and last a ballot
+    /// is begun where one is due. The result is the cut that was decided, if any. On an error the
+    /// member is of no further use, but for who it is and where, and nothing that was added to the
+    /// outputs is to be sent.
     #[tactic(auto, unfolding(rapid_model::specs::Tick::on_tick))]
     pub fn on_tick(&mut self, out: &mut Vec<Output>) -> Result<Option<Cut>, AllocError>
         ensures state { OnOk result (self.new ≡ (tick.on_tick self.old).state) }

@@ -20,8 +20,8 @@ use std::alloc::AllocError;
 use std::sync::Arc;
 
 impl MemberState {
-    /// Raises an alert, which goes out with the batch of the next tick. A refused one is ignored. Want of memory leaves
-    /// the member as it was.
+    /// Raises an alert, which goes out with the batch of the next tick. A refused one is ignored.
+    /// Want of memory leaves the member as it was.
     #[tactic(auto, unfolding(rapid_model::specs::Member::raise_alert))]
     pub fn raise(&mut self, alert: Alert) -> Result<(), AllocError>
         ensures state { OnOk result (self.new ≡ member.raise_alert self.old (alert_of alert)) }
@@ -158,7 +158,8 @@ impl MemberState {
         }
     }
 
-    /// Takes a Prepare: the promise goes to its sender, or is taken where that is the member itself.
+    /// Takes a Prepare: the promise goes to its sender, or is taken where that is the member
+    /// itself.
     #[tactic(auto, unfolding(rapid_model::specs::Member::take_prepare))]
     pub(super) fn take_prepare(
         &mut self,
