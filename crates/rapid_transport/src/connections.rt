@@ -112,16 +112,14 @@ impl Connections {
     }
 
     /// Sends a frame by the connection to this endpoint that is open, which is closed where that
-    /// fails.
-    fn send_by_open<R: Clock>(&mut self, rt: &R, to: Endpoint, frame: &Bytes) -> Outcome {
-        let Some(place) = self.place(to) else {
-            return Outcome::Broken;
-        };
+    /// fails; none where no connection is open.
+    fn send_by_open<R: Clock>(&mut self, rt: &R, to: Endpoint, frame: &Bytes) -> Option<Outcome> {
+        let place = self.place(to)?;
         let outcome = write(rt, &self.all[place].stream, frame);
         if outcome != Outcome::Sent {
             self.all.remove(place);
         }
-        outcome
+        Some(outcome)
     }
 
     /// Sends a frame by a new connection to this endpoint, which stays open where that succeeds.
@@ -142,9 +140,9 @@ impl Connections {
     }
 
     /// Sends a frame to this endpoint, by the connection that is open or else by a new one, and
-    /// says whether it was sent. Where the open one has failed, as it does when somebody cut it,
-    /// all of the frame goes by a new one. A peer that is too slow is left alone for a second:
-    /// nothing is sent to it then.
+    /// says whether it was sent without a fault. Where the open one has failed, as it does when
+    /// somebody cut it, all of the frame goes by a new one, and the answer is false. A peer that is
+    /// too slow is left alone for a second: nothing is sent to it then.
     pub(crate) fn deliver<R>(&mut self, rt: &R, to: Endpoint, frame: &Bytes) -> bool
     where
         R: Net<Listener = TcpListener, Stream = TcpStream> + Clock,
@@ -152,14 +150,16 @@ impl Connections {
         if self.slow.has(rt, to) {
             return false;
         }
-        let mut outcome = self.send_by_open(rt, to, frame);
-        if outcome == Outcome::Broken {
-            outcome = self.send_by_new(rt, to, frame);
-        }
+        let by_open = self.send_by_open(rt, to, frame);
+        let outcome = match by_open {
+            Some(Outcome::Sent) => return true,
+            Some(Outcome::Late) => Outcome::Late,
+            Some(Outcome::Broken) | None => self.send_by_new(rt, to, frame),
+        };
         if outcome == Outcome::Late {
             self.slow.add(rt, to);
         }
-        outcome == Outcome::Sent
+        by_open.is_none() && outcome == Outcome::Sent
     }
 
     /// Closes the connections that their peers have closed.
