@@ -287,6 +287,57 @@ fn two_nodes_come_to_one_view(rt: HostRuntime) -> Result<(), Fail> {
     Ok(())
 }
 
+/// Runs nine nodes at ports from this on, which lose two.
+fn nine<R>(
+    rt: &R,
+    alloc: Global,
+    seed: u16,
+    texts: (&[u8], &[u8]),
+    cuts: bool,
+) -> Result<(), &'static str>
+where
+    R: Net<Listener = TcpListener, Stream = TcpStream>
+        + Threads
+        + Wait
+        + Clock
+        + RandomSource
+        + Sync,
+{
+    let Ok(params) = Params::new(10, 9, 3) else {
+        return Err("no parameters");
+    };
+    let Ok(places) = places(alloc, params, seed, 9) else {
+        return Err("out of memory");
+    };
+    let places = places.as_slice().split_at(7.min(places.len()));
+    cluster(rt, alloc, places, texts, cuts)
+}
+
+/// Runs nine nodes so until they do as they should, three times at most: with ticks of 10
+/// milliseconds healthy nodes are expelled where the machine stands still for 0.4 seconds.
+fn nine_of_three<R>(
+    rt: &R,
+    alloc: Global,
+    seed: u16,
+    texts: (&[u8], &[u8]),
+    cuts: bool,
+) -> Result<(), &'static str>
+where
+    R: Net<Listener = TcpListener, Stream = TcpStream>
+        + Threads
+        + Wait
+        + Clock
+        + RandomSource
+        + Sync,
+{
+    for _ in 0..2 {
+        if nine(rt, alloc, seed, texts, cuts).is_ok() {
+            return Ok(());
+        }
+    }
+    nine(rt, alloc, seed, texts, cuts)
+}
+
 /// What nine nodes print that are all in.
 const NINE: &[u8] =
     b" members 127.0.0.1:7421 127.0.0.1:7422 127.0.0.1:7423 127.0.0.1:7424 127.0.0.1:7425 127.0.0.1:7426 127.0.0.1:7427 127.0.0.1:7428 127.0.0.1:7429\n";
@@ -297,9 +348,7 @@ const SEVEN: &[u8] =
 
 #[test]
 fn nine_nodes_lose_two(rt: HostRuntime) -> Result<(), Fail> {
-    let places = places(rt.alloc(), Params::new(10, 9, 3)?, 7_421, 9)?;
-    let places = places.as_slice().split_at(7.min(places.len()));
-    cluster(&rt, rt.alloc(), places, (NINE, SEVEN), false)?;
+    nine_of_three(&rt, rt.alloc(), 7_421, (NINE, SEVEN), false)?;
     Ok(())
 }
 
@@ -313,8 +362,6 @@ const SEVEN_CUT: &[u8] =
 
 #[test]
 fn nine_nodes_lose_connections_and_two(rt: HostRuntime) -> Result<(), Fail> {
-    let places = places(rt.alloc(), Params::new(10, 9, 3)?, 7_441, 9)?;
-    let places = places.as_slice().split_at(7.min(places.len()));
-    cluster(&rt, rt.alloc(), places, (NINE_CUT, SEVEN_CUT), true)?;
+    nine_of_three(&rt, rt.alloc(), 7_441, (NINE_CUT, SEVEN_CUT), true)?;
     Ok(())
 }
