@@ -79,7 +79,7 @@ fn is_over<R: Clock>(rt: &R, stopped: &mut Option<Instant>) -> bool {
 }
 
 /// Sends what is taken from the queue until it is told to stop, and then what is queued for at most
-/// 0.3 seconds more. A frame that could not be sent counts as a loss.
+/// 0.3 seconds more. A frame that could not be sent, or whose connection failed, counts as a loss.
 pub(crate) fn work<R>(rt: &R, alloc: Global, mut end: SenderEnd, stop: &AtomicBool)
 where
     R: Net<Listener = TcpListener, Stream = TcpStream> + Wait + Clock,
