@@ -1,16 +1,17 @@
 """Tries the edits crates/NAME/must-fail/*.edit: the prover must refuse each of them.
 
-The command `rt must-fail` tries them one by one, and each time reads again all that a crate stands
-on. Here the edits of a crate that change bodies of different functions are tried in one check, and
-an edit counts as refused where the prover says that the very function which it changes is not
-proved, shows what is open in it, and names nothing else that is not proved as the reason. What is
-left then, since a function calls another that is changed too, is tried again without the edits that
-are refused already. An edit that this leaves undecided, or that changes more than bodies, is tried
-alone, as that command does it. That each crate is proved without any edit was seen before, by
-`rt ci` on the same tree.
+    .ci/edits.py            at the top of the tree: `rt ci`, with the edits tried as told here
+    .ci/edits.py NAME..     `rt must-fail NAME..`, with the edits tried so
 
-The commands, the edits and their checks are those of the toolchain's own rt, which is read as a
-library.
+The command `rt` tries the edits of a crate one by one, and each time reads again all that the crate
+stands on. Here those that change bodies of different functions are tried in one check, and an edit
+counts as refused where the prover says that the very function which it changes is not proved, shows
+what is open in it, and names nothing else that is not proved as the reason. What is left then,
+since a function calls another that is changed too, is tried again without the edits that are
+refused already. An edit that this leaves undecided, or that changes more than bodies, is tried
+alone, as `rt` does it. That the crate is proved without any edit was seen before.
+
+All else is the toolchain's own rt, which is read as a library.
 """
 import functools
 import importlib.machinery
@@ -25,9 +26,10 @@ from pathlib import Path
 
 ALONE = ["--jobs", "1"]
 FUNCTION = re.compile(r"\bfn (\w+)")
-VISIBLE = re.compile(r"\bpub(?:\(\w+\))?\s*$")
+VISIBLE = re.compile(r"(?:#\[cfg\(test\)\]\s*)?(?:\bpub(?:\(\w+\))?\s*)?$")
 CLAUSE = re.compile(r"\b(?:requires|ensures|ghost)\b")
 IMPL = re.compile(r"^impl\b.*", re.M)
+TYPE = re.compile(r"\b(?:struct|enum|trait) (\w+)")
 VERDICT = re.compile(r"^fn (\S+): (proved|not proved|no proof|could not tell)(.*)$", re.M)
 RESTS_ON = re.compile(r"([^;]*), which (?:is|are) not proved")
 UNPROVED_GOAL = "`search` did not prove"
@@ -36,29 +38,23 @@ NAMES_GONE = re.compile(r"has no field|is not in scope|has no `|was not admitted
 SAYS_LITTLE = "(only because a proof names what the edit took away, so this says little)"
 UNCOVERED = "the borrow checker does not cover this function"
 
+# A function: its module, the type of its impl, if any, its name, and the other types whose names
+# begin as that type's does.
+Function = namedtuple("Function", "module owner name others")
 # An edit, the texts that it puts in place of others by file, and the functions whose bodies it
-# changes: each a module, the type of its impl, if any, and its name.
+# changes.
 Edit = namedtuple("Edit", "path pairs functions")
 
 
 def toolchain():
     """The toolchain's command rt, as a module."""
+    sys.dont_write_bytecode = True
     command = os.path.realpath(shutil.which("rt"))
     sys.path.insert(0, os.path.dirname(command))
     loader = importlib.machinery.SourceFileLoader("rt_command", command)
     module = importlib.util.module_from_spec(importlib.util.spec_from_loader("rt_command", loader))
     loader.exec_module(module)
     return module
-
-
-def crates_of(rt, root):
-    """The crates of a tree that rt ci has proved, whose libraries hold their statements alone."""
-    os.chdir(root)
-    rt.Crate.allowed = rt.handles_of(str(root))
-    rt.Crate.cuts_libraries = True
-    rt.rtlib.Crate = rt.Crate
-    rt.rtlib.guarded()
-    return rt.rtlib.crates_below(str(root))
 
 
 def pairs_of(text):
@@ -150,6 +146,19 @@ def changed_bodies(file, old, new):
     return {it for it in before if after[it] != before[it]}
 
 
+def named(keys, types):
+    """Functions given by module, type and name, in a crate of these types."""
+    for module, owner, name in keys:
+        longer = (it for it in types if owner and it.startswith(owner) and it != owner)
+        yield Function(module, owner, name, tuple(sorted(longer)))
+
+
+def types_of(folder):
+    """The names of the types and traits of a crate."""
+    texts = (it.read_text(encoding="utf-8") for it in folder.glob("src/**/*.rt"))
+    return {name for text in texts for name in TYPE.findall(text)}
+
+
 def read(path, folder):
     """An edit and the functions of a crate whose bodies it changes; none where it changes more."""
     pairs, functions = pairs_of(path.read_text(encoding="utf-8", errors="replace")), set()
@@ -161,7 +170,7 @@ def read(path, folder):
         if not changed:
             return Edit(path, pairs, frozenset())
         functions |= changed
-    return Edit(path, pairs, frozenset(functions))
+    return Edit(path, pairs, frozenset(named(functions, types_of(folder))))
 
 
 def applied(edits, folder):
@@ -184,10 +193,11 @@ def applied(edits, folder):
 
 def is_of(function, crate, verdict):
     """Whether a verdict's name is that of a function, or of a closure within it. The prover names
-    the methods of a type by the module of the type."""
-    module, owner, name = function
+    the methods of a type by the module of the type, and puts the name of a trait behind the type's."""
+    module, owner, name, others = function
     modules = r"(?:\w+::)*" if owner else re.escape(f"{module}::" if module else "")
-    owner = rf"{owner}\w*::" if owner else ""
+    barred = "".join(f"(?!{it})" for it in others)
+    owner = rf"{barred}{owner}\w*::" if owner else ""
     inner = r"(?:\+\w+::\w+|::\S+)?"
     return re.fullmatch(rf"{crate}::{modules}(?:fn::)?{owner}{name}{inner}", verdict) is not None
 
@@ -251,17 +261,14 @@ def tried_together(rt, crate, edits, kept):
     return refused
 
 
-def try_edits(rt, crate, home):
-    """Whether each edit of a crate is refused, and what to say of it. Its edits stand at home."""
-    at_home = type("AtHome", (), {"folder": str(home / "crates" / crate.name)})
-    good, bad = rt.edits_of(at_home)
-    results = [(False, f"must-fail {crate.name}/{os.path.basename(it)}: no *.edit") for it in bad]
-    well = [it for it in good if not rt.read_edit(it, crate.folder)[1]]
-    edits = [read(Path(it), Path(crate.folder)) for it in well]
-    many = [it for it in edits if it.functions]
+def tried(rt, crate, paths, _flags):
+    """Whether each edit of a crate is refused, and what to say of it."""
+    well = [it for it in paths if not rt.read_edit(it, crate.folder)[1]]
+    many = [it for it in (read(Path(it), Path(crate.folder)) for it in well) if it.functions]
+    results = []
     with tempfile.TemporaryDirectory(prefix="check-edits-") as kept:
         refused = tried_together(rt, crate, many, kept) if len(many) > 1 else {}
-        for it in good:
+        for it in paths:
             label = f"must-fail {crate.name}/{os.path.basename(it)}"
             if Path(it) in refused:
                 results.append((True, f"{label}: refused, as it must be: {refused[Path(it)]}"))
@@ -278,27 +285,11 @@ def tried_alone(rt, crate, edit, label, kept):
     return well, said
 
 
-def try_all(root, home, names=()):
-    """Tries the edits of all crates at home, or of those named, over a tree that rt ci has proved;
-    how many were refused as they must be, and how many not."""
-    here = os.getcwd()
+def main(names):
     rt = toolchain()
-    tasks = {}
-    for it in crates_of(rt, root):
-        if (home / "crates" / it.name / "must-fail").is_dir() and (not names or it.name in names):
-            call = functools.partial(in_lane, rt, it, home)
-            tasks[it.name, "edits"] = [], it.count(rb"\n"), rt.need(it), call
-    try:
-        results = rt.in_lanes(tasks)
-    finally:
-        os.chdir(here)
-    wells = [is_well for tried in results.values() for is_well in tried]
-    return sum(wells), len(wells) - sum(wells)
+    rt.must_fail_all = functools.partial(tried, rt)
+    return rt.main(["must-fail", *names] if names else ["ci"])
 
 
-def in_lane(rt, crate, home, _given, _jobs):
-    """Tries the edits of a crate and says what came of them; whether each was refused."""
-    results = try_edits(rt, crate, home)
-    lines = [f"{crate.name}: its must-fail edits ({len(results)})", *(text for _, text in results)]
-    rt.say("\nrt: ".join(lines))
-    return [is_well for is_well, _ in results]
+if __name__ == "__main__":
+    sys.exit(main(sys.argv[1:]))
