@@ -1,5 +1,5 @@
 -- While the same processes have L direct reports, the same is implied.
-use Rattle.std.proofs.Common.{◌≡◌, ℕ, ◌≤◌, Bool, true, false, ◌&&◌, ◌||◌, List, [], ◌∷◌, ◌++◌, length, map, refl, sym, ap, ◌∙◌, ◌⊎◌, inl, inr, Option, Some, None, nat_lt, nat_le, arith}
+use Rattle.std.proofs.Common.{◌≡◌, ℕ, ◌≤◌, Bool, true, false, ◌&&◌, ◌||◌, List, [], ◌++◌, map, refl, sym, ap, ◌∙◌, ◌⊎◌, inl, inr, Option, Some, None, nat_lt, nat_le, arith}
 use Rattle.std.specs.FinSet as set
 use Rattle.std.specs.List.Sorted.{IsStrictlySortedBy}
 use Rattle.std.proofs.lemmas.List.Kept.{IsStrictlySortedBy-filter}
@@ -53,10 +53,6 @@ sorted_active t r = IsStrictlySortedBy-filter process_cmp (λ s. reaches_low t r
 pub active_same : (t : Observers) (old new : Reports) (before : List Process) → AreObservers t → before ≡ active t old → AreAlike t new old → before ≡ active t new
 active_same t old new before obs b e =
     b ∙ same_sorted process_cmp processes_total processes_exact _ _ (sorted_active t old) (sorted_active t new) (λ q. sym (low_active t old q obs) ∙ sym (e q) ∙ low_active t new q obs)
-
-pub no_items : (xs : List Process) → length xs ≡ 0 → xs ≡ []
-no_items [] h = refl
-no_items (x ∷ xs) h = absurd (omega (arith, h))
 
 -- where nobody came to L reports, those that had as many still have, and no others
 pub none_grown : (t : Observers) (old new : Reports) (grown : List Process) → grown ≡ [] → HaveGrown t old new grown → AreAlike t new old

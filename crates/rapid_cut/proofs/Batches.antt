@@ -11,6 +11,7 @@ use Rattle.rapid_model.proofs.Orders.{same_bytes_decides}
 use Rattle.rapid_model.proofs.Closure.{reports_least}
 use Rattle.rapid_cut.specs.Closing.{active}
 use Rattle.rapid_cut.specs.Limits.{IsDetecting, IsKept}
+use Rattle.rapid_cut.specs.Known.{Known}
 use Rattle.rapid_cut.specs.Watching.{Watching}
 use Rattle.rapid_cut.proofs.Sets.{report_on}
 use Rattle.rapid_cut.proofs.Closing.{least_is_one, on_low}
@@ -97,7 +98,7 @@ pub view_along : {T : Type 0} (table : T) (a b : Reports) (closed : Bool) (skipp
     ◌≡◌ {A = Watching T} (record { table = table; detector = record { direct = a; closed = closed; skipped = skipped } }) (record { table = table; detector = record { direct = b; closed = closed; skipped = skipped } })
 view_along table a b closed skipped e = λ i. record { table = table; detector = record { direct = e i; closed = closed; skipped = skipped } }
 
-pub kept_along : (t : Observers) (direct direct' all all' : Reports) (listed listed' : List Process) (joined : ℕ) (closed : Bool) → direct ≡ direct' → all ≡ all' → listed ≡ listed'
-    → IsKept t direct all listed joined closed → IsKept t direct' all' listed' joined closed
-kept_along t direct direct' all all' listed listed' joined closed d a l k =
-    subst (λ x. IsKept t x all' listed' joined closed) d (subst (λ x. IsKept t direct x listed' joined closed) a (subst (λ x. IsKept t direct all x joined closed) l k))
+pub kept_along : (t : Observers) (known known' : Known) (listed listed' : List Process) (joined : ℕ) (closed : Bool) → known ≡ known' → listed ≡ listed'
+    → IsKept t known.direct known.all listed joined closed → IsKept t known'.direct known'.all listed' joined closed
+kept_along t known known' listed listed' joined closed d l k =
+    subst (λ (x : Known). IsKept t x.direct x.all listed' joined closed) d (subst (λ x. IsKept t known.direct known.all x joined closed) l k)

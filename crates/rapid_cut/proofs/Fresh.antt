@@ -1,6 +1,5 @@
 -- Sets of reports that grow, and what was before.
-use Rattle.std.proofs.Common.{◌≡◌, ℕ, ◌≤◌, ◌<◌, Bool, true, false, cond, not, ◌&&◌, ◌||◌, ◌==◌, List, [], ◌∷◌, ◌++◌, count_by, nat_le, refl, sym, ap, subst, ◌∙◌, Some, arith, eq-eqb}
-use Rattle.std.specs.List.{list_any}
+use Rattle.std.proofs.Common.{◌≡◌, ℕ, ◌≤◌, Bool, true, false, cond, not, ◌&&◌, ◌||◌, ◌==◌, List, [], ◌∷◌, ◌++◌, count_by, nat_le, refl, sym, ap, subst, ◌∙◌, Some, arith, eq-eqb}
 use Rattle.std.specs.Ordering.{eq_by_cmp}
 use Rattle.std.specs.Cmp.{both_ways}
 use Rattle.std.specs.FinSet as set
@@ -10,73 +9,147 @@ use Rattle.rapid_model.specs.Ring.{Observers, rings}
 use Rattle.rapid_model.specs.Reports.{Report, report_cmp, Reports, tally, reaches_low, Includes}
 use Rattle.rapid_model.proofs.Orders.{reports_total, reports_exact, tie_decides, same_bytes_decides}
 use Rattle.rapid_model.proofs.Closure.{count_mono}
-use Rattle.rapid_cut.specs.Growing.{without, HaveGrown}
+use Rattle.rapid_cut.specs.declared.mask.Masks.{Masks}
+use Rattle.rapid_cut.specs.declared.growing.Added.{Added}
+use Rattle.rapid_cut.specs.Known.{Known}
+use Rattle.rapid_cut.specs.Growing.{is_for, PutsMask, AddsRings, TakesOut, is_added, without_added, before, HaveGrown}
 use Rattle.rapid_cut.specs.Masks.{has_ring}
-use Rattle.rapid_cut.proofs.Masks.{with_ring, bit_more, count_same}
-use Rattle.rapid_cut.proofs.Closing.{or_left, or_right}
+use Rattle.rapid_cut.proofs.Masks.{count_same, no_ring}
+use Rattle.rapid_cut.proofs.Closing.{both, and_true, or_left, or_right}
 
 or_false : (b : Bool) → (b || false) ≡ b
 or_false true = refl
 or_false false = refl
 
-contains_without : (r : Reports) (xs : List Report) (q : Report) → set.contains (without r xs) q ≡ (set.contains r q && not (list_any (eq_by_cmp report_cmp q) xs))
-contains_without r xs q =
-    set.contains-difference reports_total r (set.from_list xs) q ∙ ap (λ b. set.contains r q && not b) (set.contains-from_list reports_total xs q)
+contains_before : (part : Masks → ℕ) (r : Reports) (xs : List Added) (q : Report) → set.contains (without_added part r xs) q ≡ (set.contains r q && not (is_added part xs q))
+contains_before part r xs q =
+    set.contains-retain r (λ x. not (is_added part xs x)) q (λ x e. ap (λ y. not (is_added part xs y)) (sym (reports_exact q x e)))
 
-pub without_none : (r : Reports) → without r [] ≡ r
-without_none r = set.same_set reports_total reports_exact _ _ (λ q. contains_without r [] q ∙ and_true (set.contains r q))
+without_none : (part : Masks → ℕ) (r : Reports) → without_added part r [] ≡ r
+without_none part r = set.same_set reports_total reports_exact _ _ (λ q. contains_before part r [] q ∙ and_true (set.contains r q))
   where
     and_true : (b : Bool) → (b && true) ≡ b
     and_true true = refl
     and_true false = refl
 
-any_push : (xs : List Report) (x q : Report) → list_any (eq_by_cmp report_cmp q) (xs ++ x ∷ []) ≡ (list_any (eq_by_cmp report_cmp q) xs || eq_by_cmp report_cmp q x)
-any_push xs x q = list_any-append (eq_by_cmp report_cmp q) xs (x ∷ []) ∙ ap (λ b. list_any (eq_by_cmp report_cmp q) xs || b) (or_false (eq_by_cmp report_cmp q x))
+pub before_none : (r : Known) (xs : List Added) → xs ≡ [] → before r xs ≡ r
+before_none r xs e = ap (before r) e ∙ (λ i. record { direct = without_none (λ m. m.direct) r.direct i; all = without_none (λ m. m.all) r.all i })
 
-absent_at : (r : Reports) (x q : Report) → set.contains r x ≡ false → eq_by_cmp report_cmp q x ≡ true → set.contains r q ≡ false
-absent_at r x q h e = subst (λ y. set.contains r y ≡ false) (sym ((tie_decides reports_total reports_exact q x).0 e)) h
+added_push : (part : Masks → ℕ) (xs : List Added) (a : Added) (q : Report) → is_added part (xs ++ a ∷ []) q ≡ (is_added part xs q || is_for a.subject (part a.rings) q)
+added_push part xs a q =
+    list_any-append (λ (b : Added). is_for b.subject (part b.rings) q) xs (a ∷ []) ∙ ap (λ b. is_added part xs q || b) (or_false (is_for a.subject (part a.rings) q))
 
--- one that is not there is listed
-pub without_new : (r : Reports) (xs : List Report) (x : Report) → set.contains r x ≡ false → without r (xs ++ x ∷ []) ≡ without r xs
-without_new r xs x h =
-    set.same_set reports_total reports_exact _ _ (λ q.
-    contains_without r (xs ++ x ∷ []) q ∙ ap (λ b. set.contains r q && not b) (any_push xs x q)
-    ∙ at (set.contains r q) (list_any (eq_by_cmp report_cmp q) xs) (eq_by_cmp report_cmp q x) (absent_at r x q h) ∙ sym (contains_without r xs q))
+-- on a process, the rings that are new are those of the reports that are not there
+pub new_for : (s : Process) (r : Reports) (mask rings fresh : ℕ) → ((k : ℕ) → set.contains r (s, k) ≡ has_ring mask k) → ((k : ℕ) → has_ring fresh k ≡ (has_ring rings k && not (has_ring mask k)))
+    → (q : Report) → is_for s fresh q ≡ (is_for s rings q && not (set.contains r q))
+new_for s r mask rings fresh at is q = inside (same_bytes s q.0) refl
   where
-    at : (a b c : Bool) → (c ≡ true → a ≡ false) → (a && not (b || c)) ≡ (a && not b)
-    at true b true i = (let no : true ≡ false = i refl in cc)
-    at true true false i = refl
-    at true false false i = refl
-    at false b c i = refl
+    inside : (b : Bool) → same_bytes s q.0 ≡ b → (b && has_ring fresh q.1) ≡ ((b && has_ring rings q.1) && not (set.contains r q))
+    inside true e = is q.1 ∙ ap (λ b. has_ring rings q.1 && not b) (sym (at q.1) ∙ ap (λ (p : Process). set.contains r (p, q.1)) ((same_bytes_decides s q.0).0 e))
+    inside false e = refl
 
--- one that is not there is listed and put in
-pub without_more : (r : Reports) (xs : List Report) (x : Report) → set.contains r x ≡ false → without (set.insert r x) (xs ++ x ∷ []) ≡ without r xs
-without_more r xs x h =
-    set.same_set reports_total reports_exact _ _ (λ q.
-    contains_without (set.insert r x) (xs ++ x ∷ []) q ∙ ap (λ b. set.contains (set.insert r x) q && not b) (any_push xs x q)
-    ∙ ap (λ b. b && not (list_any (eq_by_cmp report_cmp q) xs || eq_by_cmp report_cmp q x)) (set.contains-insert reports_total r x q)
-    ∙ at (set.contains r q) (list_any (eq_by_cmp report_cmp q) xs) (eq_by_cmp report_cmp q x) (absent_at r x q h) ∙ sym (contains_without r xs q))
+-- what is put is what was there with the rings
+pub puts_adds : (s : Process) (old new : Reports) (mask rings more : ℕ) → ((k : ℕ) → set.contains old (s, k) ≡ has_ring mask k) → ((k : ℕ) → has_ring more k ≡ (has_ring mask k || has_ring rings k))
+    → PutsMask s more old new → AddsRings s rings old new
+puts_adds s old new mask rings more at is puts q = puts q ∙ inside (same_bytes s q.0) refl
   where
-    at : (a b c : Bool) → (c ≡ true → a ≡ false) → ((c || a) && not (b || c)) ≡ (a && not b)
-    at true b true i = (let no : true ≡ false = i refl in cc)
-    at false true true i = refl
-    at false false true i = refl
-    at true true false i = refl
-    at true false false i = refl
-    at false b false i = refl
+    turn : (a b : Bool) → (a || b) ≡ (b || a)
+    turn true true = refl
+    turn true false = refl
+    turn false true = refl
+    turn false false = refl
+
+    inside : (b : Bool) → same_bytes s q.0 ≡ b → cond b (has_ring more q.1) (set.contains old q) ≡ ((b && has_ring rings q.1) || set.contains old q)
+    inside true e =
+        is q.1 ∙ turn (has_ring mask q.1) (has_ring rings q.1) ∙ ap (λ b. has_ring rings q.1 || b) (sym (at q.1) ∙ ap (λ (p : Process). set.contains old (p, q.1)) ((same_bytes_decides s q.0).0 e))
+    inside false e = refl
+
+-- rings that are not there are noted
+pub without_noted : (part : Masks → ℕ) (r : Reports) (xs : List Added) (a : Added) (rings : ℕ) → ((q : Report) → is_for a.subject (part a.rings) q ≡ (is_for a.subject rings q && not (set.contains r q)))
+    → without_added part r (xs ++ a ∷ []) ≡ without_added part r xs
+without_noted part r xs a rings new =
+    set.same_set reports_total reports_exact _ _ (λ q.
+    contains_before part r (xs ++ a ∷ []) q ∙ ap (λ b. set.contains r q && not b) (added_push part xs a q ∙ ap (λ b. is_added part xs q || b) (new q))
+    ∙ at (set.contains r q) (is_added part xs q) (is_for a.subject rings q) ∙ sym (contains_before part r xs q))
+  where
+    at : (a b c : Bool) → (a && not (b || (c && not a))) ≡ (a && not b)
+    at true true c = refl
+    at true false true = refl
+    at true false false = refl
+    at false b c = refl
+
+-- rings that are not there are noted and put in
+pub without_more : (part : Masks → ℕ) (r more : Reports) (xs : List Added) (a : Added) (rings : ℕ) → ((q : Report) → is_for a.subject (part a.rings) q ≡ (is_for a.subject rings q && not (set.contains r q)))
+    → AddsRings a.subject rings r more → without_added part more (xs ++ a ∷ []) ≡ without_added part r xs
+without_more part r more xs a rings new adds =
+    set.same_set reports_total reports_exact _ _ (λ q.
+    contains_before part more (xs ++ a ∷ []) q ∙ ap (λ b. set.contains more q && not b) (added_push part xs a q ∙ ap (λ b. is_added part xs q || b) (new q))
+    ∙ ap (λ b. b && not (is_added part xs q || (is_for a.subject rings q && not (set.contains r q)))) (adds q)
+    ∙ at (set.contains r q) (is_added part xs q) (is_for a.subject rings q) ∙ sym (contains_before part r xs q))
+  where
+    at : (a b c : Bool) → ((c || a) && not (b || (c && not a))) ≡ (a && not b)
+    at true true true = refl
+    at true true false = refl
+    at true false true = refl
+    at true false false = refl
+    at false true true = refl
+    at false true false = refl
+    at false false true = refl
+    at false false false = refl
 
 -- one of those is taken out
-pub without_next : (r : Reports) (xs : List Report) (x : Report) → without (set.remove r x) xs ≡ without r (x ∷ xs)
-without_next r xs x =
+without_next : (part : Masks → ℕ) (r less : Reports) (xs : List Added) (a : Added) → TakesOut a.subject (part a.rings) r less → without_added part less xs ≡ without_added part r (a ∷ xs)
+without_next part r less xs a takes =
     set.same_set reports_total reports_exact _ _ (λ q.
-    contains_without (set.remove r x) xs q ∙ ap (λ b. b && not (list_any (eq_by_cmp report_cmp q) xs)) (set.contains-remove reports_total r x q)
-    ∙ at (set.contains r q) (list_any (eq_by_cmp report_cmp q) xs) (eq_by_cmp report_cmp q x) ∙ sym (contains_without r (x ∷ xs) q))
+    contains_before part less xs q ∙ ap (λ b. b && not (is_added part xs q)) (takes q)
+    ∙ at (set.contains r q) (is_added part xs q) (is_for a.subject (part a.rings) q) ∙ sym (contains_before part r (a ∷ xs) q))
   where
     at : (a b c : Bool) → ((not c && a) && not b) ≡ (a && not (c || b))
     at true b true = refl
     at false b true = refl
     at true b false = refl
     at false b false = refl
+
+pub before_next : (r less : Known) (xs : List Added) (a : Added) → TakesOut a.subject a.rings.direct r.direct less.direct → TakesOut a.subject a.rings.all r.all less.all → before less xs ≡ before r (a ∷ xs)
+before_next r less xs a d e = λ i. record { direct = without_next (λ m. m.direct) r.direct less.direct xs a d i; all = without_next (λ m. m.all) r.all less.all xs a e i }
+
+-- ---- one ring
+
+-- whether it is this report
+is_this : (x : Report) (s : Process) (k : ℕ) → eq_by_cmp report_cmp x (s, k) ≡ (same_bytes s x.0 && x.1 == k)
+is_this x s k =
+    both_ways _ _
+    (λ h.
+    let e = (tie_decides reports_total reports_exact x (s, k)).0 h in
+    and_true _ _ ((same_bytes_decides s x.0).1 (sym (ap (λ (y : Report). y.0) e))) (eq-eqb x.1 k (ap (λ (y : Report). y.1) e)))
+    (λ h.
+    let p = both (same_bytes s x.0) (x.1 == k) h in
+    let a : s ≡ x.0 = (same_bytes_decides s x.0).0 p.0 in
+    let b : x.1 ≡ k = (let q = p.1 in grind (arith, q)) in
+    (tie_decides reports_total reports_exact x (s, k)).1 (λ i. (sym a i, b i)))
+
+-- a mask of one ring adds one report
+pub adds_one : (old new : Reports) (s : Process) (k mask : ℕ) → ((j : ℕ) → has_ring mask j ≡ (j == k)) → AddsRings s mask old new → new ≡ set.insert old (s, k)
+adds_one old new s k mask one adds =
+    set.same_set reports_total reports_exact _ _ (λ x.
+    adds x ∙ ap (λ b. (same_bytes s x.0 && b) || set.contains old x) (one x.1) ∙ ap (λ b. b || set.contains old x) (sym (is_this x s k)) ∙ sym (set.contains-insert reports_total old (s, k) x))
+
+-- and a mask of none adds none
+pub adds_none : (old new : Reports) (s : Process) (mask : ℕ) → mask ≡ 0 → AddsRings s mask old new → new ≡ old
+adds_none old new s mask z adds =
+    set.same_set reports_total reports_exact _ _ (λ x.
+    adds x ∙ ap (λ b. (same_bytes s x.0 && b) || set.contains old x) (ap (λ m. has_ring m x.1) z ∙ no_ring x.1) ∙ ap (λ b. b || set.contains old x) (and_false (same_bytes s x.0)))
+  where
+    and_false : (b : Bool) → (b && false) ≡ false
+    and_false true = refl
+    and_false false = refl
+
+pub none_added : (s : Process) (mask : ℕ) (r : Reports) → mask ≡ 0 → AddsRings s mask r r
+none_added s mask r z x = sym (ap (λ b. (same_bytes s x.0 && b) || set.contains r x) (ap (λ m. has_ring m x.1) z ∙ no_ring x.1) ∙ ap (λ b. b || set.contains r x) (and_false (same_bytes s x.0)))
+  where
+    and_false : (b : Bool) → (b && false) ≡ false
+    and_false true = refl
+    and_false false = refl
 
 -- ---- those that come to L reports
 
@@ -95,22 +168,23 @@ elsewhere t r s q k h =
 tally_of : (t : Observers) (r : Reports) (s : Process) (mask : ℕ) → ((k : ℕ) → set.contains r (s, k) ≡ has_ring mask k) → tally t r s ≡ count_by (has_ring mask) (rings t)
 tally_of t r s mask at = count_same (λ k. set.contains r (s, k)) (has_ring mask) (rings t) at
 
-more_at : (r : Reports) (s : Process) (k mask : ℕ) → k < 16 → ((j : ℕ) → set.contains r (s, j) ≡ has_ring mask j) → (j : ℕ) → set.contains (set.insert r (s, k)) (s, j) ≡ has_ring (with_ring mask k) j
-more_at r s k mask h at j =
-    set.contains-insert reports_total r (s, k) (s, j) ∙ ap (λ b. eq_by_cmp report_cmp (s, j) (s, k) || b) (at j)
-    ∙ ap (λ b. b || has_ring mask j) (is_this j) ∙ sym (bit_more mask k j h)
+more_at : (r : Reports) (s : Process) (k mask more : ℕ) → ((j : ℕ) → set.contains r (s, j) ≡ has_ring mask j) → ((j : ℕ) → has_ring more j ≡ (has_ring mask j || j == k))
+    → (j : ℕ) → set.contains (set.insert r (s, k)) (s, j) ≡ has_ring more j
+more_at r s k mask more at is j =
+    set.contains-insert reports_total r (s, k) (s, j) ∙ ap (λ b. b || set.contains r (s, j)) (is_this (s, j) s k ∙ ap (λ b. b && j == k) ((same_bytes_decides s s).1 refl))
+    ∙ ap (λ b. j == k || b) (at j) ∙ turn (j == k) (has_ring mask j) ∙ sym (is j)
   where
-    is_this : (j : ℕ) → eq_by_cmp report_cmp (s, j) (s, k) ≡ (j == k)
-    is_this j =
-        both_ways _ _
-        (λ i. eq-eqb j k (ap (λ (y : Report). y.1) ((tie_decides reports_total reports_exact (s, j) (s, k)).0 i)))
-        (λ i. let same : j ≡ k = grind (arith, i) in (tie_decides reports_total reports_exact (s, j) (s, k)).1 (ap (λ (n : ℕ). let y : Report = (s, n) in y) same))
+    turn : (a b : Bool) → (a || b) ≡ (b || a)
+    turn true true = refl
+    turn true false = refl
+    turn false true = refl
+    turn false false = refl
 
 -- one report more, by which its subject comes to L or does not
-pub grown_more : (t : Observers) (start r : Reports) (s : Process) (k mask : ℕ) (grown more : List Process) (was is : Bool) → k < 16 → ((j : ℕ) → set.contains r (s, j) ≡ has_ring mask j)
-    → was ≡ nat_le t.params.l (count_by (has_ring mask) (rings t)) → is ≡ nat_le t.params.l (count_by (has_ring (with_ring mask k)) (rings t))
+pub grown_more : (t : Observers) (start r : Reports) (s : Process) (k mask now : ℕ) (grown more : List Process) (was is : Bool) → ((j : ℕ) → set.contains r (s, j) ≡ has_ring mask j) → ((j : ℕ) → has_ring now j ≡ (has_ring mask j || j == k))
+    → was ≡ nat_le t.params.l (count_by (has_ring mask) (rings t)) → is ≡ nat_le t.params.l (count_by (has_ring now) (rings t))
     → more ≡ cond (not was && is) (grown ++ s ∷ []) grown → HaveGrown t start r grown → HaveGrown t start (set.insert r (s, k)) more
-grown_more t start r s k mask grown more was is h at w i m g =
+grown_more t start r s k mask now grown more was is at n w i m g =
     record {
       low = λ q.
           elim (same_bytes q s) as (λ b. same_bytes q s ≡ b → reaches_low t (set.insert r (s, k)) (Some q) ≡ (reaches_low t start (Some q) || is_in more q)) [
@@ -127,12 +201,12 @@ grown_more t start r s k mask grown more was is h at w i m g =
     was_low = w ∙ ap (nat_le t.params.l) (sym (tally_of t r s mask at))
 
     is_low : is ≡ reaches_low t (set.insert r (s, k)) (Some s)
-    is_low = i ∙ ap (nat_le t.params.l) (sym (tally_of t (set.insert r (s, k)) s (with_ring mask k) (more_at r s k mask h at)))
+    is_low = i ∙ ap (nat_le t.params.l) (sym (tally_of t (set.insert r (s, k)) s now (more_at r s k mask now at n)))
 
     up : was ≡ true → is ≡ true
     up e =
-        let c = count_mono (has_ring mask) (has_ring (with_ring mask k)) (rings t) (λ j l. bit_more mask k j h ∙ or_right _ _ l) in
-        i ∙ at_least t.params.l (count_by (has_ring mask) (rings t)) (count_by (has_ring (with_ring mask k)) (rings t)) c (sym w ∙ e)
+        let c = count_mono (has_ring mask) (has_ring now) (rings t) (λ j l. n j ∙ or_left _ _ l) in
+        i ∙ at_least t.params.l (count_by (has_ring mask) (rings t)) (count_by (has_ring now) (rings t)) c (sym w ∙ e)
       where
         at_least : (l a b : ℕ) → a ≤ b → nat_le l a ≡ true → nat_le l b ≡ true
         at_least l a b n e = grind (arith, n, e)

@@ -1,20 +1,22 @@
 -- Masks of rings as sets of reports.
-use Rattle.std.proofs.Common.{◌≡◌, ℕ, zero, suc, ◌+◌, ◌^◌, ◌*◌, ◌%◌, ◌≤◌, ◌<◌, Bool, true, false, cond, ◌&&◌, ◌||◌, ◌==◌, List, [], ◌∷◌, ◌++◌, map, filter, count_by, refl, sym, ap, subst, ◌∙◌, ◌⊎◌, inl, inr, Option, Some, None, is_some, arith, eq-eqb, ne_eqb, bit_or, bit_and, w16, nat_lt, not}
+use Rattle.std.proofs.Common.{◌≡◌, ℕ, zero, suc, ◌+◌, ◌-◌, min, max, ◌^◌, ◌*◌, ◌%◌, ◌≤◌, ◌<◌, Bool, true, false, cond, ◌&&◌, ◌||◌, ◌==◌, List, [], ◌∷◌, ◌++◌, map, filter, count_by, refl, sym, ap, subst, ◌∙◌, ◌⊎◌, inl, inr, Option, Some, None, is_some, arith, eq-eqb, ne_eqb, bit_or, bit_and, w16, nat_lt, not}
 use Rattle.std.specs.List.{list_any, range_with_len}
 use Rattle.std.specs.Int.{bit_at, bit_not}
 use Rattle.std.specs.Ordering.{eq_by_cmp}
-use Rattle.std.specs.Option.{unwrap_or}
+use Rattle.std.specs.Option.{unwrap_or, option_map}
 use Rattle.std.specs.Cmp.{both_ways, eq_by_cmp_equiv}
 use Rattle.std.specs.FinSet as set
 use Rattle.std.specs.Map.{keys_of, lookup}
 use Rattle.std.specs.BTreeMap.{is_at}
 use Rattle.std.proofs.lemmas.Bool.{cases_eq}
-use Rattle.std.proofs.lemmas.Map.Made.{is_member-filter}
-use Rattle.std.proofs.lemmas.Nat.Bits.{bit_at_set_same, bit_at_set_other, bit_at_clear_same, bit_at_clear_other, bit_at-zero}
+use Rattle.std.proofs.lemmas.Map.Made.{is_member-filter, lookup-map_values}
+use Rattle.std.proofs.lemmas.Nat.Bits.{bit_at_or, bit_at_and, bit_at_not, bit_at-lt, bit_at_set_same, bit_at_set_other, bit_at-zero, same_from_bits}
 use Rattle.rapid_model.specs.Process.{Process, process_cmp, is_in, same_bytes}
 use Rattle.rapid_model.specs.Reports.{Report, report_cmp, Reports, subjects}
 use Rattle.rapid_model.proofs.Orders.{reports_total, reports_exact, tie_decides, same_bytes_decides}
+use Rattle.rapid_cut.specs.declared.mask.Masks.{Masks}
 use Rattle.rapid_cut.specs.Masks.{has_ring, mask_of, is_reported, with_rings, reports_in}
+use Rattle.rapid_cut.specs.Growing.{PutsMask, TakesOut}
 use Rattle.rapid_cut.proofs.Sets.{subject_of, report_on}
 use Rattle.rapid_cut.proofs.Closing.{both, and_true, or_split, or_left, or_right}
 
@@ -55,7 +57,7 @@ found_in (e ∷ es) s =
 no_both : (b : Bool) → b ≡ true → b ≡ false → ⊥
 no_both b h k = cc
 
-no_ring : (k : ℕ) → has_ring 0 k ≡ false
+pub no_ring : (k : ℕ) → has_ring 0 k ≡ false
 no_ring k = elim (nat_lt k 16) as (λ b. (b && bit_at 0 k == 1) ≡ false) [ true ↦ ap (λ n. n == 1) (bit_at-zero k) | false ↦ refl ]
 
 key_of : (es : List (Process × ℕ)) (x : Report) → is_reported es x ≡ true → is_in (keys_of es) x.0 ≡ true
@@ -84,40 +86,98 @@ seen es x =
 pub none_in : reports_in [] ≡ set.empty
 none_in = set.same_set reports_total reports_exact _ _ (λ x. seen [] x ∙ no_ring x.1 ∙ sym (set.contains-empty report_cmp x))
 
+among : (mask k n a : ℕ) → a ≤ k → k < a + n → has_ring mask k ≡ true → list_any (has_ring mask) (range_with_len a n) ≡ true
+among mask k zero a low high h = absurd (omega arith)
+among mask k (suc n) a low high h =
+    elim (cases_eq a k) [
+      | inl same ↦ or_left _ _ (subst (λ j. has_ring mask j ≡ true) (sym same) h)
+      | inr other ↦ or_right _ _ (among mask k n (a + 1) (omega (arith, other)) (omega arith) h)
+    ]
+
 -- a process is reported on where its mask has a ring
 pub on_any : (r : Reports) (q : Process) (mask : ℕ) → ((k : ℕ) → set.contains r (q, k) ≡ has_ring mask k) → list_any (has_ring mask) (range_with_len 0 16) ≡ is_in (subjects r) q
 on_any r q mask at =
     both_ways _ _
     (λ h. let o = one_of (range_with_len 0 16) h in subject_of r (q, o.0) (at o.0 ∙ o.1))
-    (λ h. let o = report_on r q h in let b = sym (at o.0) ∙ o.1 in among o.0 16 0 (omega arith) (let l = below o.0 (both (nat_lt o.0 16) (bit_at mask o.0 == 1) b).0 in omega (arith, l)) b)
+    (λ h. let o = report_on r q h in let b = sym (at o.0) ∙ o.1 in among mask o.0 16 0 (omega arith) (let l = below o.0 (both (nat_lt o.0 16) (bit_at mask o.0 == 1) b).0 in omega (arith, l)) b)
   where
     one_of : (ks : List ℕ) → list_any (has_ring mask) ks ≡ true → (k : ℕ) × (has_ring mask k ≡ true)
     one_of [] h = cc
     one_of (k ∷ ks) h = elim (or_split (has_ring mask k) (list_any (has_ring mask) ks) h) [ inl here ↦ (k, here) | inr later ↦ one_of ks later ]
 
-    among : (k n a : ℕ) → a ≤ k → k < a + n → has_ring mask k ≡ true → list_any (has_ring mask) (range_with_len a n) ≡ true
-    among k zero a low high h = absurd (omega arith)
-    among k (suc n) a low high h =
-        elim (cases_eq a k) [
-          | inl same ↦ or_left _ _ (subst (λ j. has_ring mask j ≡ true) (sym same) h)
-          | inr other ↦ or_right _ _ (among k n (a + 1) (omega (arith, other)) (omega arith) h)
-        ]
+-- ---- the rings of two masks
 
--- ---- one report more
+one_bit : (n : ℕ) → n < 2 → (n ≡ 0) ⊎ (n ≡ 1)
+one_bit n h = grind (arith, h)
 
-abbrev pub with_ring : ℕ → ℕ → ℕ
-with_ring mask k = bit_or mask (1 * 2 ^ k % 65536)
+max_is : (a b : ℕ) → a < 2 → b < 2 → (max a b == 1) ≡ (a == 1 || b == 1)
+max_is a b l m =
+    elim (one_bit a l) [
+      | inl e ↦ elim (one_bit b m) [
+        | inl f ↦ rw e (rw f refl)
+        | inr f ↦ rw e (rw f refl)
+      ]
+      | inr e ↦ elim (one_bit b m) [
+        | inl f ↦ rw e (rw f refl)
+        | inr f ↦ rw e (rw f refl)
+      ]
+    ]
 
-bit_set : (mask k j : ℕ) → k < 16 → has_ring (with_ring mask k) j ≡ (j == k || has_ring mask j)
-bit_set mask k j h =
-    elim (cases_eq j k) [
-      | inl same ↦ subst (λ i. has_ring (with_ring mask k) i ≡ (i == k || has_ring mask i)) (sym same)
-          (and_true _ _ (less k h) (ap (λ n. n == 1) (bit_at_set_same w16 mask k h)) ∙ sym (or_left (k == k) (has_ring mask k) (eq-eqb k k refl)))
-      | inr other ↦ ap (λ n. nat_lt j 16 && n == 1) (bit_at_set_other w16 mask k h j other) ∙ sym (ap (λ b. b || has_ring mask j) (ne_eqb j k other))
+min_is : (a b : ℕ) → a < 2 → b < 2 → (min a (1 - b) == 1) ≡ (a == 1 && not (b == 1))
+min_is a b l m =
+    elim (one_bit a l) [
+      | inl e ↦ elim (one_bit b m) [
+        | inl f ↦ rw e (rw f refl)
+        | inr f ↦ rw e (rw f refl)
+      ]
+      | inr e ↦ elim (one_bit b m) [
+        | inl f ↦ rw e (rw f refl)
+        | inr f ↦ rw e (rw f refl)
+      ]
+    ]
+
+and_or : (l a b : Bool) → (l && (a || b)) ≡ ((l && a) || (l && b))
+and_or true a b = refl
+and_or false a b = refl
+
+pub ring_or : (mask rings k : ℕ) → has_ring (bit_or mask rings) k ≡ (has_ring mask k || has_ring rings k)
+ring_or mask rings k =
+    ap (λ n. nat_lt k 16 && n == 1) (bit_at_or mask rings k)
+    ∙ ap (λ b. nat_lt k 16 && b) (max_is (bit_at mask k) (bit_at rings k) (bit_at-lt mask k) (bit_at-lt rings k))
+    ∙ and_or (nat_lt k 16) (bit_at mask k == 1) (bit_at rings k == 1)
+
+pub ring_and_not : (mask rings k : ℕ) → rings < 65536 → has_ring (bit_and mask (bit_not w16 rings)) k ≡ (has_ring mask k && not (has_ring rings k))
+ring_and_not mask rings k within =
+    elim (nat_lt k 16) as (λ l. nat_lt k 16 ≡ l → (l && bit_at (bit_and mask (bit_not w16 rings)) k == 1) ≡ ((l && bit_at mask k == 1) && not (l && bit_at rings k == 1))) [
+      | true ↦ λ e.
+          ap (λ n. n == 1) (bit_at_and mask (bit_not w16 rings) k ∙ ap (λ n. min (bit_at mask k) n) (bit_at_not w16 rings k within (below k e)))
+          ∙ min_is (bit_at mask k) (bit_at rings k) (bit_at-lt mask k) (bit_at-lt rings k)
+      | false ↦ λ e. refl
+    ] refl
+
+pub ring_one : (ring k : ℕ) → ring < 16 → has_ring (1 * 2 ^ ring % 65536) k ≡ (k == ring)
+ring_one ring k h =
+    ap (λ n. has_ring n k) (sym (or_zero (1 * 2 ^ ring % 65536)))
+    ∙ elim (cases_eq k ring) [
+      | inl same ↦ subst (λ i. has_ring (bit_or 0 (1 * 2 ^ ring % 65536)) i ≡ (i == ring)) (sym same)
+          (and_true _ _ (less ring h) (ap (λ n. n == 1) (bit_at_set_same w16 0 ring h)) ∙ sym (eq-eqb ring ring refl))
+      | inr other ↦ ap (λ n. nat_lt k 16 && n == 1) (bit_at_set_other w16 0 ring h k other ∙ bit_at-zero k) ∙ and_false (nat_lt k 16) ∙ sym (ne_eqb k ring other)
     ]
   where
     less : (n : ℕ) → n < 16 → nat_lt n 16 ≡ true
     less n e = grind arith
+
+    and_false : (b : Bool) → (b && false) ≡ false
+    and_false true = refl
+    and_false false = refl
+
+    or_zero : (n : ℕ) → bit_or 0 n ≡ n
+    or_zero n = same_from_bits (bit_or 0 n) n (λ i. bit_at_or 0 n i ∙ ap (λ m. max m (bit_at n i)) (bit_at-zero i) ∙ more (bit_at n i))
+      where
+        more : (n : ℕ) → max 0 n ≡ n
+        more n = grind arith
+
+-- ---- other masks for a process
 
 -- the reports of masks that differ in that of one process
 changed : (es ns : List (Process × ℕ)) (s : Process) (m : ℕ) → ((q : Process) → lookup (is_at (process_cmp q)) ns ≡ cond (is_at (process_cmp s) q) (Some m) (lookup (is_at (process_cmp q)) es))
@@ -129,85 +189,72 @@ changed es ns s m at x =
     inside true = refl
     inside false = refl
 
--- whether it is this report
-is_this : (x : Report) (s : Process) (k : ℕ) → eq_by_cmp report_cmp x (s, k) ≡ (same_bytes s x.0 && x.1 == k)
-is_this x s k =
-    both_ways _ _
-    (λ h.
-    let e = (tie_decides reports_total reports_exact x (s, k)).0 h in
-    and_true _ _ ((same_bytes_decides s x.0).1 (sym (ap (λ (y : Report). y.0) e))) (eq-eqb x.1 k (ap (λ (y : Report). y.1) e)))
-    (λ h.
-    let p = both (same_bytes s x.0) (x.1 == k) h in
-    let a : s ≡ x.0 = (same_bytes_decides s x.0).0 p.0 in
-    let b : x.1 ≡ k = (let q = p.1 in grind (arith, q)) in
-    (tie_decides reports_total reports_exact x (s, k)).1 (λ i. (sym a i, b i)))
+-- the entries of one part of the masks
+abbrev pub parts : (Masks → ℕ) → List (Process × Masks) → List (Process × ℕ)
+parts part es = map (λ e. (e.0, part e.1)) es
 
-pub more_in : (es ns : List (Process × ℕ)) (s : Process) (k mask : ℕ) → k < 16 → ((j : ℕ) → has_ring mask j ≡ has_ring (mask_of es s) j)
-    → ((q : Process) → lookup (is_at (process_cmp q)) ns ≡ cond (is_at (process_cmp s) q) (Some (with_ring mask k)) (lookup (is_at (process_cmp q)) es)) → reports_in ns ≡ set.insert (reports_in es) (s, k)
-more_in es ns s k mask h like at =
-    set.same_set reports_total reports_exact _ _ (λ x.
-    seen ns x ∙ changed es ns s (with_ring mask k) at x ∙ same x
-    ∙ ap (λ b. eq_by_cmp report_cmp x (s, k) || b) (sym (seen es x)) ∙ sym (set.contains-insert reports_total (reports_in es) (s, k) x))
+pub part_at : (part : Masks → ℕ) (es : List (Process × Masks)) (q : Process) → lookup (is_at (process_cmp q)) (parts part es) ≡ option_map part (lookup (is_at (process_cmp q)) es)
+part_at part es q = lookup-map_values part (is_at (process_cmp q)) es
+
+pub puts_in : (part : Masks → ℕ) (es ns : List (Process × Masks)) (s : Process) (m : Masks) → ((q : Process) → lookup (is_at (process_cmp q)) ns ≡ cond (is_at (process_cmp s) q) (Some m) (lookup (is_at (process_cmp q)) es))
+    → PutsMask s (part m) (reports_in (parts part es)) (reports_in (parts part ns))
+puts_in part es ns s m at x =
+    seen (parts part ns) x ∙ changed (parts part es) (parts part ns) s (part m) (λ q. part_at part ns q ∙ ap (option_map part) (at q) ∙ inside (same_bytes s q) q) x
+    ∙ ap (λ b. cond (same_bytes s x.0) (has_ring (part m) x.1) b) (sym (seen (parts part es) x))
   where
-    same : (x : Report) → cond (same_bytes s x.0) (has_ring (with_ring mask k) x.1) (is_reported es x) ≡ (eq_by_cmp report_cmp x (s, k) || is_reported es x)
-    same x =
-        elim (same_bytes s x.0) as (λ b. same_bytes s x.0 ≡ b → cond b (has_ring (with_ring mask k) x.1) (is_reported es x) ≡ ((b && x.1 == k) || is_reported es x)) [
-          | true ↦ λ e. bit_set mask k x.1 h ∙ ap (λ b. x.1 == k || b) (like x.1 ∙ ap (λ p. has_ring (mask_of es p) x.1) ((same_bytes_decides s x.0).0 e))
-          | false ↦ λ e. refl
-        ] refl ∙ ap (λ b. b || is_reported es x) (sym (is_this x s k))
+    inside : (b : Bool) (q : Process) → option_map part (cond b (Some m) (lookup (is_at (process_cmp q)) es)) ≡ cond b (Some (part m)) (lookup (is_at (process_cmp q)) (parts part es))
+    inside true q = refl
+    inside false q = sym (part_at part es q)
 
--- ---- one report less
-
-abbrev pub without_ring : ℕ → ℕ → ℕ
-without_ring mask k = bit_and mask (bit_not w16 (1 * 2 ^ k % 65536))
-
-bit_cleared : (mask k j : ℕ) → k < 16 → has_ring (without_ring mask k) j ≡ (not (j == k) && has_ring mask j)
-bit_cleared mask k j h =
-    elim (cases_eq j k) [
-      | inl same ↦ subst (λ i. has_ring (without_ring mask k) i ≡ (not (i == k) && has_ring mask i)) (sym same)
-          (gone (nat_lt k 16) (ap (λ n. n == 1) (bit_at_clear_same w16 mask k h)) ∙ sym (ap (λ b. not b && has_ring mask k) (eq-eqb k k refl)))
-      | inr other ↦ stays (nat_lt j 16) (λ l. ap (λ n. n == 1) (bit_at_clear_other w16 mask k h j (below j l) other)) ∙ sym (ap (λ b. not b && has_ring mask j) (ne_eqb j k other))
-    ]
+-- what the masks of a process say
+pub seen_part : (part : Masks → ℕ) (es : List (Process × Masks)) (s : Process) (none found : Masks) (k : ℕ) → part none ≡ 0 → found ≡ unwrap_or (lookup (is_at (process_cmp s)) es) none
+    → set.contains (reports_in (parts part es)) (s, k) ≡ has_ring (part found) k
+seen_part part es s none found k z e =
+    seen (parts part es) (s, k) ∙ ap (λ (o : Option ℕ). has_ring (unwrap_or o 0) k) (part_at part es s) ∙ ap (λ n. has_ring n k) (inside (lookup (is_at (process_cmp s)) es) ∙ ap part (sym e))
   where
-    gone : (b : Bool) → (bit_at (without_ring mask k) k == 1) ≡ false → (b && bit_at (without_ring mask k) k == 1) ≡ false
-    gone true e = e
-    gone false e = refl
+    inside : (o : Option Masks) → unwrap_or (option_map part o) 0 ≡ part (unwrap_or o none)
+    inside None = sym z
+    inside (Some m) = refl
 
-    stays : (b : Bool) → (b ≡ true → (bit_at (without_ring mask k) j == 1) ≡ (bit_at mask j == 1)) → (b && bit_at (without_ring mask k) j == 1) ≡ (b && bit_at mask j == 1)
-    stays true e = e refl
-    stays false e = refl
-
-pub less_in : (es ns : List (Process × ℕ)) (s : Process) (k mask : ℕ) → k < 16 → ((j : ℕ) → has_ring mask j ≡ has_ring (mask_of es s) j)
-    → ((q : Process) → lookup (is_at (process_cmp q)) ns ≡ cond (is_at (process_cmp s) q) (Some (without_ring mask k)) (lookup (is_at (process_cmp q)) es)) → reports_in ns ≡ set.remove (reports_in es) (s, k)
-less_in es ns s k mask h like at =
-    set.same_set reports_total reports_exact _ _ (λ x.
-    seen ns x ∙ changed es ns s (without_ring mask k) at x ∙ same x
-    ∙ ap (λ b. not (eq_by_cmp report_cmp x (s, k)) && b) (sym (seen es x)) ∙ sym (set.contains-remove reports_total (reports_in es) (s, k) x))
+-- without the rings of a mask
+pub takes_in : (s : Process) (rings mask : ℕ) (old new : Reports) → ((k : ℕ) → set.contains old (s, k) ≡ has_ring mask k) → (less : ℕ) → ((k : ℕ) → has_ring less k ≡ (has_ring mask k && not (has_ring rings k)))
+    → PutsMask s less old new → TakesOut s rings old new
+takes_in s rings mask old new at less is puts x =
+    puts x ∙ inside (same_bytes s x.0) refl
   where
-    same : (x : Report) → cond (same_bytes s x.0) (has_ring (without_ring mask k) x.1) (is_reported es x) ≡ (not (eq_by_cmp report_cmp x (s, k)) && is_reported es x)
-    same x =
-        elim (same_bytes s x.0) as (λ b. same_bytes s x.0 ≡ b → cond b (has_ring (without_ring mask k) x.1) (is_reported es x) ≡ (not (b && x.1 == k) && is_reported es x)) [
-          | true ↦ λ e. bit_cleared mask k x.1 h ∙ ap (λ b. not (x.1 == k) && b) (like x.1 ∙ ap (λ p. has_ring (mask_of es p) x.1) ((same_bytes_decides s x.0).0 e))
-          | false ↦ λ e. refl
-        ] refl ∙ ap (λ b. not b && is_reported es x) (sym (is_this x s k))
+    turn : (a b : Bool) → (a && not b) ≡ (not b && a)
+    turn true true = refl
+    turn true false = refl
+    turn false true = refl
+    turn false false = refl
 
--- what is not there need not be taken out
-pub none_less : (r : Reports) (x : Report) → set.contains r x ≡ false → r ≡ set.remove r x
-none_less r x h =
-    set.same_set reports_total reports_exact _ _ (λ q. stays q (eq_by_cmp report_cmp q x) refl ∙ sym (set.contains-remove reports_total r x q))
+    inside : (b : Bool) → same_bytes s x.0 ≡ b → cond b (has_ring less x.1) (set.contains old x) ≡ (not (b && has_ring rings x.1) && set.contains old x)
+    inside true e = is x.1 ∙ turn (has_ring mask x.1) (has_ring rings x.1) ∙ ap (λ b. not (has_ring rings x.1) && b) (sym (at x.1) ∙ ap (λ (p : Process). set.contains old (p, x.1)) ((same_bytes_decides s x.0).0 e))
+    inside false e = refl
+
+pub takes_none : (s : Process) (rings : ℕ) (r : Reports) → ((k : ℕ) → set.contains r (s, k) ≡ false) → TakesOut s rings r r
+takes_none s rings r none x = inside (same_bytes s x.0) refl
   where
-    stays : (q : Report) (b : Bool) → eq_by_cmp report_cmp q x ≡ b → set.contains r q ≡ (not b && set.contains r q)
-    stays q true e = subst (λ y. set.contains r y ≡ false) (sym ((tie_decides reports_total reports_exact q x).0 e)) h
-    stays q false e = refl
+    inside : (b : Bool) → same_bytes s x.0 ≡ b → set.contains r x ≡ (not (b && has_ring rings x.1) && set.contains r x)
+    inside true e = (let no : set.contains r x ≡ false = sym (ap (λ (p : Process). set.contains r (p, x.1)) ((same_bytes_decides s x.0).0 e)) ∙ none x.1 in no ∙ sym (and_none (not (has_ring rings x.1)) no))
+      where
+        and_none : (a : Bool) → set.contains r x ≡ false → (a && set.contains r x) ≡ false
+        and_none true e = e
+        and_none false e = refl
+    inside false e = refl
 
-pub no_key : (es : List (Process × ℕ)) (s : Process) (k : ℕ) → lookup (is_at (process_cmp s)) es ≡ None → has_ring (mask_of es s) k ≡ false
-no_key es s k h = ap (λ (o : Option ℕ). has_ring (unwrap_or o 0) k) h ∙ no_ring k
+pub takes_some : (part : Masks → ℕ) (es ns : List (Process × Masks)) (s : Process) (masks less rings : Masks) → lookup (is_at (process_cmp s)) es ≡ Some masks
+    → ((q : Process) → lookup (is_at (process_cmp q)) ns ≡ cond (is_at (process_cmp s) q) (Some less) (lookup (is_at (process_cmp q)) es)) → ((k : ℕ) → has_ring (part less) k ≡ (has_ring (part masks) k && not (has_ring (part rings) k)))
+    → TakesOut s (part rings) (reports_in (parts part es)) (reports_in (parts part ns))
+takes_some part es ns s masks less rings found at is =
+    takes_in s (part rings) (part masks) (reports_in (parts part es)) (reports_in (parts part ns))
+    (λ k. seen (parts part es) (s, k) ∙ ap (λ (o : Option ℕ). has_ring (unwrap_or o 0) k) (part_at part es s ∙ ap (option_map part) found))
+    (part less) is (puts_in part es ns s less at)
 
-pub below_sixteen : (mask k : ℕ) → has_ring mask k ≡ true → k < 16
-below_sixteen mask k h = below k (both (nat_lt k 16) (bit_at mask k == 1) h).0
-
-pub bit_more : (mask k j : ℕ) → k < 16 → has_ring (with_ring mask k) j ≡ (j == k || has_ring mask j)
-bit_more = bit_set
+pub takes_absent : (part : Masks → ℕ) (es : List (Process × Masks)) (s : Process) (rings : ℕ) → lookup (is_at (process_cmp s)) es ≡ None → TakesOut s rings (reports_in (parts part es)) (reports_in (parts part es))
+takes_absent part es s rings none =
+    takes_none s rings (reports_in (parts part es)) (λ k.
+    seen (parts part es) (s, k) ∙ ap (λ (o : Option ℕ). has_ring (unwrap_or o 0) k) (part_at part es s ∙ ap (option_map part) none) ∙ no_ring k)
 
 -- ---- the tally of a mask
 

@@ -1,80 +1,22 @@
 -- One pass over the processes adds what the direct reports imply.
-use Rattle.std.proofs.Common.{◌≡◌, ℕ, ◌+◌, ◌≤◌, ◌<◌, Bool, true, false, ◌&&◌, ◌||◌, List, [], ◌∷◌, length, drop, get_or, filter, zero, suc, add-one, refl, sym, ap, subst, ◌∙◌, Some, ◌⊎◌, inl, inr, nat_lt, arith}
-use Rattle.std.specs.Ordering.{eq_by_cmp}
+use Rattle.std.proofs.Common.{◌≡◌, ℕ, ◌+◌, ◌≤◌, ◌<◌, Bool, true, false, not, ◌==◌, ◌&&◌, ◌||◌, List, [], ◌∷◌, length, drop, get_or, filter, zero, suc, add-one, refl, sym, ap, subst, ◌∙◌, Some, ◌⊎◌, inl, inr, nat_lt, arith, eq-eqb, ne_eqb}
 use Rattle.std.specs.Cmp.{both_ways}
 use Rattle.std.specs.FinSet as set
+use Rattle.std.proofs.lemmas.Bool.{cases_eq}
 use Rattle.rapid_model.specs.Process.{Process, is_in, same_bytes}
 use Rattle.rapid_model.specs.Ring.{Observers, AreObservers}
-use Rattle.rapid_model.specs.Reports.{Report, report_cmp, Reports, reaches_low, is_implied, Includes, subjects, reports}
-use Rattle.rapid_model.proofs.Orders.{reports_total, reports_exact, tie_decides, same_bytes_decides}
+use Rattle.rapid_model.specs.Reports.{Report, Reports, reaches_low, is_implied, subjects, reports}
+use Rattle.rapid_model.proofs.Orders.{reports_total, reports_exact, same_bytes_decides}
 use Rattle.rapid_cut.specs.Closing.{AddsImplied, IsBetween, active}
+use Rattle.rapid_cut.specs.Masks.{has_ring}
+use Rattle.rapid_cut.specs.Growing.{is_for, AddsRings}
+use Rattle.rapid_cut.proofs.Masks.{no_ring}
 use Rattle.rapid_cut.proofs.Sets.{subject_of}
 use Rattle.rapid_cut.proofs.Closing.{both, and_true, or_split, or_left, or_right, ring_below, on_low}
 use Rattle.rapid_cut.proofs.Joiners.{in_filter}
 use Rattle.rapid_cut.proofs.OnePass.{one_pass}
 
-own_report : (x : Report) → eq_by_cmp report_cmp x x ≡ true
-own_report x = (tie_decides reports_total reports_exact x x).1 refl
-
-contains_more : (r : Reports) (x y : Report) → set.contains (set.insert r x) y ≡ (eq_by_cmp report_cmp y x || set.contains r y)
-contains_more r x y = set.contains-insert reports_total r x y
-
 -- ---- the rings of one process
-
-pub record IsAdding (t : Observers) (direct : Reports) (s : Process) (old : Reports) (n : ℕ) (new : Reports) : Type 0 where
-  pub includes : Includes new old
-  pub implied : (x : Report) → set.contains new x ≡ true → (set.contains old x ≡ true) ⊎ (is_implied t direct x ≡ true)
-  pub below : (k : ℕ) → k < n → is_implied t direct (s, k) ≡ true → set.contains new (s, k) ≡ true
-
-pub adding_none : (t : Observers) (direct : Reports) (s : Process) (old : Reports) → IsAdding t direct s old 0 old
-adding_none t direct s old = record { includes = λ x h. h; implied = λ x h. inl h; below = λ k l h. absurd (omega (arith, l)) }
-
-next : (k n : ℕ) → k < n + 1 → (k < n) ⊎ (k ≡ n)
-next k n h = grind (arith, h)
-
-pub adding_one : (t : Observers) (direct : Reports) (s : Process) (old : Reports) (n : ℕ) (new more : Reports) → is_implied t direct (s, n) ≡ true → more ≡ set.insert new (s, n) → IsAdding t direct s old n new → IsAdding t direct s old (n + 1) more
-adding_one t direct s old n new more i e a =
-    subst (IsAdding t direct s old (n + 1)) (sym e) (record {
-      includes = λ x h. contains_more new (s, n) x ∙ or_right _ _ (a.includes x h);
-      implied = λ x h.
-          elim (or_split (eq_by_cmp report_cmp x (s, n)) (set.contains new x) (sym (contains_more new (s, n) x) ∙ h)) [
-            | inl at ↦ inr (subst (λ y. is_implied t direct y ≡ true) (sym ((tie_decides reports_total reports_exact x (s, n)).0 at)) i)
-            | inr there ↦ a.implied x there
-          ];
-      below = λ k l h.
-          elim (next k n l) [
-            | inl less ↦ contains_more new (s, n) (s, k) ∙ or_right _ _ (a.below k less h)
-            | inr same ↦ contains_more new (s, n) (s, k) ∙ or_left _ _ (subst (λ j. eq_by_cmp report_cmp (s, k) (s, j) ≡ true) same (own_report (s, k)))
-          ];
-    })
-
-no_both : (b : Bool) → b ≡ true → b ≡ false → ⊥
-no_both b h k = cc
-
-pub adding_skip : (t : Observers) (direct : Reports) (s : Process) (old : Reports) (n : ℕ) (new more : Reports) → is_implied t direct (s, n) ≡ false → more ≡ new → IsAdding t direct s old n new → IsAdding t direct s old (n + 1) more
-adding_skip t direct s old n new more i e a =
-    subst (IsAdding t direct s old (n + 1)) (sym e) (record {
-      includes = a.includes;
-      implied = a.implied;
-      below = λ k l h.
-          elim (next k n l) [
-            | inl less ↦ a.below k less h
-            | inr same ↦ absurd (no_both _ (subst (λ j. is_implied t direct (s, j) ≡ true) same h) i)
-          ];
-    })
-
--- a report that was there before
-pub adding_there : (t : Observers) (direct : Reports) (s : Process) (old : Reports) (n : ℕ) (new more : Reports) → set.contains old (s, n) ≡ true → more ≡ new → IsAdding t direct s old n new → IsAdding t direct s old (n + 1) more
-adding_there t direct s old n new more i e a =
-    subst (IsAdding t direct s old (n + 1)) (sym e) (record {
-      includes = a.includes;
-      implied = a.implied;
-      below = λ k l h.
-          elim (next k n l) [
-            | inl less ↦ a.below k less h
-            | inr same ↦ a.includes (s, k) (subst (λ j. set.contains old (s, j) ≡ true) (sym same) i)
-          ];
-    })
 
 pub implied_is : (t : Observers) (r : Reports) (s : Process) (n : ℕ) (b : Bool) → n < t.params.k → reaches_low t r (Some s) ≡ true → b ≡ reaches_low t r (t.observer n s) → is_implied t r (s, n) ≡ b
 implied_is t r s n b l low e =
@@ -84,13 +26,96 @@ implied_is t r s n b l low e =
     less : (m k : ℕ) → m < k → nat_lt m k ≡ true
     less m k h = grind (arith, h)
 
-pub adding_all : (t : Observers) (direct : Reports) (s : Process) (old : Reports) (n : ℕ) (new : Reports) → t.params.k ≤ n → IsAdding t direct s old n new → AddsImplied t direct s old new
-adding_all t direct s old n new done a =
+-- the report is implied, and the mask has not its ring
+abbrev pub is_missing : Observers → Reports → Process → ℕ → ℕ → Bool
+is_missing t direct s mask k = not (has_ring mask k) && is_implied t direct (s, k)
+
+pub missing_is : (t : Observers) (direct : Reports) (s : Process) (mask n : ℕ) (b : Bool) → n < t.params.k → reaches_low t direct (Some s) ≡ true → b ≡ (not (has_ring mask n) && reaches_low t direct (t.observer n s))
+    → b ≡ is_missing t direct s mask n
+missing_is t direct s mask n b l low e = e ∙ ap (λ c. not (has_ring mask n) && c) (sym (implied_is t direct s n _ l low refl))
+
+-- the rings of the mask are those below n that miss
+abbrev pub AreMissing : Observers → Reports → Process → ℕ → ℕ → ℕ → Type 0
+AreMissing t direct s mask n rings = (k : ℕ) → has_ring rings k ≡ (nat_lt k n && is_missing t direct s mask k)
+
+pub missing_none : (t : Observers) (direct : Reports) (s : Process) (mask : ℕ) → AreMissing t direct s mask 0 0
+missing_none t direct s mask k = no_ring k ∙ ap (λ b. b && is_missing t direct s mask k) (none k)
+  where
+    none : (k : ℕ) → false ≡ nat_lt k 0
+    none k = grind arith
+
+pub missing_more : (t : Observers) (direct : Reports) (s : Process) (mask n rings more : ℕ) (b : Bool) → b ≡ is_missing t direct s mask n → ((k : ℕ) → has_ring more k ≡ (has_ring rings k || (b && k == n)))
+    → AreMissing t direct s mask n rings → AreMissing t direct s mask (n + 1) more
+missing_more t direct s mask n rings more b e is h k =
+    is k ∙ ap (λ c. c || (b && k == n)) (h k) ∙ ap (λ c. (nat_lt k n && is_missing t direct s mask k) || (c && k == n)) e
+    ∙ elim (cases_eq k n) [
+      | inl same ↦ subst (λ j. ((nat_lt j n && is_missing t direct s mask j) || (is_missing t direct s mask n && j == n)) ≡ (nat_lt j (n + 1) && is_missing t direct s mask j)) (sym same)
+          (here (nat_lt n n) (n == n) (nat_lt n (n + 1)) (is_missing t direct s mask n) (not_less n) (eq-eqb n n refl) (less n))
+      | inr other ↦ there (nat_lt k n) (k == n) (nat_lt k (n + 1)) (is_missing t direct s mask k) (is_missing t direct s mask n) (ne_eqb k n other) (alike k n other)
+    ]
+  where
+    not_less : (n : ℕ) → nat_lt n n ≡ false
+    not_less n = grind arith
+
+    less : (n : ℕ) → nat_lt n (n + 1) ≡ true
+    less n = grind arith
+
+    alike : (k n : ℕ) → (k ≡ n → ⊥) → nat_lt k n ≡ nat_lt k (n + 1)
+    alike k n o = both_ways _ _ (λ h. grind (arith, h)) (λ h. grind (arith, h, o))
+
+    or_false : (b : Bool) → (b || false) ≡ b
+    or_false true = refl
+    or_false false = refl
+
+    and_true : (b : Bool) → (b && true) ≡ b
+    and_true true = refl
+    and_true false = refl
+
+    and_false : (b : Bool) → (b && false) ≡ false
+    and_false true = refl
+    and_false false = refl
+
+    here : (a b c m : Bool) → a ≡ false → b ≡ true → c ≡ true → ((a && m) || (m && b)) ≡ (c && m)
+    here a b c m e f g = ap (λ x. (x && m) || (m && b)) e ∙ ap (λ x. m && x) f ∙ and_true m ∙ sym (ap (λ x. x && m) g)
+
+    there : (a b c m o : Bool) → b ≡ false → a ≡ c → ((a && m) || (o && b)) ≡ (c && m)
+    there a b c m o e f = ap (λ x. (a && m) || (o && x)) e ∙ ap (λ x. (a && m) || x) (and_false o) ∙ or_false (a && m) ∙ ap (λ x. x && m) f
+
+pub missing_all : (t : Observers) (direct : Reports) (s : Process) (mask n rings : ℕ) → t.params.k ≤ n → AreMissing t direct s mask n rings → (k : ℕ) → has_ring rings k ≡ is_missing t direct s mask k
+missing_all t direct s mask n rings done h k =
+    h k ∙ and_is (nat_lt k n) (is_missing t direct s mask k) (λ m. less k n (let l = ring_below t direct (s, k) (both (not (has_ring mask k)) (is_implied t direct (s, k)) m).1 in omega (arith, l, done)))
+  where
+    less : (m k : ℕ) → m < k → nat_lt m k ≡ true
+    less m k h = grind (arith, h)
+
+    and_is : (a b : Bool) → (b ≡ true → a ≡ true) → (a && b) ≡ b
+    and_is true b h = refl
+    and_is false true h = h refl
+    and_is false false h = refl
+
+-- added, they are what the direct reports imply on the process
+pub adds_implied : (t : Observers) (direct : Reports) (s : Process) (old new : Reports) (mask rings : ℕ) → ((k : ℕ) → set.contains old (s, k) ≡ has_ring mask k)
+    → ((k : ℕ) → has_ring rings k ≡ is_missing t direct s mask k) → AddsRings s rings old new → AddsImplied t direct s old new
+adds_implied t direct s old new mask rings at is adds =
     record {
-      includes = a.includes;
-      implied = a.implied;
-      all = λ k h. a.below k (let l = ring_below t direct (s, k) h in omega (arith, l, done)) h;
+      includes = λ x h. adds x ∙ or_right _ _ h;
+      implied = λ x h.
+          elim (or_split (is_for s rings x) (set.contains old x) (sym (adds x) ∙ h)) [
+            | inl came ↦ (
+                let p = both (same_bytes s x.0) (has_ring rings x.1) came in
+                let q = both (not (has_ring mask x.1)) (is_implied t direct (s, x.1)) (sym (is x.1) ∙ p.1) in
+                inr (subst (λ o. is_implied t direct (o, x.1) ≡ true) ((same_bytes_decides s x.0).0 p.0) q.1)
+                )
+            | inr there ↦ inl there
+          ];
+      all = λ k h.
+          adds (s, k) ∙ ap (λ b. (b && has_ring rings k) || set.contains old (s, k)) ((same_bytes_decides s s).1 refl)
+          ∙ ap (λ b. b || set.contains old (s, k)) (is k ∙ ap (λ b. not (has_ring mask k) && b) h) ∙ ap (λ b. (not (has_ring mask k) && true) || b) (at k) ∙ either (has_ring mask k);
     }
+  where
+    either : (b : Bool) → ((not b && true) || b) ≡ true
+    either true = refl
+    either false = refl
 
 -- ---- the processes
 

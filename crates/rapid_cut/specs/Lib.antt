@@ -2,6 +2,7 @@ pub mod Closing
 pub mod Growing
 pub mod Keeping
 pub mod Keys
+pub mod Known
 pub mod Laws
 pub mod Limits
 pub mod Masks

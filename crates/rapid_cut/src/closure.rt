@@ -1,41 +1,44 @@
 // The reports that a set implies.
 
-ghost use Rattle.std.specs.Prelude.{◌≡◌, true, ◌||◌, Some, IfOk, OnOk};
+ghost use Rattle.std.specs.Prelude.{◌≡◌, ℕ, true, not, ◌&&◌, ◌||◌, ◌==◌, ◌<◌, count_by, nat_le, Some, IfOk, OnOk};
 ghost use Rattle.std.specs.Map.{lookup};
 ghost use Rattle.std.specs.BTreeMap.{is_at};
 ghost use Rattle.rapid_model.specs.Process.{Process as Bytes, process_cmp, is_in};
-ghost use Rattle.rapid_model.specs.Ring.{AreObservers};
+ghost use Rattle.rapid_model.specs.Ring.{AreObservers, rings};
 ghost use Rattle.rapid_model.specs.Reports as model;
 ghost use Rattle.rapid_cut.specs.Closing.{AddsImplied, IsBetween, active as active_of};
-ghost use Rattle.rapid_cut.specs.Growing.{without};
+ghost use Rattle.rapid_cut.specs.Growing.{before};
 ghost use Rattle.rapid_cut.specs.Keeping.{AreKept};
+ghost use Rattle.rapid_cut.specs.Masks.{has_ring};
 
 use crate::ascending::ascending;
-use crate::growing::GrowingSet;
+use crate::growing::GrowingReports;
 use crate::kept::KeptObservers;
-use crate::reports::{ReportSet, has_bit};
+use crate::mask::{Masks, bit, count, has_bit, with};
+use crate::reports::KnownReports;
 use rapid_endpoint::Process;
 use rapid_rings::ObserverTable;
 use std::alloc::{AllocError, Global};
 
-/// The number of reports on the process.
-pub fn tally<T: ObserverTable>(table: &T, reports: &ReportSet, subject: &Process) -> usize
-    ensures { result ≡ model.tally (T.observers table.now) reports.now subject.now }
+/// The number of reports on the process, direct and implied.
+pub fn tally<T: ObserverTable>(table: &T, reports: &KnownReports, subject: &Process) -> usize
+    ensures { result ≡ model.tally (T.observers table.now) reports.now.all subject.now }
 {
-    reports.tally(subject, table.params().k())
+    count(reports.on(subject).all, table.params().k())
 }
 
-/// The processes with at least L reports, ascending: those of before and those that came to it.
+/// The processes with at least L direct reports, ascending: those of before and those that came to
+/// it.
 pub fn active_with<T: ObserverTable>(
     alloc: Global,
     table: &T,
-    reports: &ReportSet,
+    reports: &KnownReports,
     before: &[Process],
     grown: &[Process],
 ) -> Result<Vec<Process>, AllocError>
     requires rules { AreObservers (T.observers table.now) }
-    requires low { (q : Bytes) → model.reaches_low (T.observers table.now) reports.now (Some q) ≡ (is_in before.now q || is_in grown.now q) }
-    ensures { IfOk result (λ found. found.items ≡ active_of (T.observers table.now) reports.now) }
+    requires low { (q : Bytes) → model.reaches_low (T.observers table.now) reports.now.direct (Some q) ≡ (is_in before.now q || is_in grown.now q) }
+    ensures { IfOk result (λ found. found.items ≡ active_of (T.observers table.now) reports.now.direct) }
 {
     let _ = table;
     let _ = reports;
@@ -44,25 +47,33 @@ pub fn active_with<T: ObserverTable>(
     Ok(ascending(found))
 }
 
-/// Whether the process has at least L reports.
-fn reaches_low<T: ObserverTable>(table: &T, reports: &ReportSet, subject: &Process) -> bool
-    ensures { result ≡ model.reaches_low (T.observers table.now) reports.now (Some subject.now) }
+/// Whether a process with reports for these rings has at least L.
+pub fn is_low<T: ObserverTable>(table: &T, mask: u16) -> bool
+    ensures { result ≡ nat_le (T.observers table.now).params.l (count_by (has_ring mask) (rings (T.observers table.now))) }
 {
-    usize::from(table.params().l()) <= tally(table, reports, subject)
+    let params = table.params();
+    usize::from(params.l()) <= count(mask, params.k())
 }
 
-/// Whether the process has an observer on the ring that has at least L reports.
+/// Whether the process has at least L direct reports.
+fn reaches_low<T: ObserverTable>(table: &T, reports: &KnownReports, subject: &Process) -> bool
+    ensures { result ≡ model.reaches_low (T.observers table.now) reports.now.direct (Some subject.now) }
+{
+    is_low(table, reports.on(subject).direct)
+}
+
+/// Whether the process has an observer on the ring that has at least L direct reports.
 fn is_observer_low<T: ObserverTable>(
     table: &T,
     kept: &KeptObservers,
-    reports: &ReportSet,
+    reports: &KnownReports,
     subject: &Process,
     place: Option<usize>,
     ring: u8,
 ) -> bool
     requires kept { AreKept (T.observers table.now) kept.now.places.entries kept.now.observers.items }
     requires place { place ≡ lookup (is_at (process_cmp subject.now)) kept.now.places.entries }
-    ensures { result ≡ model.reaches_low (T.observers table.now) reports.now ((T.observers table.now).observer ring subject.now) }
+    ensures { result ≡ model.reaches_low (T.observers table.now) reports.now.direct ((T.observers table.now).observer ring subject.now) }
 {
     match kept.observer(table, subject, place, ring) {
         Some(observer) => reaches_low(table, reports, &observer),
@@ -70,27 +81,60 @@ fn is_observer_low<T: ObserverTable>(
     }
 }
 
-/// Adds the reports on a process with at least L direct ones that the direct ones imply. Only its
-/// missing rings are asked for.
+/// The mask, with the ring where it is to be added.
+fn with_ring(mask: u16, ring: u8, is_added: bool) -> u16
+    requires { ring < 16 }
+    ensures { (k : ℕ) → has_ring result k ≡ (has_ring mask k || (is_added && k == ring)) }
+{
+    if is_added {
+        with(mask, bit(ring))
+    } else {
+        mask
+    }
+}
+
+/// The rings, but those in the mask, for which reports are implied on a process with at least L
+/// direct ones.
+fn implied_rings<T: ObserverTable>(
+    table: &T,
+    kept: &KeptObservers,
+    reports: &KnownReports,
+    subject: &Process,
+    mask: u16,
+) -> u16
+    requires kept { AreKept (T.observers table.now) kept.now.places.entries kept.now.observers.items }
+    requires low { model.reaches_low (T.observers table.now) reports.now.direct (Some subject.now) ≡ true }
+    ensures { (k : ℕ) → has_ring result k ≡ (not (has_ring mask k) && model.is_implied (T.observers table.now) reports.now.direct (subject.now, k)) }
+{
+    let place = kept.place(subject);
+    let mut implied = 0;
+    for ring in 0..table.params().k() {
+        let is_added = !has_bit(mask, ring)
+            && is_observer_low(table, kept, reports, subject, place, ring);
+        implied = with_ring(implied, ring, is_added);
+    }
+    implied
+}
+
+/// Adds the reports on a process with at least L direct ones that the direct ones imply.
 fn add_implied<T: ObserverTable>(
     table: &T,
     kept: &KeptObservers,
-    direct: &ReportSet,
     subject: &Process,
-    all: &mut GrowingSet,
+    known: &mut GrowingReports,
 ) -> Result<(), AllocError>
     requires kept { AreKept (T.observers table.now) kept.now.places.entries kept.now.observers.items }
-    requires low { model.reaches_low (T.observers table.now) direct.now (Some subject.now) ≡ true }
-    ensures added { OnOk result (AddsImplied (T.observers table.now) direct.now subject.now all.old.reports all.new.reports) }
-    ensures before { without all.new.reports all.new.fresh.items ≡ without all.old.reports all.old.fresh.items }
+    requires low { model.reaches_low (T.observers table.now) known.old.reports.direct (Some subject.now) ≡ true }
+    ensures direct { OnOk result (known.new.reports.direct ≡ known.old.reports.direct) }
+    ensures added { OnOk result (AddsImplied (T.observers table.now) known.old.reports.direct subject.now known.old.reports.all known.new.reports.all) }
+    ensures before { before known.new.reports known.new.fresh.items ≡ before known.old.reports known.old.fresh.items }
 {
-    let known = all.reports.mask(subject);
-    let place = kept.place(subject);
-    for ring in 0..table.params().k() {
-        if !has_bit(known, ring) && is_observer_low(table, kept, direct, subject, place, ring) {
-            all.add((*subject, ring))?;
-        }
+    let so_far = known.reports.on(subject);
+    let all = implied_rings(table, kept, &known.reports, subject, so_far.all);
+    if all == 0 {
+        return Ok(());
     }
+    known.add(subject, so_far, Masks { direct: 0, all })?;
     Ok(())
 }
 
@@ -99,19 +143,19 @@ fn add_implied<T: ObserverTable>(
 pub fn close<T: ObserverTable>(
     table: &T,
     kept: &KeptObservers,
-    direct: &ReportSet,
     active: &[Process],
-    all: &mut GrowingSet,
+    known: &mut GrowingReports,
 ) -> Result<(), AllocError>
     requires rules { AreObservers (T.observers table.now) }
     requires kept { AreKept (T.observers table.now) kept.now.places.entries kept.now.observers.items }
-    requires active { active.now ≡ active_of (T.observers table.now) direct.now }
-    requires known { IsBetween (T.observers table.now) direct.now all.old.reports }
-    ensures all { OnOk result (all.new.reports ≡ model.reports (T.observers table.now) direct.now) }
-    ensures before { without all.new.reports all.new.fresh.items ≡ without all.old.reports all.old.fresh.items }
+    requires active { active.now ≡ active_of (T.observers table.now) known.old.reports.direct }
+    requires known { IsBetween (T.observers table.now) known.old.reports.direct known.old.reports.all }
+    ensures direct { OnOk result (known.new.reports.direct ≡ known.old.reports.direct) }
+    ensures all { OnOk result (known.new.reports.all ≡ model.reports (T.observers table.now) known.old.reports.direct) }
+    ensures before { before known.new.reports known.new.fresh.items ≡ before known.old.reports known.old.fresh.items }
 {
     for subject in active {
-        add_implied(table, kept, direct, subject, all)?;
+        add_implied(table, kept, subject, known)?;
     }
     Ok(())
 }

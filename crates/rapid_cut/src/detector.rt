@@ -1,6 +1,6 @@
 // The cut detector.
 
-ghost use Rattle.std.specs.Prelude.{◌≡◌, ◌≤◌, ◌||◌, map, length, filter, is_some, Some, IfOk, OnOk, OnErr};
+ghost use Rattle.std.specs.Prelude.{◌≡◌, ◌≤◌, ◌||◌, [], map, length, filter, is_some, Some, IfOk, OnOk, OnErr};
 ghost use Rattle.std.specs.List.{list_any};
 ghost use Rattle.rapid_model.specs.Reports as model;
 ghost use Rattle.rapid_model.specs.Process.{Process as Bytes, is_in};
@@ -9,14 +9,14 @@ ghost use Rattle.rapid_model.specs.Detector as detector;
 ghost use Rattle.rapid_model.specs.Detector.{empty_detector, after_batch, batch_cut};
 ghost use Rattle.rapid_alerts.specs.Alerts.{alert_of};
 ghost use Rattle.rapid_cut.specs.Closing.{IsBetween, active as active_of};
-ghost use Rattle.rapid_cut.specs.Growing.{without};
+ghost use Rattle.rapid_cut.specs.Growing.{before};
 ghost use Rattle.rapid_cut.specs.Keeping.{AreKept};
-ghost use Rattle.rapid_cut.specs.Limits.{IsDetecting, IsKept};
+ghost use Rattle.rapid_cut.specs.Limits.{IsDetecting, IsKept, IsWithinLimits};
 
 use crate::closure::{active_with, close, tally};
-use crate::growing::GrowingSet;
+use crate::growing::GrowingReports;
 use crate::kept::KeptObservers;
-use crate::reports::ReportSet;
+use crate::reports::KnownReports;
 use crate::taken::{Taken, take_all};
 use rapid_alerts::Alert;
 use rapid_config::{ConfigError, Cut};
@@ -29,10 +29,10 @@ use std::marker::Model;
 fn stable_ones<T: ObserverTable>(
     alloc: Global,
     table: &T,
-    reports: &ReportSet,
+    reports: &KnownReports,
     subjects: &[Process],
 ) -> Result<Vec<Process>, AllocError>
-    ensures { IfOk result (λ found. found.items ≡ filter (model.is_stable (T.observers table.now) reports.now) subjects.now) }
+    ensures { IfOk result (λ found. found.items ≡ filter (model.is_stable (T.observers table.now) reports.now.all) subjects.now) }
 {
     let stable = usize::from(table.params().h());
     subjects
@@ -46,10 +46,10 @@ fn stable_ones<T: ObserverTable>(
 fn unstable_ones<T: ObserverTable>(
     alloc: Global,
     table: &T,
-    reports: &ReportSet,
+    reports: &KnownReports,
     subjects: &[Process],
 ) -> Result<Vec<Process>, AllocError>
-    ensures { IfOk result (λ found. found.items ≡ filter (model.is_unstable (T.observers table.now) reports.now) subjects.now) }
+    ensures { IfOk result (λ found. found.items ≡ filter (model.is_unstable (T.observers table.now) reports.now.all) subjects.now) }
 {
     subjects
         .iter()
@@ -59,16 +59,20 @@ fn unstable_ones<T: ObserverTable>(
 }
 
 /// Whether the process has at least L reports and fewer than H.
-fn is_unstable<T: ObserverTable>(table: &T, reports: &ReportSet, subject: &Process) -> bool
-    ensures { result ≡ model.is_unstable (T.observers table.now) reports.now subject.now }
+fn is_unstable<T: ObserverTable>(table: &T, reports: &KnownReports, subject: &Process) -> bool
+    ensures { result ≡ model.is_unstable (T.observers table.now) reports.now.all subject.now }
 {
     let tally = tally(table, reports, subject);
     usize::from(table.params().l()) <= tally && tally < usize::from(table.params().h())
 }
 
 /// Whether one of these processes is unstable.
-fn is_any_unstable<T: ObserverTable>(table: &T, reports: &ReportSet, subjects: &[Process]) -> bool
-    ensures { result ≡ list_any (model.is_unstable (T.observers table.now) reports.now) subjects.now }
+fn is_any_unstable<T: ObserverTable>(
+    table: &T,
+    reports: &KnownReports,
+    subjects: &[Process],
+) -> bool
+    ensures { result ≡ list_any (model.is_unstable (T.observers table.now) reports.now.all) subjects.now }
 {
     subjects
         .iter()
@@ -85,23 +89,21 @@ fn want_of_memory(error: ConfigError) -> AllocError
     }
 }
 
-/// The cut of the direct reports and all that they imply.
+/// The cut of the reports.
 fn cut_of<T: ObserverTable>(
     alloc: Global,
     table: &T,
-    direct: &ReportSet,
-    all: &ReportSet,
+    reports: &KnownReports,
     active: &[Process],
 ) -> Result<Option<Cut>, AllocError>
-    requires detecting { IsDetecting (T.observers table.now) direct.now all.now }
-    requires active { active.now ≡ active_of (T.observers table.now) direct.now }
-    ensures { IfOk result (λ cut. cut ≡ model.cut_of (T.observers table.now) direct.now) }
+    requires detecting { IsDetecting (T.observers table.now) reports.now.direct reports.now.all }
+    requires active { active.now ≡ active_of (T.observers table.now) reports.now.direct }
+    ensures { IfOk result (λ cut. cut ≡ model.cut_of (T.observers table.now) reports.now.direct) }
 {
-    let _ = direct;
-    if is_any_unstable(table, all, active) {
+    if is_any_unstable(table, reports, active) {
         return Ok(None);
     }
-    let stable = stable_ones(alloc, table, all, active)?;
+    let stable = stable_ones(alloc, table, reports, active)?;
     if stable.is_empty() {
         return Ok(None);
     }
@@ -120,27 +122,37 @@ struct Advance {
     count: usize,
 }
 
-/// Closes the reports where some process came to L, and lists those that have as many.
-fn close_after<T: ObserverTable>(
+/// Closes the reports where these processes came to L, and lists them; the cut then.
+fn settle<T: ObserverTable>(
     alloc: Global,
     table: &T,
     kept: &KeptObservers,
-    direct: &ReportSet,
-    all: &mut GrowingSet,
-    before: &[Process],
+    known: &mut GrowingReports,
+    active: &mut Vec<Process>,
     grown: &[Process],
-) -> Result<Vec<Process>, AllocError>
+) -> Result<Option<Cut>, AllocError>
     requires rules { AreObservers (T.observers table.now) }
     requires kept { AreKept (T.observers table.now) kept.now.places.entries kept.now.observers.items }
-    requires known { IsBetween (T.observers table.now) direct.now all.old.reports }
-    requires low { (q : Bytes) → model.reaches_low (T.observers table.now) direct.now (Some q) ≡ (is_in before.now q || is_in grown.now q) }
-    ensures active { IfOk result (λ active. active.items ≡ active_of (T.observers table.now) direct.now) }
-    ensures all { OnOk result (all.new.reports ≡ model.reports (T.observers table.now) direct.now) }
-    ensures before { without all.new.reports all.new.fresh.items ≡ without all.old.reports all.old.fresh.items }
+    requires known { IsBetween (T.observers table.now) known.old.reports.direct known.old.reports.all }
+    requires limits { IsWithinLimits (T.observers table.now) known.old.reports.direct }
+    requires low { (q : Bytes) → model.reaches_low (T.observers table.now) known.old.reports.direct (Some q) ≡ (is_in active.old.items q || is_in grown.now q) }
+    requires closed { grown.now ≡ [] → known.old.reports.all ≡ model.reports (T.observers table.now) known.old.reports.direct }
+    requires listed { grown.now ≡ [] → active.old.items ≡ active_of (T.observers table.now) known.old.reports.direct }
+    ensures direct { OnOk result (known.new.reports.direct ≡ known.old.reports.direct) }
+    ensures detecting { OnOk result (IsDetecting (T.observers table.now) known.old.reports.direct known.new.reports.all) }
+    ensures listed { OnOk result (active.new.items ≡ active_of (T.observers table.now) known.old.reports.direct) }
+    ensures cut { IfOk result (λ cut. cut ≡ model.cut_of (T.observers table.now) known.old.reports.direct) }
+    ensures active { OnErr result (active.new.items ≡ active.old.items) }
+    ensures before { before known.new.reports known.new.fresh.items ≡ before known.old.reports known.old.fresh.items }
 {
-    let active = active_with(alloc, table, direct, before, grown)?;
-    close(table, kept, direct, active.as_slice(), all)?;
-    Ok(active)
+    if grown.is_empty() {
+        return cut_of(alloc, table, &known.reports, active);
+    }
+    let more = active_with(alloc, table, &known.reports, active, grown)?;
+    close(table, kept, &more, known)?;
+    let cut = cut_of(alloc, table, &known.reports, &more)?;
+    *active = more;
+    Ok(cut)
 }
 
 /// Takes a batch of alerts: the reports, those that have at least L, and the cut.
@@ -148,42 +160,30 @@ fn take_batch<T: ObserverTable>(
     alloc: Global,
     table: &T,
     kept: &mut KeptObservers,
-    direct: &mut GrowingSet,
-    all: &mut GrowingSet,
+    known: &mut GrowingReports,
     active: &mut Vec<Process>,
     joiners: usize,
     alerts: &[Alert],
 ) -> Result<Advance, AllocError>
-    requires detecting { IsDetecting (T.observers table.now) direct.old.reports all.old.reports }
-    requires active { active.old.items ≡ active_of (T.observers table.now) direct.old.reports }
-    requires joiners { joiners ≡ length (detector.joiners (T.observers table.now) direct.old.reports) }
+    requires detecting { IsDetecting (T.observers table.now) known.old.reports.direct known.old.reports.all }
+    requires active { active.old.items ≡ active_of (T.observers table.now) known.old.reports.direct }
+    requires joiners { joiners ≡ length (detector.joiners (T.observers table.now) known.old.reports.direct) }
     requires kept { AreKept (T.observers table.now) kept.old.places.entries kept.old.observers.items }
     ensures kept { AreKept (T.observers table.now) kept.new.places.entries kept.new.observers.items }
-    ensures direct { OnOk result (direct.new.reports ≡ detector.with_alerts direct.old.reports (detector.taken (T.observers table.now) direct.old.reports (map alert_of alerts.now))) }
-    ensures known { IfOk result (λ advance. IsKept (T.observers table.now) direct.new.reports all.new.reports active.new.items advance.joiners (is_some advance.cut)) }
-    ensures cut { IfOk result (λ advance. advance.cut ≡ model.cut_of (T.observers table.now) direct.new.reports) }
-    ensures count { IfOk result (λ advance. advance.count ≡ length (detector.taken (T.observers table.now) direct.old.reports (map alert_of alerts.now))) }
+    ensures direct { OnOk result (known.new.reports.direct ≡ detector.with_alerts known.old.reports.direct (detector.taken (T.observers table.now) known.old.reports.direct (map alert_of alerts.now))) }
+    ensures known { IfOk result (λ advance. IsKept (T.observers table.now) known.new.reports.direct known.new.reports.all active.new.items advance.joiners (is_some advance.cut)) }
+    ensures cut { IfOk result (λ advance. advance.cut ≡ model.cut_of (T.observers table.now) known.new.reports.direct) }
+    ensures count { IfOk result (λ advance. advance.count ≡ length (detector.taken (T.observers table.now) known.old.reports.direct (map alert_of alerts.now))) }
     ensures bound { IfOk result (λ advance. advance.count ≤ length alerts.now) }
     ensures active { OnErr result (active.new.items ≡ active.old.items) }
-    ensures direct_before { without direct.new.reports direct.new.fresh.items ≡ without direct.old.reports direct.old.fresh.items }
-    ensures all_before { without all.new.reports all.new.fresh.items ≡ without all.old.reports all.old.fresh.items }
+    ensures before { before known.new.reports known.new.fresh.items ≡ before known.old.reports known.old.fresh.items }
 {
     let Taken {
         joiners,
         count,
         grown,
-    } = take_all(alloc, table, kept, direct, all, joiners, alerts)?;
-    if grown.is_empty() {
-        let cut = cut_of(alloc, table, &direct.reports, &all.reports, active)?;
-        return Ok(Advance {
-            cut,
-            joiners,
-            count,
-        });
-    }
-    let more = close_after(alloc, table, kept, &direct.reports, all, active, &grown)?;
-    let cut = cut_of(alloc, table, &direct.reports, &all.reports, &more)?;
-    *active = more;
+    } = take_all(alloc, table, kept, known, joiners, alerts)?;
+    let cut = settle(alloc, table, kept, known, active, &grown)?;
     Ok(Advance {
         cut,
         joiners,
@@ -201,8 +201,7 @@ fn take_batch<T: ObserverTable>(
 #[derive(Debug, Drop)]
 pub struct Detector<T: ObserverTable> {
     table: T,
-    direct: GrowingSet,
-    all: GrowingSet,
+    known: GrowingReports,
     active: Vec<Process>,
     joiners: usize,
     kept: KeptObservers,
@@ -221,9 +220,9 @@ impl<T: ObserverTable> Model for Detector<T> {
 
     ghost coded = { watching_code T.code };
 
-    ghost view = { λ d. record { table = d.table; detector = record { direct = d.direct.reports; closed = d.closed; skipped = d.skipped } } };
+    ghost view = { λ d. record { table = d.table; detector = record { direct = d.known.reports.direct; closed = d.closed; skipped = d.skipped } } };
 
-    ghost invariant = { λ d. IsKept (T.observers d.table) d.direct.reports d.all.reports d.active.items d.joiners d.closed × AreKept (T.observers d.table) d.kept.places.entries d.kept.observers.items × (d.direct.fresh.items ≡ []) × (d.all.fresh.items ≡ []) };
+    ghost invariant = { λ d. IsKept (T.observers d.table) d.known.reports.direct d.known.reports.all d.active.items d.joiners d.closed × AreKept (T.observers d.table) d.kept.places.entries d.kept.observers.items × (d.known.fresh.items ≡ []) };
 }
 
 impl<T: ObserverTable> Detector<T> {
@@ -235,8 +234,7 @@ impl<T: ObserverTable> Detector<T> {
         let _ = table.params();
         Detector {
             table,
-            direct: GrowingSet::new(alloc),
-            all: GrowingSet::new(alloc),
+            known: GrowingReports::new(alloc),
             active: Vec::new(alloc),
             joiners: 0,
             kept: KeptObservers::new(alloc),
@@ -264,24 +262,21 @@ impl<T: ObserverTable> Detector<T> {
             self.alloc,
             &self.table,
             &mut self.kept,
-            &mut self.direct,
-            &mut self.all,
+            &mut self.known,
             &mut self.active,
             self.joiners,
             alerts,
         );
         match advance {
             Ok(advance) => {
-                self.direct.keep();
-                self.all.keep();
+                self.known.keep();
                 self.joiners = advance.joiners;
                 self.skipped = alerts.len() - advance.count;
                 self.closed = advance.cut.is_some();
                 Ok(advance.cut)
             }
             Err(error) => {
-                self.direct.undo();
-                self.all.undo();
+                self.known.undo();
                 Err(error)
             }
         }
@@ -299,14 +294,14 @@ impl<T: ObserverTable> Detector<T> {
     pub fn tally(&self, process: &Process) -> usize
         ensures { result ≡ model.tally (T.observers self.now.table) (model.reports (T.observers self.now.table) self.now.detector.direct) process.now }
     {
-        tally(&self.table, &self.all.reports, process)
+        tally(&self.table, &self.known.reports, process)
     }
 
     /// The processes with at least L reports and fewer than H, ascending.
     pub fn unstable(&self) -> Result<Vec<Process>, AllocError>
         ensures { IfOk result (λ found. found.items ≡ model.unstable (T.observers self.now.table) self.now.detector.direct) }
     {
-        unstable_ones(self.alloc, &self.table, &self.all.reports, &self.active)
+        unstable_ones(self.alloc, &self.table, &self.known.reports, &self.active)
     }
 
     /// An equal detector over a table that says the same, as another share of one table does.
@@ -319,8 +314,7 @@ impl<T: ObserverTable> Detector<T> {
     {
         Ok(Detector {
             table,
-            direct: self.direct.try_copy(self.alloc)?,
-            all: self.all.try_copy(self.alloc)?,
+            known: self.known.try_copy(self.alloc)?,
             active: self.active.clone()?,
             joiners: self.joiners,
             kept: self.kept.try_copy()?,

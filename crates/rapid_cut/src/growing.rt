@@ -1,60 +1,55 @@
-// Sets of reports that can be as they were.
+// Reports that can be as they were.
 
-ghost use Rattle.std.specs.Prelude.{◌≡◌, ◌<◌, ℕ, false, [], ◌∷◌, ◌++◌, IfOk, OnOk, OnErr};
+ghost use Rattle.std.specs.Prelude.{◌≡◌, ℕ, [], ◌∷◌, ◌++◌, IfOk, OnOk, OnErr};
 ghost use Rattle.std.specs.FinSet as set;
 ghost use Rattle.rapid_cut.specs.Masks.{has_ring};
-ghost use Rattle.rapid_cut.specs.Growing.{without};
+ghost use Rattle.rapid_cut.specs.Growing.{AddsRings, before};
 
-use crate::reports::{Report, ReportSet, has_bit};
+use crate::mask::Masks;
+use crate::reports::KnownReports;
+use rapid_endpoint::Process;
 use std::alloc::{AllocError, Global};
 
-/// A set of reports, and which of them were added since it was last kept.
-#[derive(Debug, Drop)]
-pub struct GrowingSet {
-    /// All reports.
-    pub reports: ReportSet,
-    // those that were added
-    fresh: Vec<Report>,
+/// Rings for which reports on a process were added.
+#[derive(Clone, Copy, Debug)]
+struct Added {
+    subject: Process,
+    rings: Masks,
 }
 
-impl GrowingSet {
-    /// The set with no report.
-    pub fn new(alloc: Global) -> GrowingSet
-        ensures reports { result.reports ≡ set.empty }
+/// The reports that are known, and which of them were added since they were last kept.
+#[derive(Debug, Drop)]
+pub struct GrowingReports {
+    /// All that are known.
+    pub reports: KnownReports,
+    // what was added
+    fresh: Vec<Added>,
+}
+
+impl GrowingReports {
+    /// No report is known.
+    pub fn new(alloc: Global) -> GrowingReports
+        ensures direct { result.reports.direct ≡ set.empty }
+        ensures all { result.reports.all ≡ set.empty }
         ensures fresh { result.fresh.items ≡ [] }
     {
-        GrowingSet {
-            reports: ReportSet::new(alloc),
+        GrowingReports {
+            reports: KnownReports::new(alloc),
             fresh: Vec::new(alloc),
         }
     }
 
-    /// Adds a report that is not there, on a process whose rings so far are these.
-    pub fn add_new(&mut self, report: Report, mask: u16) -> Result<(), AllocError>
-        requires ring { report.1 < 16 }
-        requires mask { (k : ℕ) → set.contains self.old.reports (report.0, k) ≡ has_ring mask k }
-        requires absent { has_ring mask report.1 ≡ false }
-        ensures added { OnOk result (self.new.reports ≡ set.insert self.old.reports report) }
-        ensures before { without self.new.reports self.new.fresh.items ≡ without self.old.reports self.old.fresh.items }
+    /// Adds the reports on a process for these rings; those on it so far are for the others.
+    pub fn add(&mut self, subject: &Process, so_far: Masks, rings: Masks) -> Result<(), AllocError>
+        requires direct { (k : ℕ) → set.contains self.old.reports.direct (subject.now, k) ≡ has_ring so_far.direct k }
+        requires all { (k : ℕ) → set.contains self.old.reports.all (subject.now, k) ≡ has_ring so_far.all k }
+        ensures direct { OnOk result (AddsRings subject.now rings.direct self.old.reports.direct self.new.reports.direct) }
+        ensures all { OnOk result (AddsRings subject.now rings.all self.old.reports.all self.new.reports.all) }
+        ensures before { before self.new.reports self.new.fresh.items ≡ before self.old.reports self.old.fresh.items }
     {
-        let (subject, ring) = report;
-        note(&mut self.fresh, (subject, ring))?;
-        self.reports.insert((subject, ring), mask)?;
+        note(&mut self.fresh, *subject, rings.without(so_far))?;
+        self.reports.put(subject, so_far.with(rings))?;
         Ok(())
-    }
-
-    /// Adds a report.
-    pub fn add(&mut self, report: Report) -> Result<(), AllocError>
-        requires { report.1 < 16 }
-        ensures added { OnOk result (self.new.reports ≡ set.insert self.old.reports report) }
-        ensures before { without self.new.reports self.new.fresh.items ≡ without self.old.reports self.old.fresh.items }
-    {
-        let (subject, ring) = report;
-        let mask = self.reports.mask(&subject);
-        if has_bit(mask, ring) {
-            return Ok(());
-        }
-        self.add_new((subject, ring), mask)
     }
 
     /// Keeps what was added.
@@ -67,39 +62,39 @@ impl GrowingSet {
 
     /// Takes out what was added. That needs no memory.
     pub fn undo(&mut self)
-        ensures reports { self.new.reports ≡ without self.old.reports self.old.fresh.items }
+        ensures reports { self.new.reports ≡ before self.old.reports self.old.fresh.items }
         ensures fresh { self.new.fresh.items ≡ [] }
     {
         take_out(&mut self.reports, self.fresh.as_slice());
         self.fresh.clear();
     }
 
-    /// A set of the same reports, as kept.
-    pub fn try_copy(&self, alloc: Global) -> Result<GrowingSet, AllocError>
+    /// The same reports, as kept.
+    pub fn try_copy(&self, alloc: Global) -> Result<GrowingReports, AllocError>
         ensures reports { IfOk result (λ copy. copy.reports ≡ self.now.reports) }
         ensures fresh { IfOk result (λ copy. copy.fresh.items ≡ []) }
     {
-        Ok(GrowingSet {
+        Ok(GrowingReports {
             reports: self.reports.try_copy()?,
             fresh: Vec::new(alloc),
         })
     }
 }
 
-/// Takes these reports out of a set.
-fn take_out(reports: &mut ReportSet, fresh: &[Report])
-    ensures { reports.new ≡ without reports.old fresh.now }
+/// Takes out what was added.
+fn take_out(reports: &mut KnownReports, fresh: &[Added])
+    ensures { reports.new ≡ before reports.old fresh.now }
 {
-    for report in fresh {
-        reports.remove(*report);
+    for added in fresh {
+        reports.take_out(&added.subject, added.rings);
     }
 }
 
-/// Notes that a report is added.
-fn note(fresh: &mut Vec<Report>, report: Report) -> Result<(), AllocError>
-    ensures more { OnOk result (fresh.new.items ≡ fresh.old.items ++ report ∷ []) }
+/// Notes what is added.
+fn note(fresh: &mut Vec<Added>, subject: Process, rings: Masks) -> Result<(), AllocError>
+    ensures more { OnOk result (fresh.new.items ≡ fresh.old.items ++ (record { subject = subject; rings = rings }) ∷ []) }
     ensures unchanged { OnErr result (fresh.new.items ≡ fresh.old.items) }
 {
-    fresh.push(report)?;
+    fresh.push(Added { subject, rings })?;
     Ok(())
 }

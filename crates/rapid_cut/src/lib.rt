@@ -9,6 +9,7 @@ mod closure;
 mod detector;
 mod growing;
 mod kept;
+mod mask;
 mod reports;
 mod subject_key;
 mod taken;

@@ -1,20 +1,22 @@
 // The alerts that are taken.
 
-ghost use Rattle.std.specs.Prelude.{◌≡◌, ◌≤◌, ◌<◌, ℕ, true, false, not, ◌&&◌, [], ◌∷◌, ◌++◌, map, length, count_by, nat_le, IfOk, OnOk, if◌then◌else◌};
+ghost use Rattle.std.specs.Prelude.{◌≡◌, ◌≤◌, ◌<◌, ℕ, true, not, ◌&&◌, ◌∷◌, [], ◌++◌, map, length, IfOk, OnOk, if◌then◌else◌};
 ghost use Rattle.std.specs.FinSet as set;
 ghost use Rattle.rapid_model.specs.Alert as model;
-ghost use Rattle.rapid_model.specs.Ring.{rings};
-ghost use Rattle.rapid_model.specs.Reports.{Reports, Includes, report_of};
+ghost use Rattle.rapid_model.specs.Process.{is_in};
+ghost use Rattle.rapid_model.specs.Reports.{Reports, Includes, report_of, subjects};
 ghost use Rattle.rapid_model.specs.Detector as detector;
 ghost use Rattle.rapid_alerts.specs.Alerts.{alert_of};
-ghost use Rattle.rapid_cut.specs.Growing.{without, HaveGrown};
+ghost use Rattle.rapid_cut.specs.Growing.{before, HaveGrown};
 ghost use Rattle.rapid_cut.specs.Keeping.{AreKept};
 ghost use Rattle.rapid_cut.specs.Limits.{IsWithinLimits};
 ghost use Rattle.rapid_cut.specs.Masks.{has_ring};
 
-use crate::growing::GrowingSet;
+use crate::closure::is_low;
+use crate::growing::GrowingReports;
 use crate::kept::KeptObservers;
-use crate::reports::{Report, ReportSet, count, has_bit};
+use crate::mask::{Masks, bit, has_any, has_bit, with};
+use crate::reports::KnownReports;
 use rapid_alerts::{Alert, Kind};
 use rapid_endpoint::Process;
 use rapid_rings::ObserverTable;
@@ -43,52 +45,58 @@ fn check<T: ObserverTable>(table: &T, kept: &KeptObservers, alert: &Alert) -> (b
     (well_formed, member)
 }
 
+/// Whether there is a direct report on the process, whose direct reports are for these rings.
+fn is_on(reports: &KnownReports, subject: &Process, mask: u16) -> bool
+    requires { (k : ℕ) → set.contains reports.now.direct (subject.now, k) ≡ has_ring mask k }
+    ensures { result ≡ is_in (subjects reports.now.direct) subject.now }
+{
+    let _ = reports;
+    let _ = subject;
+    has_any(mask)
+}
+
 /// Whether the alert is taken: it is well-formed and on no 513th joiner.
 fn is_taken<T: ObserverTable>(
     table: &T,
-    direct: &ReportSet,
+    reports: &KnownReports,
     joiners: usize,
     alert: &Alert,
     member: bool,
     well_formed: bool,
+    mask: u16,
 ) -> bool
+    requires mask { (k : ℕ) → set.contains reports.now.direct (alert.now.subject, k) ≡ has_ring mask k }
     requires member { member ≡ (T.observers table.now).is_member alert.now.subject }
     requires well_formed { well_formed ≡ model.is_well_formed (T.observers table.now) (alert_of alert.now) }
-    requires joiners { joiners ≡ length (detector.joiners (T.observers table.now) direct.now) }
-    ensures value { result ≡ detector.is_taken (T.observers table.now) direct.now (alert_of alert.now) }
+    requires joiners { joiners ≡ length (detector.joiners (T.observers table.now) reports.now.direct) }
+    ensures value { result ≡ detector.is_taken (T.observers table.now) reports.now.direct (alert_of alert.now) }
     ensures well_formed { result ≡ true → well_formed ≡ true }
 {
     let _ = table;
-    well_formed && (member || direct.is_on(&alert.subject) || joiners < JOINERS)
+    well_formed && (member || is_on(reports, &alert.subject, mask) || joiners < JOINERS)
 }
 
 /// How many joiners are reported on once there is a report on this process too.
 fn joiners_with<T: ObserverTable>(
     table: &T,
-    direct: &ReportSet,
+    reports: &KnownReports,
     joiners: usize,
     subject: &Process,
     member: bool,
+    mask: u16,
 ) -> usize
+    requires mask { (k : ℕ) → set.contains reports.now.direct (subject.now, k) ≡ has_ring mask k }
     requires member { member ≡ (T.observers table.now).is_member subject.now }
-    requires joiners { joiners ≡ length (detector.joiners (T.observers table.now) direct.now) }
+    requires joiners { joiners ≡ length (detector.joiners (T.observers table.now) reports.now.direct) }
     requires room { joiners ≤ 512 }
-    ensures { (ring : ℕ) → result ≡ length (detector.joiners (T.observers table.now) (set.insert direct.now (subject.now, ring))) }
+    ensures { (ring : ℕ) → result ≡ length (detector.joiners (T.observers table.now) (set.insert reports.now.direct (subject.now, ring))) }
 {
     let _ = table;
-    if member || direct.is_on(subject) {
+    if member || is_on(reports, subject, mask) {
         joiners
     } else {
         joiners + 1
     }
-}
-
-/// Whether a process with reports for these rings has at least L.
-fn is_low<T: ObserverTable>(table: &T, mask: u16) -> bool
-    ensures { result ≡ nat_le (T.observers table.now).params.l (count_by (has_ring mask) (rings (T.observers table.now))) }
-{
-    let params = table.params();
-    usize::from(params.l()) <= count(mask, params.k())
 }
 
 /// Lists a process that had fewer than L reports and now has as many.
@@ -106,29 +114,32 @@ fn list(
     Ok(())
 }
 
-/// Adds a new report, and lists its subject where it comes to L reports by it.
+/// Adds a direct report on a process whose rings so far are these, and lists the process where it
+/// comes to L direct reports by it.
 fn put<T: ObserverTable>(
     table: &T,
-    direct: &mut GrowingSet,
-    all: &mut GrowingSet,
+    known: &mut GrowingReports,
     grown: &mut Vec<Process>,
-    report: Report,
-    mask: u16,
+    subject: Process,
+    ring: u8,
+    so_far: Masks,
 ) -> Result<(), AllocError>
-    requires ring { report.1 < 16 }
-    requires mask { (k : ℕ) → set.contains direct.old.reports (report.0, k) ≡ has_ring mask k }
-    requires absent { has_ring mask report.1 ≡ false }
-    ensures direct { OnOk result (direct.new.reports ≡ set.insert direct.old.reports report) }
-    ensures all { OnOk result (all.new.reports ≡ set.insert all.old.reports report) }
-    ensures grown { OnOk result ((start : Reports) → HaveGrown (T.observers table.now) start direct.old.reports grown.old.items → HaveGrown (T.observers table.now) start direct.new.reports grown.new.items) }
-    ensures direct_before { without direct.new.reports direct.new.fresh.items ≡ without direct.old.reports direct.old.fresh.items }
-    ensures all_before { without all.new.reports all.new.fresh.items ≡ without all.old.reports all.old.fresh.items }
+    requires ring { ring < 16 }
+    requires direct { (k : ℕ) → set.contains known.old.reports.direct (subject, k) ≡ has_ring so_far.direct k }
+    requires all { (k : ℕ) → set.contains known.old.reports.all (subject, k) ≡ has_ring so_far.all k }
+    ensures direct { OnOk result (known.new.reports.direct ≡ set.insert known.old.reports.direct (subject, ring)) }
+    ensures all { OnOk result (known.new.reports.all ≡ set.insert known.old.reports.all (subject, ring)) }
+    ensures grown { OnOk result ((start : Reports) → HaveGrown (T.observers table.now) start known.old.reports.direct grown.old.items → HaveGrown (T.observers table.now) start known.new.reports.direct grown.new.items) }
+    ensures before { before known.new.reports known.new.fresh.items ≡ before known.old.reports known.old.fresh.items }
 {
-    let (subject, ring) = report;
-    let was_low = is_low(table, mask);
-    let now_low = is_low(table, mask | 1 << ring);
-    direct.add_new((subject, ring), mask)?;
-    all.add((subject, ring))?;
+    let one = bit(ring);
+    let was_low = is_low(table, so_far.direct);
+    let now_low = is_low(table, with(so_far.direct, one));
+    let rings = Masks {
+        direct: one,
+        all: one,
+    };
+    known.add(&subject, so_far, rings)?;
     list(grown, was_low, now_low, subject)?;
     Ok(())
 }
@@ -137,41 +148,55 @@ fn put<T: ObserverTable>(
 fn take<T: ObserverTable>(
     table: &T,
     kept: &mut KeptObservers,
-    direct: &mut GrowingSet,
-    all: &mut GrowingSet,
+    known: &mut GrowingReports,
     joiners: &mut usize,
     grown: &mut Vec<Process>,
     alert: &Alert,
 ) -> Result<bool, AllocError>
-    requires joiners { joiners.old ≡ length (detector.joiners (T.observers table.now) direct.old.reports) }
+    requires joiners { joiners.old ≡ length (detector.joiners (T.observers table.now) known.old.reports.direct) }
     requires room { joiners.old ≤ 512 }
     requires kept { AreKept (T.observers table.now) kept.old.places.entries kept.old.observers.items }
-    requires known { Includes all.old.reports direct.old.reports }
+    requires known { Includes known.old.reports.all known.old.reports.direct }
     ensures kept { AreKept (T.observers table.now) kept.new.places.entries kept.new.observers.items }
-    ensures taken { IfOk result (λ taken. taken ≡ detector.is_taken (T.observers table.now) direct.old.reports (alert_of alert.now)) }
-    ensures direct { IfOk result (λ taken. direct.new.reports ≡ (if taken then set.insert direct.old.reports (report_of (alert_of alert.now)) else direct.old.reports)) }
-    ensures all { IfOk result (λ taken. all.new.reports ≡ (if taken then set.insert all.old.reports (report_of (alert_of alert.now)) else all.old.reports)) }
-    ensures joiners { OnOk result (joiners.new ≡ length (detector.joiners (T.observers table.now) direct.new.reports)) }
-    ensures grown { OnOk result ((start : Reports) → HaveGrown (T.observers table.now) start direct.old.reports grown.old.items → HaveGrown (T.observers table.now) start direct.new.reports grown.new.items) }
-    ensures direct_before { without direct.new.reports direct.new.fresh.items ≡ without direct.old.reports direct.old.fresh.items }
-    ensures all_before { without all.new.reports all.new.fresh.items ≡ without all.old.reports all.old.fresh.items }
+    ensures taken { IfOk result (λ taken. taken ≡ detector.is_taken (T.observers table.now) known.old.reports.direct (alert_of alert.now)) }
+    ensures direct { IfOk result (λ taken. known.new.reports.direct ≡ (if taken then set.insert known.old.reports.direct (report_of (alert_of alert.now)) else known.old.reports.direct)) }
+    ensures all { IfOk result (λ taken. known.new.reports.all ≡ (if taken then set.insert known.old.reports.all (report_of (alert_of alert.now)) else known.old.reports.all)) }
+    ensures joiners { OnOk result (joiners.new ≡ length (detector.joiners (T.observers table.now) known.new.reports.direct)) }
+    ensures grown { OnOk result ((start : Reports) → HaveGrown (T.observers table.now) start known.old.reports.direct grown.old.items → HaveGrown (T.observers table.now) start known.new.reports.direct grown.new.items) }
+    ensures before { before known.new.reports known.new.fresh.items ≡ before known.old.reports known.old.fresh.items }
 {
     let (well_formed, member) = check(table, kept, alert);
     if !well_formed {
         return Ok(false);
     }
-    let mask = direct.reports.mask(&alert.subject);
+    let so_far = known.reports.on(&alert.subject);
+    let mask = so_far.direct;
     if has_bit(mask, alert.ring) {
         return Ok(true);
     }
-    if !is_taken(table, &direct.reports, *joiners, alert, member, well_formed) {
+    if !is_taken(
+        table,
+        &known.reports,
+        *joiners,
+        alert,
+        member,
+        well_formed,
+        mask,
+    ) {
         return Ok(false);
     }
     if !member {
         kept.keep(table, &alert.subject)?;
     }
-    *joiners = joiners_with(table, &direct.reports, *joiners, &alert.subject, member);
-    put(table, direct, all, grown, (alert.subject, alert.ring), mask)?;
+    *joiners = joiners_with(
+        table,
+        &known.reports,
+        *joiners,
+        &alert.subject,
+        member,
+        mask,
+    );
+    put(table, known, grown, alert.subject, alert.ring, so_far)?;
     Ok(true)
 }
 
@@ -191,31 +216,29 @@ pub fn take_all<T: ObserverTable>(
     alloc: Global,
     table: &T,
     kept: &mut KeptObservers,
-    direct: &mut GrowingSet,
-    all: &mut GrowingSet,
+    known: &mut GrowingReports,
     joiners: usize,
     alerts: &[Alert],
 ) -> Result<Taken, AllocError>
-    requires joiners { joiners ≡ length (detector.joiners (T.observers table.now) direct.old.reports) }
-    requires limits { IsWithinLimits (T.observers table.now) direct.old.reports }
+    requires joiners { joiners ≡ length (detector.joiners (T.observers table.now) known.old.reports.direct) }
+    requires limits { IsWithinLimits (T.observers table.now) known.old.reports.direct }
     requires kept { AreKept (T.observers table.now) kept.old.places.entries kept.old.observers.items }
-    requires known { Includes all.old.reports direct.old.reports }
+    requires known { Includes known.old.reports.all known.old.reports.direct }
     ensures kept { AreKept (T.observers table.now) kept.new.places.entries kept.new.observers.items }
-    ensures direct { OnOk result (direct.new.reports ≡ detector.with_alerts direct.old.reports (detector.taken (T.observers table.now) direct.old.reports (map alert_of alerts.now))) }
-    ensures all { OnOk result (all.new.reports ≡ detector.with_alerts all.old.reports (detector.taken (T.observers table.now) direct.old.reports (map alert_of alerts.now))) }
-    ensures joiners { IfOk result (λ taken. taken.joiners ≡ length (detector.joiners (T.observers table.now) direct.new.reports)) }
-    ensures count { IfOk result (λ taken. taken.count ≡ length (detector.taken (T.observers table.now) direct.old.reports (map alert_of alerts.now))) }
+    ensures direct { OnOk result (known.new.reports.direct ≡ detector.with_alerts known.old.reports.direct (detector.taken (T.observers table.now) known.old.reports.direct (map alert_of alerts.now))) }
+    ensures all { OnOk result (known.new.reports.all ≡ detector.with_alerts known.old.reports.all (detector.taken (T.observers table.now) known.old.reports.direct (map alert_of alerts.now))) }
+    ensures joiners { IfOk result (λ taken. taken.joiners ≡ length (detector.joiners (T.observers table.now) known.new.reports.direct)) }
+    ensures count { IfOk result (λ taken. taken.count ≡ length (detector.taken (T.observers table.now) known.old.reports.direct (map alert_of alerts.now))) }
     ensures bound { IfOk result (λ taken. taken.count ≤ length alerts.now) }
-    ensures limits { OnOk result (IsWithinLimits (T.observers table.now) direct.new.reports) }
-    ensures grown { IfOk result (λ taken. HaveGrown (T.observers table.now) direct.old.reports direct.new.reports taken.grown.items) }
-    ensures direct_before { without direct.new.reports direct.new.fresh.items ≡ without direct.old.reports direct.old.fresh.items }
-    ensures all_before { without all.new.reports all.new.fresh.items ≡ without all.old.reports all.old.fresh.items }
+    ensures limits { OnOk result (IsWithinLimits (T.observers table.now) known.new.reports.direct) }
+    ensures grown { IfOk result (λ taken. HaveGrown (T.observers table.now) known.old.reports.direct known.new.reports.direct taken.grown.items) }
+    ensures before { before known.new.reports known.new.fresh.items ≡ before known.old.reports known.old.fresh.items }
 {
     let mut joiners = joiners;
     let mut count = 0;
     let mut grown = Vec::new(alloc);
     for alert in alerts {
-        if take(table, kept, direct, all, &mut joiners, &mut grown, alert)? {
+        if take(table, kept, known, &mut joiners, &mut grown, alert)? {
             count += 1;
         }
     }

@@ -1,15 +1,14 @@
 use Rattle.std.proofs.Common.{◌∙◌, ◌+◌, ap, sym, drop}
-use Rattle.rapid_cut.specs.Growing.{without}
-use Rattle.rapid_cut.proofs.Fresh.{without_none, without_next}
+use Rattle.rapid_cut.specs.Growing.{before}
+use Rattle.rapid_cut.proofs.Fresh.{before_none, before_next}
 use Rattle.rapid_cut.proofs.Passing.{drop_next, drop_end}
 use Rattle.rapid_cut.proofs.growing.take_out.Goals as goal
 
-pub loop-report-preserved : goal.loop-report-preserved
-loop-report-preserved c =
-    ap (λ r. without r (drop (c.loop-report.report-index + 1) c.args.fresh.now)) c.remove.ensures
-    ∙ without_next c.loop-report.reports (drop (c.loop-report.report-index + 1) c.args.fresh.now) c.report-item.result
-    ∙ ap (without c.loop-report.reports) (sym (drop_next c.args.fresh.now c.loop-report.report-index c.report-item.result c.loop-report-test.true c.report-item.is)) ∙ c.loop-report.invariant
+pub loop-added-preserved : goal.loop-added-preserved
+loop-added-preserved c =
+    before_next c.loop-added.reports c.take_out.new.self (drop (c.loop-added.added-index + 1) c.args.fresh.now) c.added-item.result c.take_out.ensures.direct c.take_out.ensures.all
+    ∙ ap (before c.loop-added.reports) (sym (drop_next c.args.fresh.now c.loop-added.added-index c.added-item.result c.loop-added-test.true c.added-item.is)) ∙ c.loop-added.invariant
 
 pub returns : goal.returns
 returns c =
-    sym (without_none c.loop-report.reports) ∙ ap (without c.loop-report.reports) (sym (drop_end c.args.fresh.now c.loop-report.report-index c.loop-report-test.false)) ∙ c.loop-report.invariant
+    sym (before_none c.loop-added.reports (drop c.loop-added.added-index c.args.fresh.now) (drop_end c.args.fresh.now c.loop-added.added-index c.loop-added-test.false)) ∙ c.loop-added.invariant

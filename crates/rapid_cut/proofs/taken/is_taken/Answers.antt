@@ -9,21 +9,21 @@ use Rattle.rapid_cut.proofs.taken.is_taken.Goals as goal
 pub returns-then-is_on-clause-value : goal.returns-then-is_on-clause-value
 returns-then-is_on-clause-value g c =
     let t = g.T.ObserverTable.observers c.args.table.now in
-    let known : (t.is_member c.args.alert.now.subject || is_in (subjects c.args.direct.now) c.args.alert.now.subject) ≡ true =
+    let known : (t.is_member c.args.alert.now.subject || is_in (subjects c.args.reports.now.direct) c.args.alert.now.subject) ≡ true =
     elim c.if-member.branch [
-      | then-member w ↦ ap (λ b. b || is_in (subjects c.args.direct.now) c.args.alert.now.subject) (sym c.requires.member ∙ w.if-member.true)
+      | then-member w ↦ ap (λ b. b || is_in (subjects c.args.reports.now.direct) c.args.alert.now.subject) (sym c.requires.member ∙ w.if-member.true)
       | else-member w ↦
-          ap (λ b. b || is_in (subjects c.args.direct.now) c.args.alert.now.subject) (sym c.requires.member ∙ w.if-member.false) ∙ sym w.is_on.ensures ∙ sym w.value-is ∙ c.if-is_on.true
+          ap (λ b. b || is_in (subjects c.args.reports.now.direct) c.args.alert.now.subject) (sym c.requires.member ∙ w.if-member.false) ∙ sym w.is_on.ensures ∙ sym w.value-is ∙ c.if-is_on.true
     ] in
-    c.if-is_on.true ∙ sym (taken_when t c.args.direct.now (alert_of c.args.alert.now) (sym c.requires.well_formed ∙ c.if-well_formed.true) known)
+    c.if-is_on.true ∙ sym (taken_when t c.args.reports.now.direct (alert_of c.args.alert.now) (sym c.requires.well_formed ∙ c.if-well_formed.true) known)
 
 pub returns-else-is_on-clause-value : goal.returns-else-is_on-clause-value
 returns-else-is_on-clause-value g c =
     let t = g.T.ObserverTable.observers c.args.table.now in
-    let known : (t.is_member c.args.alert.now.subject || is_in (subjects c.args.direct.now) c.args.alert.now.subject) ≡ false =
+    let known : (t.is_member c.args.alert.now.subject || is_in (subjects c.args.reports.now.direct) c.args.alert.now.subject) ≡ false =
     elim c.if-member.branch [
       | then-member w ↦ (let no : true ≡ false = sym w.if-member.true ∙ sym w.value-is ∙ c.if-is_on.false in cc)
       | else-member w ↦
-          ap (λ b. b || is_in (subjects c.args.direct.now) c.args.alert.now.subject) (sym c.requires.member ∙ w.if-member.false) ∙ sym w.is_on.ensures ∙ sym w.value-is ∙ c.if-is_on.false
+          ap (λ b. b || is_in (subjects c.args.reports.now.direct) c.args.alert.now.subject) (sym c.requires.member ∙ w.if-member.false) ∙ sym w.is_on.ensures ∙ sym w.value-is ∙ c.if-is_on.false
     ] in
-    ap (λ n. nat_lt n 512) c.requires.joiners ∙ sym (taken_where_room t c.args.direct.now (alert_of c.args.alert.now) (sym c.requires.well_formed ∙ c.if-well_formed.true) known)
+    ap (λ n. nat_lt n 512) c.requires.joiners ∙ sym (taken_where_room t c.args.reports.now.direct (alert_of c.args.alert.now) (sym c.requires.well_formed ∙ c.if-well_formed.true) known)

@@ -1,11 +1,19 @@
-use Rattle.std.proofs.Common.{sym, subst}
+use Rattle.std.proofs.Common.{◌∙◌, ap, ◌||◌, sym, subst}
 use Rattle.rapid_cut.specs.Growing.{HaveGrown}
-use Rattle.rapid_cut.proofs.Fresh.{grown_more}
+use Rattle.rapid_cut.specs.Masks.{has_ring}
+use Rattle.rapid_cut.proofs.Fresh.{adds_one, grown_more}
 use Rattle.rapid_cut.proofs.taken.put.Goals as goal
+
+pub returns-clause-direct : goal.returns-clause-direct
+returns-clause-direct g c = adds_one c.args.known.now.reports.direct c.add.new.self.reports.direct c.args.subject c.args.ring c.bit-one.result c.bit-one.ensures c.in_ok-add.ensures.direct
+
+pub returns-clause-all : goal.returns-clause-all
+returns-clause-all g c = adds_one c.args.known.now.reports.all c.add.new.self.reports.all c.args.subject c.args.ring c.bit-one.result c.bit-one.ensures c.in_ok-add.ensures.all
 
 pub returns-clause-grown : goal.returns-clause-grown
 returns-clause-grown g c start grown =
     let t = g.T.ObserverTable.observers c.args.table.now in
-    subst (λ r. HaveGrown t start r c.list.new.grown.items) (sym c.in_ok-add_new.ensures.added)
-    (grown_more t start c.args.direct.now.reports c.args.report.0 c.args.report.1 c.args.mask c.args.grown.now.items c.list.new.grown.items c.is_low-was_low.result c.is_low-now_low.result
-    c.requires.ring c.requires.mask c.is_low-was_low.ensures c.is_low-now_low.ensures c.in_ok-list.ensures grown)
+    subst (λ r. HaveGrown t start r c.list.new.grown.items)
+    (sym (adds_one c.args.known.now.reports.direct c.add.new.self.reports.direct c.args.subject c.args.ring c.bit-one.result c.bit-one.ensures c.in_ok-add.ensures.direct))
+    (grown_more t start c.args.known.now.reports.direct c.args.subject c.args.ring c.args.so_far.direct c.with.result c.args.grown.now.items c.list.new.grown.items c.is_low-was_low.result c.is_low-now_low.result
+    c.requires.direct (λ j. c.with.ensures j ∙ ap (λ b. has_ring c.args.so_far.direct j || b) (c.bit-one.ensures j)) c.is_low-was_low.ensures c.is_low-now_low.ensures c.in_ok-list.ensures grown)

@@ -18,26 +18,25 @@ loop-alert-preserved g c =
     record {
       kept = c.take.ensures.kept;
       known =
-          includes_when c.in_ok-take.field-0 c.loop-alert.all.reports c.loop-alert.direct.reports c.take.new.all.reports c.take.new.direct.reports (report_of (alert_of c.alert-item.result))
+          includes_when c.in_ok-take.field-0 c.loop-alert.known.reports.all c.loop-alert.known.reports.direct c.take.new.known.reports.all c.take.new.known.reports.direct (report_of (alert_of c.alert-item.result))
           c.in_ok-take.ensures.all c.in_ok-take.ensures.direct c.loop-alert.invariant.known;
-      grown = c.in_ok-take.ensures.grown c.args.direct.now.reports c.loop-alert.invariant.grown;
-      direct_before = c.take.ensures.direct_before ∙ c.loop-alert.invariant.direct_before;
-      all_before = c.take.ensures.all_before ∙ c.loop-alert.invariant.all_before;
+      grown = c.in_ok-take.ensures.grown c.args.known.now.reports.direct c.loop-alert.invariant.grown;
+      before = c.take.ensures.before ∙ c.loop-alert.invariant.before;
       taking =
-          taking_more t c.args.direct.now.reports (map alert_of c.args.alerts.now) c.loop-alert.alert-index c.loop-alert.direct.reports c.take.new.direct.reports
+          taking_more t c.args.known.now.reports.direct (map alert_of c.args.alerts.now) c.loop-alert.alert-index c.loop-alert.known.reports.direct c.take.new.known.reports.direct
           c.loop-alert.joiners c.take.new.joiners c.loop-alert.count c.if-branch.count (alert_of c.alert-item.result) c.in_ok-take.field-0
           at c.in_ok-take.ensures.taken c.in_ok-take.ensures.direct c.in_ok-take.ensures.joiners counted c.loop-alert.invariant.taking;
       into =
-          into_more t c.args.direct.now.reports (map alert_of c.args.alerts.now) c.loop-alert.alert-index c.loop-alert.direct.reports c.take.new.direct.reports c.args.all.now.reports c.loop-alert.all.reports c.take.new.all.reports
+          into_more t c.args.known.now.reports.direct (map alert_of c.args.alerts.now) c.loop-alert.alert-index c.loop-alert.known.reports.direct c.take.new.known.reports.direct c.args.known.now.reports.all c.loop-alert.known.reports.all c.take.new.known.reports.all
           (alert_of c.alert-item.result) c.in_ok-take.field-0 at c.in_ok-take.ensures.taken c.in_ok-take.ensures.direct c.in_ok-take.ensures.all c.loop-alert.invariant.into;
     }
 
 pub returns-clause-direct : goal.returns-clause-direct
 returns-clause-direct g c =
-    (taking_all (g.T.ObserverTable.observers c.args.table.now) c.args.direct.now.reports (map alert_of c.args.alerts.now) c.loop-alert.alert-index c.loop-alert.direct.reports c.loop-alert.joiners c.loop-alert.count
+    (taking_all (g.T.ObserverTable.observers c.args.table.now) c.args.known.now.reports.direct (map alert_of c.args.alerts.now) c.loop-alert.alert-index c.loop-alert.known.reports.direct c.loop-alert.joiners c.loop-alert.count
     (drop_done alert_of c.args.alerts.now c.loop-alert.alert-index c.loop-alert-test.false) c.loop-alert.invariant.taking).0
 
 pub returns-clause-all : goal.returns-clause-all
 returns-clause-all g c =
-    into_all (g.T.ObserverTable.observers c.args.table.now) c.args.direct.now.reports (map alert_of c.args.alerts.now) c.loop-alert.alert-index c.loop-alert.direct.reports c.args.all.now.reports c.loop-alert.all.reports
+    into_all (g.T.ObserverTable.observers c.args.table.now) c.args.known.now.reports.direct (map alert_of c.args.alerts.now) c.loop-alert.alert-index c.loop-alert.known.reports.direct c.args.known.now.reports.all c.loop-alert.known.reports.all
     (drop_done alert_of c.args.alerts.now c.loop-alert.alert-index c.loop-alert-test.false) c.loop-alert.invariant.into

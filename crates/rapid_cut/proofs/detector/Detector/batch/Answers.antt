@@ -1,32 +1,29 @@
 use Rattle.std.proofs.Common.{◌≡◌, ◌∙◌, ap, sym, map}
 use Rattle.rapid_model.specs.Detector.{Detector}
 use Rattle.rapid_alerts.specs.Alerts.{alert_of}
-use Rattle.rapid_cut.specs.Growing.{without}
+use Rattle.rapid_cut.specs.Known.{Known}
 use Rattle.rapid_cut.proofs.Batches.{closed_after, after_along, kept_along, view_along}
-use Rattle.rapid_cut.proofs.Fresh.{without_none}
+use Rattle.rapid_cut.proofs.Fresh.{before_none}
 use Rattle.rapid_cut.proofs.detector.Detector.batch.Goals as goal
 
 pub returns-then-self-clause-taken : goal.returns-then-self-clause-taken
 returns-then-self-clause-taken g c =
     let xs = map alert_of c.args.alerts.now in
-    let d : Detector = record { direct = c.self.inside.direct.reports; closed = c.self.inside.closed; skipped = c.self.inside.skipped } in
+    let d : Detector = record { direct = c.self.inside.known.reports.direct; closed = c.self.inside.closed; skipped = c.self.inside.skipped } in
     closed_after (g.T.ObserverTable.observers c.self.inside.table) d xs c.if-self.true ∙ after_along g.T.ObserverTable.observers _ _ xs c.self.view_is
 
 pub invariant_of-self-in-Err : goal.invariant_of-self-in-Err
 invariant_of-self-in-Err g c =
-    let direct : c.undo.new.self.reports ≡ c.self.inside.direct.reports =
-    c.undo.ensures.reports ∙ c.take_batch-advance.ensures.direct_before ∙ ap (without c.self.inside.direct.reports) c.self.invariant.2 ∙ without_none c.self.inside.direct.reports in
-    let all : c.undo-in-Err.new.self.reports ≡ c.self.inside.all.reports =
-    c.undo-in-Err.ensures.reports ∙ c.take_batch-advance.ensures.all_before ∙ ap (without c.self.inside.all.reports) c.self.invariant.3 ∙ without_none c.self.inside.all.reports in (
-      kept_along (g.T.ObserverTable.observers c.self.inside.table) c.self.inside.direct.reports c.undo.new.self.reports c.self.inside.all.reports c.undo-in-Err.new.self.reports
-          c.self.inside.active.items c.take_batch-advance.new.active.items c.self.inside.joiners c.self.inside.closed (sym direct) (sym all) (sym c.in-Err.ensures.active) c.self.invariant.0,
+    let known : c.undo.new.self.reports ≡ c.self.inside.known.reports =
+    c.undo.ensures.reports ∙ c.take_batch-advance.ensures.before ∙ before_none c.self.inside.known.reports c.self.inside.known.fresh.items c.self.invariant.2 in (
+      kept_along (g.T.ObserverTable.observers c.self.inside.table) c.self.inside.known.reports c.undo.new.self.reports
+          c.self.inside.active.items c.take_batch-advance.new.active.items c.self.inside.joiners c.self.inside.closed (sym known) (sym c.in-Err.ensures.active) c.self.invariant.0,
       c.take_batch-advance.ensures.kept,
       c.undo.ensures.fresh,
-      c.undo-in-Err.ensures.fresh,
     )
 
 pub returns-in-Err-clause-unchanged : goal.returns-in-Err-clause-unchanged
 returns-in-Err-clause-unchanged g c =
-    view_along c.self.inside.table c.undo.new.self.reports c.self.inside.direct.reports c.self.inside.closed c.self.inside.skipped
-    (c.undo.ensures.reports ∙ c.take_batch-advance.ensures.direct_before ∙ ap (without c.self.inside.direct.reports) c.self.invariant.2 ∙ without_none c.self.inside.direct.reports)
+    view_along c.self.inside.table c.undo.new.self.reports.direct c.self.inside.known.reports.direct c.self.inside.closed c.self.inside.skipped
+    (ap (λ (k : Known). k.direct) (c.undo.ensures.reports ∙ c.take_batch-advance.ensures.before ∙ before_none c.self.inside.known.reports c.self.inside.known.fresh.items c.self.invariant.2))
     ∙ c.self.view_is
