@@ -7,6 +7,7 @@ pub mod Joiners
 pub mod Fresh
 pub mod Keeping
 pub mod Masks
+pub mod Counts
 pub mod Taking
 pub mod Cuts
 pub mod InTurn

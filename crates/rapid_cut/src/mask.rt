@@ -70,7 +70,12 @@ fn without(mask: u16, rings: u16) -> u16
 pub fn count(mask: u16, rings: u8) -> usize
     ensures { result ≡ count_by (has_ring mask) (range_with_len 0 rings) }
 {
-    (0..rings).filter(|ring| has_bit(mask, *ring)).count()
+    let first = if rings < 16 {
+        mask & ((1 << rings) - 1)
+    } else {
+        mask
+    };
+    first.count_ones() as usize
 }
 
 /// Whether the mask has one of sixteen rings.

@@ -1,9 +1,10 @@
 // The alerts that are taken.
 
-ghost use Rattle.std.specs.Prelude.{◌≡◌, ◌≤◌, ◌<◌, ℕ, true, not, ◌&&◌, ◌∷◌, [], ◌++◌, map, length, IfOk, OnOk, if◌then◌else◌};
+ghost use Rattle.std.specs.Prelude.{◌≡◌, ◌≤◌, ◌<◌, ℕ, true, not, ◌&&◌, ◌∷◌, [], ◌++◌, map, length, count_by, nat_le, IfOk, OnOk, if◌then◌else◌};
 ghost use Rattle.std.specs.FinSet as set;
 ghost use Rattle.rapid_model.specs.Alert as model;
 ghost use Rattle.rapid_model.specs.Process.{is_in};
+ghost use Rattle.rapid_model.specs.Ring.{rings};
 ghost use Rattle.rapid_model.specs.Reports.{Reports, Includes, report_of, subjects};
 ghost use Rattle.rapid_model.specs.Detector as detector;
 ghost use Rattle.rapid_alerts.specs.Alerts.{alert_of};
@@ -99,16 +100,19 @@ fn joiners_with<T: ObserverTable>(
     }
 }
 
-/// Lists a process that had fewer than L reports and now has as many.
-fn list(
-    grown: &mut Vec<Process>,
-    was_low: bool,
-    is_low: bool,
-    subject: Process,
-) -> Result<(), AllocError>
-    ensures { OnOk result (grown.new.items ≡ (if not was_low && is_low then grown.old.items ++ subject ∷ [] else grown.old.items)) }
+/// Whether a process with reports for the first rings has fewer than L, and with them for the
+/// others as many.
+fn comes_to_low<T: ObserverTable>(table: &T, before: u16, now: u16) -> bool
+    ensures { result ≡ (not (nat_le (T.observers table.now).params.l (count_by (has_ring before) (rings (T.observers table.now)))) && nat_le (T.observers table.now).params.l (count_by (has_ring now) (rings (T.observers table.now)))) }
 {
-    if !was_low && is_low {
+    !is_low(table, before) && is_low(table, now)
+}
+
+/// Lists a process that comes to L reports.
+fn list(grown: &mut Vec<Process>, comes_to_low: bool, subject: Process) -> Result<(), AllocError>
+    ensures { OnOk result (grown.new.items ≡ (if comes_to_low then grown.old.items ++ subject ∷ [] else grown.old.items)) }
+{
+    if comes_to_low {
         grown.push(subject)?;
     }
     Ok(())
@@ -133,14 +137,13 @@ fn put<T: ObserverTable>(
     ensures before { before known.new.reports known.new.fresh.items ≡ before known.old.reports known.old.fresh.items }
 {
     let one = bit(ring);
-    let was_low = is_low(table, so_far.direct);
-    let now_low = is_low(table, with(so_far.direct, one));
+    let comes_to_low = comes_to_low(table, so_far.direct, with(so_far.direct, one));
     let rings = Masks {
         direct: one,
         all: one,
     };
     known.add(&subject, so_far, rings)?;
-    list(grown, was_low, now_low, subject)?;
+    list(grown, comes_to_low, subject)?;
     Ok(())
 }
 

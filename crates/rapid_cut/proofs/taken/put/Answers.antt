@@ -1,4 +1,5 @@
-use Rattle.std.proofs.Common.{◌∙◌, ap, ◌||◌, sym, subst}
+use Rattle.std.proofs.Common.{cond, count_by, nat_le, refl, [], ◌∷◌, ◌++◌, ◌∙◌, ap, ◌||◌, sym, subst}
+use Rattle.rapid_model.specs.Ring.{rings}
 use Rattle.rapid_cut.specs.Growing.{HaveGrown}
 use Rattle.rapid_cut.specs.Masks.{has_ring}
 use Rattle.rapid_cut.proofs.Fresh.{adds_one, grown_more}
@@ -15,5 +16,7 @@ returns-clause-grown g c start grown =
     let t = g.T.ObserverTable.observers c.args.table.now in
     subst (λ r. HaveGrown t start r c.list.new.grown.items)
     (sym (adds_one c.args.known.now.reports.direct c.add.new.self.reports.direct c.args.subject c.args.ring c.bit-one.result c.bit-one.ensures c.in_ok-add.ensures.direct))
-    (grown_more t start c.args.known.now.reports.direct c.args.subject c.args.ring c.args.so_far.direct c.with.result c.args.grown.now.items c.list.new.grown.items c.is_low-was_low.result c.is_low-now_low.result
-    c.requires.direct (λ j. c.with.ensures j ∙ ap (λ b. has_ring c.args.so_far.direct j || b) (c.bit-one.ensures j)) c.is_low-was_low.ensures c.is_low-now_low.ensures c.in_ok-list.ensures grown)
+    (grown_more t start c.args.known.now.reports.direct c.args.subject c.args.ring c.args.so_far.direct c.with.result c.args.grown.now.items c.list.new.grown.items
+    (nat_le t.params.l (count_by (has_ring c.args.so_far.direct) (rings t))) (nat_le t.params.l (count_by (has_ring c.with.result) (rings t)))
+    c.requires.direct (λ j. c.with.ensures j ∙ ap (λ b. has_ring c.args.so_far.direct j || b) (c.bit-one.ensures j)) refl refl
+    (c.in_ok-list.ensures ∙ ap (λ b. cond b (c.args.grown.now.items ++ c.args.subject ∷ []) c.args.grown.now.items) c.comes_to_low-comes_to_low.ensures) grown)
