@@ -1,8 +1,10 @@
+pub mod Arrivals
 pub mod Edits
 pub mod Following
 pub mod Keys
 pub mod Lookups
 pub mod Numbers
+pub mod Orders
 pub mod Rounds
 pub mod Sets
 pub mod Stretches

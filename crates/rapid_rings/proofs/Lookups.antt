@@ -1,28 +1,27 @@
 -- What is found by place: the seats of members, and what members and others observe.
 use Rattle.std.proofs.Common.{◌≡◌, ℕ, ◌+◌, ◌<◌, ◌≤◌, Bool, true, false, ◌||◌, cond, List, [], ◌∷◌, ◌++◌, map, length, get_or, take, refl, sym, ap, subst, ◌∙◌, Some, None, slice_get, position, nat_lt, arith}
 use Rattle.std.specs.Prelude.{Option, filter_map}
-use Rattle.std.specs.Option.{option_map, option_eq, option_and_then}
+use Rattle.std.specs.Option.{option_map, option_eq, option_to_list}
 use Rattle.std.specs.List.{find, position_or_len, cons_option}
-use Rattle.std.specs.FinSet as set
 use Rattle.std.proofs.lemmas.Bool.{ltb-true}
 use Rattle.std.proofs.lemmas.List.{take_more, take_all, map-append}
+use Rattle.std.proofs.lemmas.List.Elements.{filter_map-append}
 use Rattle.std.proofs.lemmas.List.Folds.{list_any_at}
 use Rattle.std.proofs.lemmas.List.Sums.{passes_at_first}
-use Rattle.std.proofs.lemmas.List.FromFn.{length-map-range_with_len, get_or-map-range_with_len}
-use Rattle.std.proofs.lemmas.Option.{slice_get-get_or, slice_get-map, slice_get_read, slice_get_past}
+use Rattle.std.proofs.lemmas.Option.{slice_get-get_or}
 use Rattle.rapid_model.specs.Process.{Process, same_bytes, is_in}
 use Rattle.rapid_model.specs.Configuration.{Configuration, position_of}
 use Rattle.rapid_model.specs.Ring.{is_next_before, ring_observer, observers_of, rings, subject_on, subjects_of}
 use Rattle.rapid_model.proofs.Orders.{same_bytes_decides}
 use Rattle.rapid_config.proofs.Places.{in_by_place}
-use Rattle.rapid_rings.specs.Seats.{Seat, Seats, seat_cmp, seat, seats_of, rings_of, seatings_of}
+use Rattle.rapid_rings.specs.Seats.{Placed, HasRings}
 use Rattle.rapid_rings.proofs.Rounds.{not_found}
 use Rattle.rapid_rings.proofs.Numbers.{tested, not_tested}
 use Rattle.rapid_rings.proofs.Subjects.{is_observer}
 
 -- ---- places
 
-found_place : (t : Process → Bool) (ms : List Process) (i : ℕ) (d : Process) → position t ms ≡ Some i → (i < length ms) × (t (get_or ms i d) ≡ true)
+pub found_place : (t : Process → Bool) (ms : List Process) (i : ℕ) (d : Process) → position t ms ≡ Some i → (i < length ms) × (t (get_or ms i d) ≡ true)
 found_place t ms i d h =
     elim (nat_lt (position_or_len t ms) (length ms)) as (λ b. nat_lt (position_or_len t ms) (length ms) ≡ b → cond b (Some (position_or_len t ms)) None ≡ Some i → (i < length ms) × (t (get_or ms i d) ≡ true)) [
       | true ↦ λ e h.
@@ -42,33 +41,10 @@ member_at c o i h =
     list_any_at (same_bytes o) c.members i o at.0 at.1
 
 -- the member at a place
-at_place : (c : Configuration) (o : Process) (i : ℕ) → position_of c o ≡ Some i → slice_get c.members i ≡ Some o
-at_place c o i h =
-    let at = found_place (same_bytes o) c.members i o h in
-    slice_get-get_or c.members i o at.0 ∙ ap Some (sym ((same_bytes_decides o (get_or c.members i o)).0 at.1))
-
--- ---- the seats that rings keep
-
-pub seat_there : (c : Configuration) (xs : List (List Seat)) (i k place : ℕ) (x : List Seat) (r : Option Seat)
-    → xs ≡ seatings_of c → i ≡ k → i < length xs → x ≡ get_or xs i x → r ≡ slice_get x place → r ≡ option_and_then (λ seats. slice_get seats place) (slice_get (seatings_of c) k)
-seat_there c xs i k place x r is same below at h =
-    let kept : slice_get xs i ≡ Some x = slice_get_read xs (length xs) i x refl below at in
-    h ∙ ap (option_and_then (λ (seats : List Seat). slice_get seats place)) (sym kept ∙ (λ j. slice_get (is j) (same j)))
-
-pub seat_missing : (c : Configuration) (xs : List (List Seat)) (i k place : ℕ)
-    → xs ≡ seatings_of c → i ≡ k → length xs ≤ i → None ≡ option_and_then (λ seats. slice_get seats place) (slice_get (seatings_of c) k)
-seat_missing c xs i k place is same past =
-    ap (option_and_then (λ (seats : List Seat). slice_get seats place)) (sym (slice_get_past xs i past) ∙ (λ j. slice_get (is j) (same j)))
-
--- the seat of a member on a ring that there is
-seat_of_member : (c : Configuration) (k place : ℕ) (o : Process) → k < c.params.k → position_of c o ≡ Some place
-    → option_and_then (λ seats. slice_get seats place) (slice_get (seatings_of c) k) ≡ Some (seat k o)
-seat_of_member c k place o there at =
-    let long : length (seatings_of c) ≡ c.params.k = length-map-range_with_len (λ k. map (seat k) c.members) 0 c.params.k in
-    ap (option_and_then (λ (seats : List Seat). slice_get seats place))
-    (slice_get-get_or (seatings_of c) k [] (omega (arith, long, there))
-    ∙ ap Some (get_or-map-range_with_len (λ k. map (seat k) c.members) 0 c.params.k k k [] there (omega arith)))
-    ∙ slice_get-map (seat k) c.members place ∙ ap (option_map (seat k)) (at_place c o place at)
+pub found_member : (ms : List Process) (o : Process) (i : ℕ) → position (same_bytes o) ms ≡ Some i → slice_get ms i ≡ Some o
+found_member ms o i h =
+    let at = found_place (same_bytes o) ms i o h in
+    slice_get-get_or ms i o at.0 ∙ ap Some (sym ((same_bytes_decides o (get_or ms i o)).0 at.1))
 
 -- ---- what is observed
 
@@ -83,36 +59,16 @@ on_ring_missing c k o past =
     sym (not_found (λ m. option_eq same_bytes None (Some o)) c.members (λ _ _. refl))
     ∙ ap (λ b. find (λ m. option_eq same_bytes (cond b (ring_observer c.members k m) None) (Some o)) c.members) (sym (not_tested k c.params.k past))
 
--- what the seats on a ring say of the seat that is kept for a member
-pub subject_there : (c : Configuration) (xs : List Seats) (i k place : ℕ) (x : Seats) (y : Seat) (o : Process) (r : Option Process)
-    → xs ≡ rings_of c → i ≡ k → i < length xs → x ≡ get_or xs i x
-    → Some y ≡ option_and_then (λ seats. slice_get seats place) (slice_get (seatings_of c) k) → position_of c o ≡ Some place
-    → ((ring : ℕ) (ms : List Process) (p : Process) → x ≡ seats_of ring ms → y.0 ≡ (seat ring p).0 → y.1 ≡ p → is_in ms p ≡ true → r ≡ find (λ m. option_eq same_bytes (ring_observer ms ring m) (Some p)) ms)
-    → r ≡ subject_on c o k
-subject_there c xs i k place x y o r all same below at seated here h =
-    let long : length xs ≡ c.params.k = ap length all ∙ length-map-range_with_len (λ k. seats_of k c.members) 0 c.params.k in
-    let there : k < c.params.k = omega (arith, long, below, same) in
-    let own : y ≡ seat k o = inside (seated ∙ seat_of_member c k place o there here) in
-    h k c.members o
-    (at ∙ ap (λ ys. get_or ys i x) all ∙ get_or-map-range_with_len (λ k. seats_of k c.members) 0 c.params.k i k x (omega (arith, there, same)) (omega (arith, same)))
-    (ap (λ (z : Seat). z.0) own) (ap (λ (z : Seat). z.1) own) (member_at c o place here)
-    ∙ on_ring_there c k o there
-  where
-    inside : {x y : Seat} → ◌≡◌ {A = Option Seat} (Some x) (Some y) → x ≡ y
-    inside e = cc
+-- what a ring says of a member
+pub subject_there : (c : Configuration) (xs : List (List Placed)) (i k : ℕ) (o : Process) (r : Option Process)
+    → HasRings c xs → i ≡ k → i < length xs → r ≡ find (λ m. option_eq same_bytes (ring_observer c.members k m) (Some o)) c.members → r ≡ subject_on c o k
+subject_there c xs i k o r has same below h =
+    let long = has.count in
+    h ∙ on_ring_there c k o (omega (arith, long, below, same))
 
-pub subject_unseated : (c : Configuration) (xs : List Seats) (i k place : ℕ) (o : Process)
-    → xs ≡ rings_of c → i ≡ k → i < length xs
-    → None ≡ option_and_then (λ seats. slice_get seats place) (slice_get (seatings_of c) k) → position_of c o ≡ Some place → None ≡ subject_on c o k
-subject_unseated c xs i k place o all same below none here =
-    let long : length xs ≡ c.params.k = ap length all ∙ length-map-range_with_len (λ k. seats_of k c.members) 0 c.params.k in
-    let no : ◌≡◌ {A = Option Seat} None (Some (seat k o)) = none ∙ seat_of_member c k place o (omega (arith, long, below, same)) here in
-    cc
-
-pub subject_missing : (c : Configuration) (xs : List Seats) (i k : ℕ) (o : Process)
-    → xs ≡ rings_of c → i ≡ k → length xs ≤ i → None ≡ subject_on c o k
-subject_missing c xs i k o all same past =
-    let long : length xs ≡ c.params.k = ap length all ∙ length-map-range_with_len (λ k. seats_of k c.members) 0 c.params.k in
+pub subject_missing : (c : Configuration) (xs : List (List Placed)) (i k : ℕ) (o : Process) → HasRings c xs → i ≡ k → length xs ≤ i → None ≡ subject_on c o k
+subject_missing c xs i k o has same past =
+    let long = has.count in
     on_ring_missing c k o (omega (arith, long, past, same))
 
 -- ---- who is no member observes nobody
@@ -160,7 +116,7 @@ stranger_observes_nobody c o none =
     is_any None = false
     is_any (Some _) = true
 
--- ---- members with their places before
+-- ---- lists
 
 -- one more of a list, under a function
 pub map_push : {X Y : Type 0} (f : X → Y) (xs : List X) (i : ℕ) (x : X) → i < length xs → x ≡ get_or xs i x → map f (take (i + 1) xs) ≡ map f (take i xs) ++ f x ∷ []
@@ -170,11 +126,12 @@ map_push f xs i x lt is =
 pub map_whole : {X Y : Type 0} (f : X → Y) (xs : List X) (i : ℕ) → length xs ≤ i → map f (take i xs) ≡ map f xs
 map_whole f xs i le = ap (map f) (take_all i xs le)
 
--- the seats of members with their places
-pub seats_of_located : (k : ℕ) (f : Process → Option ℕ) (ms : List Process) → map (λ (m : Process × Option ℕ). seat k m.0) (map (λ m. (m, f m)) ms) ≡ map (seat k) ms
-seats_of_located k f [] = refl
-seats_of_located k f (m ∷ ms) = ap (λ ss. seat k m ∷ ss) (seats_of_located k f ms)
+one_or_none : {X : Type 0} (o : Option X) → cons_option o [] ≡ option_to_list o
+one_or_none None = refl
+one_or_none (Some x) = refl
 
-pub ring_of_seats : (k : ℕ) (ms : List Process) (x : List Seat) → x ≡ map (seat k) ms → ◌≡◌ {A = Seats} (set.from_list x) (seats_of k ms)
-unfolding seats_of
-ring_of_seats k ms x is = ap (set.from_list {R = seat_cmp}) is
+-- one more of a list, under a function that may give nothing
+pub filter_map_push : {X Y : Type 0} (f : X → Option Y) (xs : List X) (i : ℕ) (x : X) → i < length xs → x ≡ get_or xs i x → filter_map f (take (i + 1) xs) ≡ filter_map f (take i xs) ++ option_to_list (f x)
+filter_map_push f xs i x lt is =
+    ap (filter_map f) (take_more xs i x lt ∙ ap (λ p. take i xs ++ p ∷ []) (sym is))
+    ∙ filter_map-append f (take i xs) (x ∷ []) ∙ ap (λ ys. filter_map f (take i xs) ++ ys) (one_or_none (f x))

@@ -1,5 +1,5 @@
 -- Going round a ring: the member next before a process is the one with none between.
-use Rattle.std.proofs.Common.{◌≡◌, ℕ, Bool, true, false, cond, not, ◌&&◌, ◌||◌, List, [], ◌∷◌, map, refl, sym, ap, subst, ◌∙◌, Option, Some, None, zero, suc, slice_get}
+use Rattle.std.proofs.Common.{◌≡◌, ℕ, Bool, true, false, cond, not, ◌&&◌, ◌||◌, List, [], ◌∷◌, map, refl, sym, ap, subst, ◌∙◌, Option, Some, None}
 use Rattle.std.specs.Option.{option_map}
 use Rattle.std.specs.List.{list_any, list_all, find}
 use Rattle.std.specs.declared.cmp.Ordering.{Ordering}
@@ -9,9 +9,9 @@ use Rattle.std.specs.Cmp.{IsTotalOrder, then_total, on_total}
 use Rattle.std.specs.FinSet as set
 use Rattle.std.specs.FinSet.{IsAntisymmetric}
 use Rattle.rapid_model.specs.Process.{Process, bytes_cmp, process_cmp, same_bytes, is_in}
-use Rattle.rapid_model.specs.Ring.{ring_key, is_between, is_next_before, ring_observer}
+use Rattle.rapid_model.specs.Ring.{is_between, is_next_before, ring_observer}
 use Rattle.rapid_model.proofs.Orders.{processes_total, processes_exact, second_equal, first_equal, tie_decides, same_bytes_decides}
-use Rattle.rapid_rings.specs.Seats.{Seat, Seats, seat_cmp, same_seat, seat, seats_of, is_below, sits_between, IsLastBelow, IsLast, IsNextBefore}
+use Rattle.rapid_rings.specs.Seats.{Seat, seat_cmp, same_seat, seat, seats_of, sits_between, IsNextBefore}
 use Rattle.rapid_rings.proofs.Sets.{both, own}
 
 -- ---- the order of seats
@@ -68,14 +68,6 @@ only_one x y s p q h k =
     second : same_seat x y ≡ false → ((is_lt (ordering_reverse (seat_cmp x y)) && is_lt (seat_cmp x s)) || (is_lt (seat_cmp x s) && is_lt (ordering_reverse (seat_cmp y s))) || (is_lt (ordering_reverse (seat_cmp y s)) && is_lt (ordering_reverse (seat_cmp x y)))) ≡ false
     second e = rw (← turned y s, ← turned x y) k
 
--- ---- the seat next before is the last below, or else the last of all
-
-none_of_three : (a b c : Bool) → c ≡ false → (b ≡ true → a ≡ false) → ((a && b) || (b && c) || (c && a)) ≡ false
-none_of_three a true false p h = ap (λ x. (x && true) || false || false) (h refl)
-none_of_three true false false p h = refl
-none_of_three false false false p h = refl
-none_of_three a b true p h = cc
-
 pub none_below : (a b c : Bool) → a ≡ false → b ≡ false → ((a && b) || (b && c) || (c && a)) ≡ false
 none_below false false true p q = refl
 none_below false false false p q = refl
@@ -86,36 +78,6 @@ pub lt_not_back : (o : Ordering) → is_lt o ≡ true → is_lt (ordering_revers
 lt_not_back Less h = refl
 lt_not_back Equal h = cc
 lt_not_back Greater h = cc
-
-lt_not_same : (o : Ordering) → is_lt o ≡ true → is_eq o ≡ false
-lt_not_same Less h = refl
-lt_not_same Equal h = cc
-lt_not_same Greater h = refl
-
-pub next_before_below : (r : Seats) (s x : Seat) → IsLastBelow r s (Some x) → IsNextBefore r s (Some x)
-next_before_below r s x h = (
-  h.0,
-  lt_not_same (seat_cmp x s) h.1,
-  λ q at.
-      none_of_three (is_below x q) (is_below q s) (is_below s x) (ap is_lt (turned x s) ∙ lt_not_back (seat_cmp x s) h.1) (λ e. h.2 q at e),
-)
-
-pub next_before_last : (r : Seats) (s x : Seat) → IsLastBelow r s None → IsLast r (Some x) → same_seat x s ≡ false → IsNextBefore r s (Some x)
-next_before_last r s x none last other =
-    (last.0, other, λ q at. none_below (is_below x q) (is_below q s) (is_below s x) (last.1 q at) (none q at))
-
-pub neither : (o : Ordering) → is_lt o ≡ false → is_lt (ordering_reverse o) ≡ false → is_eq o ≡ true
-neither Less p q = cc
-neither Equal p q = refl
-neither Greater p q = cc
-
--- the last of all is s itself, and none is below it
-pub next_before_own : (r : Seats) (s x : Seat) → IsLastBelow r s None → IsLast r (Some x) → same_seat x s ≡ true → IsNextBefore r s None
-next_before_own r s x none last own q at =
-    neither (seat_cmp q s) (none q at) (ap is_lt (sym (turned q s)) ∙ subst (λ y. is_below y q ≡ false) (same_seat_is x s own) (last.1 q at))
-
-pub next_before_empty : (r : Seats) (s : Seat) → IsLast r None → IsNextBefore r s None
-next_before_empty r s none q at = let e : true ≡ false = sym at ∙ none q in cc
 
 -- ---- the seats of the members
 
@@ -246,21 +208,3 @@ observer_in_seat k ms s (Some x) h =
         let parts = both (not (same_bytes m s)) (list_all (λ q. not (is_between k m q s)) ms) next in
         let free = each_passes (λ q. not (is_between k m q s)) ms x.1 parts.1 there in
         ap (λ (y : Seat). y.1) (only_one (seat k m) (seat k x.1) (seat k s) (apart k m s (not_true (same_bytes m s) parts.0)) (apart k x.1 s (other e)) (not_true (is_between k m x.1 s) free) (none_between e m at))
-
--- ---- the seats of the program
-
-pub observer_on_ring : (r : Seats) (k : ℕ) (ms : List Process) (s : Process) (y : Seat) (x : Option Seat) → r ≡ seats_of k ms → y.0 ≡ ring_key k s → y.1 ≡ s → IsNextBefore r y x → option_map (λ z. z.1) x ≡ ring_observer ms k s
-observer_on_ring r k ms s y x is keyed own h =
-    let same : y ≡ seat k s = λ i. (keyed i, own i) in
-    observer_in_seat k ms s x (subst (λ (q : Seats). IsNextBefore q (seat k s) x) is (subst (λ (z : Seat). IsNextBefore r z x) same h))
-
--- a seat at a place of the seating has the key of its process
-pub seat_at : (k : ℕ) (ms : List Process) (i : ℕ) (key : List ℕ) (p : Process) → slice_get (map (seat k) ms) i ≡ Some (key, p) → key ≡ ring_key k p
-seat_at k [] i key p h = cc
-seat_at k (m ∷ ms) zero key p h =
-    let same : seat k m ≡ (key, p) = inside h in
-    sym (ap (λ (z : Seat). z.0) same) ∙ ap (λ (z : Seat). ring_key k z.1) same
-  where
-    inside : {x y : Seat} → ◌≡◌ {A = Option Seat} (Some x) (Some y) → x ≡ y
-    inside e = cc
-seat_at k (m ∷ ms) (suc i) key p h = seat_at k ms i key p h

@@ -5,48 +5,13 @@ use Rattle.std.specs.Option.{option_map, option_eq}
 use Rattle.std.specs.List.{list_all, find}
 use Rattle.std.specs.declared.cmp.Ordering.{Ordering}
 use Rattle.std.specs.declared.cmp.Ordering.TheVariants.{Less, Equal, Greater}
-use Rattle.std.specs.Ordering.{ordering_reverse, is_lt, is_eq}
+use Rattle.std.specs.Ordering.{ordering_reverse, is_eq}
 use Rattle.rapid_model.specs.Process.{Process, same_bytes, is_in}
 use Rattle.rapid_model.specs.Ring.{is_between, is_next_before, ring_observer}
 use Rattle.rapid_model.proofs.Orders.{same_bytes_decides}
-use Rattle.rapid_rings.specs.Seats.{Seat, Seats, seat_cmp, same_seat, seat, seats_of, is_below, sits_between, IsNextBefore, IsFirstAbove, IsFirst, IsNextAfter}
+use Rattle.rapid_rings.specs.Seats.{Seat, seat_cmp, same_seat, seat, seats_of, is_below, sits_between, IsNextBefore, IsNextAfter}
 use Rattle.rapid_rings.proofs.Sets.{both}
-use Rattle.rapid_rings.proofs.Rounds.{same_seat_is, turned, lt_not_back, only_one, none_below, neither, contains-seats, seated, seats_have, found, not_found, not_true, apart, each_passes, observer_in_seat}
-
--- ---- the seat next after is the first above, or else the first of all
-
-none_of_three : (a b c : Bool) → c ≡ false → (a ≡ true → b ≡ false) → ((a && b) || (b && c) || (c && a)) ≡ false
-none_of_three true b false p h = ap (λ x. (true && x) || (x && false) || false) (h refl)
-none_of_three false true false p h = refl
-none_of_three false false false p h = refl
-none_of_three a b true p h = cc
-
-lt_not_same_back : (o : Ordering) → is_lt o ≡ true → is_eq (ordering_reverse o) ≡ false
-lt_not_same_back Less h = refl
-lt_not_same_back Equal h = cc
-lt_not_same_back Greater h = cc
-
-pub next_after_above : (r : Seats) (s x : Seat) → IsFirstAbove r s (Some x) → IsNextAfter r s (Some x)
-next_after_above r s x h = (
-  h.0,
-  ap is_eq (turned s x) ∙ lt_not_same_back (seat_cmp s x) h.1,
-  λ q at.
-      none_of_three (is_below s q) (is_below q x) (is_below x s) (ap is_lt (turned s x) ∙ lt_not_back (seat_cmp s x) h.1) (λ e. h.2 q at e),
-)
-
-pub next_after_first : (r : Seats) (s x : Seat) → IsFirstAbove r s None → IsFirst r (Some x) → same_seat x s ≡ false → IsNextAfter r s (Some x)
-next_after_first r s x none first other =
-    (first.0, other, λ q at. none_below (is_below s q) (is_below q x) (is_below x s) (none q at) (first.1 q at))
-
--- the first of all is s itself, and none is above it
-pub next_after_own : (r : Seats) (s x : Seat) → IsFirstAbove r s None → IsFirst r (Some x) → same_seat x s ≡ true → IsNextAfter r s None
-next_after_own r s x none first own q at =
-    neither (seat_cmp q s) (subst (λ y. is_below q y ≡ false) (same_seat_is x s own) (first.1 q at)) (ap is_lt (sym (turned q s)) ∙ none q at)
-
-pub next_after_empty : (r : Seats) (s : Seat) → IsFirst r None → IsNextAfter r s None
-next_after_empty r s none q at = let e : true ≡ false = sym at ∙ none q in cc
-
--- ---- the member that is observed
+use Rattle.rapid_rings.proofs.Rounds.{same_seat_is, turned, only_one, contains-seats, seated, seats_have, found, not_found, not_true, apart, each_passes, observer_in_seat}
 
 rotated : (a b c : Bool) → (a || b || c) ≡ false → (b || c || a) ≡ false
 rotated true b c h = cc
@@ -76,7 +41,7 @@ passes_found p (m ∷ ms) o h =
     inside : {x y : Process} → ◌≡◌ {A = Option Process} (Some x) (Some y) → x ≡ y
     inside e = cc
 
-turned_apart : (x s : Seat) → same_seat x s ≡ false → same_seat s x ≡ false
+pub turned_apart : (x s : Seat) → same_seat x s ≡ false → same_seat s x ≡ false
 turned_apart x s h = ap is_eq (turned x s) ∙ still_apart (seat_cmp x s) h
   where
     still_apart : (o : Ordering) → is_eq o ≡ false → is_eq (ordering_reverse o) ≡ false
@@ -117,10 +82,3 @@ subject_in_seat k ms o (Some x) there h =
         (turned_apart (seat k o) (seat k m) (apart k o m (not_true (same_bytes o m) parts.0)))
         free
         (subst (λ y. sits_between (seat k o) (seat k m) y ≡ false) e (h.2 (seat k m) (contains-seats k ms (seat k m) ∙ seats_have k ms m at)))))
-
-pub subject_on_ring : (r : Seats) (k : ℕ) (ms : List Process) (o : Process) (y : Seat) (x : Option Seat)
-    → r ≡ seats_of k ms → y.0 ≡ (seat k o).0 → y.1 ≡ o → is_in ms o ≡ true → IsNextAfter r y x
-    → option_map (λ z. z.1) x ≡ find (λ m. option_eq same_bytes (ring_observer ms k m) (Some o)) ms
-subject_on_ring r k ms o y x is keyed own there h =
-    let same : y ≡ seat k o = λ i. (keyed i, own i) in
-    subject_in_seat k ms o x there (subst (λ (q : Seats). IsNextAfter q (seat k o) x) is (subst (λ (z : Seat). IsNextAfter r z x) same h))

@@ -5,7 +5,6 @@
 //! a [`Table`] of explicit edges.
 #![tactic(auto)]
 
-mod departed;
 mod edge_key;
 mod edge_map;
 mod observer_table;
@@ -13,7 +12,7 @@ mod places;
 mod process_set;
 mod ring;
 mod rings;
-mod seating;
+mod seats;
 mod table;
 mod table_error;
 

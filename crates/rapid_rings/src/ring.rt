@@ -1,277 +1,253 @@
 // One ring.
 
-ghost use Rattle.std.specs.Prelude.{◌≡◌, ◌+◌, ◌-◌, ◌<◌, ◌≤◌, ◌++◌, ◌&&◌, ◌||◌, not, ℕ, true, List, length, take, drop, if◌then◌else◌, Some, None, IfOk, OnOk};
-ghost use Rattle.std.specs.Option.{option_eq};
-ghost use Rattle.std.specs.List.{find, list_any};
-ghost use Rattle.std.specs.Ordering.{is_lt, is_le};
-ghost use Rattle.std.specs.FinSet as set;
-ghost use Rattle.rapid_model.specs.Process.{Process as ModelProcess, same_bytes, is_in};
+ghost use Rattle.std.specs.Prelude.{◌≡◌, true, false, set, ◌-◌, ◌+◌, ◌==◌, ◌≤◌, ◌<◌, ℕ, All, List, length, map, position, slice_get, nat_le, if◌then◌else◌, Some, None, IsTrue, IfOk};
+ghost use Rattle.std.specs.List.{range_with_len};
+ghost use Rattle.std.specs.List.Sorted.{IsPartitionPoint};
+ghost use Rattle.std.specs.Option.{option_and_then, option_eq};
+ghost use Rattle.std.specs.List.{find};
+ghost use Rattle.rapid_model.specs.Process.{Process as ModelProcess, same_bytes};
+ghost use Rattle.rapid_model.specs.Configuration.{identifiers_ascend};
 ghost use Rattle.rapid_model.specs.Ring as model;
-ghost use Rattle.rapid_rings.specs.Seats.{Seat as ModelSeat, seat_cmp, same_seat, seats_of, IsLastBelow, IsLast, IsNextBefore, IsFirstAbove, IsFirst, IsNextAfter};
+ghost use Rattle.rapid_rings.specs.Seats.{IsOrder, member_below, place_at, other_at, rank_before, rank_after, member_if_any};
+ghost use Rattle.rapid_rings.specs.Following.{places_of_new};
 
-use crate::departed::Departed;
+use crate::seats::{Seat, add_seats, ring_key, seats_at, seats_moved};
 use rapid_endpoint::Process;
-use sha2::{Digest, Sha256};
 use std::alloc::{AllocError, Global};
 use std::marker::Model;
 
-/// Up to so many seats are put in their places one by one: that costs less than a sort of all.
-const FEW: usize = 8;
-
-/// A process with its key on a ring. Seats are ordered by key; ties are broken by process.
-pub(crate) type Seat = ([u8; 32], Process);
-
-/// The key of a process on a ring: the SHA-256 (FIPS 180-4) of the ring's number, the identifier
-/// and the endpoint.
-pub(crate) fn ring_key(ring: u8, process: &Process) -> [u8; 32]
-    ensures { result ≡ model.ring_key ring process.now }
-{
-    let mut hasher = Sha256::new();
-    hasher.update(&[ring]);
-    hasher.update(&process.id().bytes());
-    hasher.update(&process.endpoint().to_bytes());
-    hasher.finalize()
-}
-
-// Whether a seat is below another.
-fn is_below(seat: &Seat, other: &Seat) -> bool
-    ensures { result ≡ is_lt (seat_cmp seat.now other.now) }
-{
-    seat.cmp(other).is_lt()
-}
-
-// Whether a seat is not above another.
-fn is_at_most(seat: &Seat, other: &Seat) -> bool
-    ensures { result ≡ is_le (seat_cmp seat.now other.now) }
-{
-    seat.cmp(other).is_le()
-}
-
-/// The seats of the members on one ring, in its order.
+/// The seats of the members on one ring. Members are named by their places in the configuration.
 #[derive(Debug, Drop)]
 pub(crate) struct Ring {
     // ascending
     seats: Vec<Seat>,
+    // of each member, by place: where among the seats its own is
+    ranks: Vec<usize>,
 }
 
 impl Model for Ring {
-    ghost use Rattle.std.specs.FinSet as set;
-    ghost use Rattle.rapid_rings.specs.Seats.{Seats, seats_code, Ascend};
+    ghost use Rattle.std.specs.Prelude.{List};
+    ghost use Rattle.rapid_rings.specs.Seats.{Placed, AreRanks};
 
-    ghost Value = { Seats };
+    ghost Value = { List Placed };
 
-    ghost coded = { seats_code };
+    ghost view = { λ r. r.seats.items };
 
-    ghost view = { λ r. set.from_list r.seats.items };
-
-    ghost invariant = { λ r. Ascend r.seats.items };
+    ghost invariant = { λ r. AreRanks r.seats.items r.ranks.items };
 }
 
 impl Ring {
-    /// The ring of these seats.
-    pub(crate) fn new(mut seats: Vec<Seat>) -> Ring
-        ensures { result ≡ set.from_list seats.items }
+    /// The ring with this number of members, of whom these are the places.
+    pub(crate) fn new(
+        alloc: Global,
+        number: u8,
+        members: &[Process],
+        places: &[u16],
+    ) -> Result<Ring, AllocError>
+        requires all { places.now ≡ range_with_len 0 (length members.now) }
+        requires ascend { IsTrue (identifiers_ascend members.now) }
+        ensures { IfOk result (λ ring. IsOrder number members.now ring) }
     {
+        let mut seats = seats_at(alloc, number, members, places)?;
         seats.sort_unstable();
-        Ring { seats }
+        ranked(alloc, seats, members.len())
     }
 
-    /// The same ring without the seats of those that departed, and with more seats.
+    /// The same ring of the members that follow: of those before, these are the places now, and
+    /// these are the places of those that are new.
     pub(crate) fn next(
         &self,
         alloc: Global,
-        departed: &Departed,
-        newcomers: &[Seat],
+        number: u8,
+        members: &[Process],
+        places: &[Option<u16>],
+        newcomers: &[u16],
     ) -> Result<Ring, AllocError>
-        ensures { IfOk result (λ ring. (q : ModelSeat) →
-            set.contains ring q ≡ ((set.contains self.now q && not (set.contains departed.now q.1)) || list_any (same_seat q) newcomers.now)) }
+        requires ascend { IsTrue (identifiers_ascend members.now) }
+        requires before { (before : List ModelProcess) × IsOrder number before self.now
+            × (places.now ≡ map (λ p. position (same_bytes p) members.now) before) × (newcomers.now ≡ places_of_new before members.now) }
+        ensures { IfOk result (λ ring. IsOrder number members.now ring) }
     {
-        let kept = self.remaining(alloc, departed, newcomers.len())?;
-        if newcomers.len() <= FEW {
-            with_few(kept, newcomers)
-        } else {
-            with_many(kept, newcomers)
+        let mut seats = seats_moved(alloc, self.seats.as_slice(), places, newcomers.len())?;
+        let more = seats_at(alloc, number, members, newcomers)?;
+        add_seats(&mut seats, more.as_slice())?;
+        ranked(alloc, seats, members.len())
+    }
+
+    /// The observer of a process on the ring with this number. Where it is a member, this is its
+    /// place.
+    pub(crate) fn observer(
+        &self,
+        number: u8,
+        members: &[Process],
+        place: Option<usize>,
+        process: &Process,
+    ) -> Option<Process>
+        requires order { IsOrder number members.now self.now }
+        requires ascend { IsTrue (identifiers_ascend members.now) }
+        requires place { place ≡ position (same_bytes process.now) members.now }
+        ensures { result ≡ model.ring_observer members.now number process.now }
+    {
+        match place {
+            Some(place) => member_at(members, self.place_before(place)),
+            None => self.observer_of_stranger(number, members, process),
         }
     }
 
-    // The ring of the seats of those that did not depart, with room for more.
-    fn remaining(&self, alloc: Global, departed: &Departed, more: usize) -> Result<Ring, AllocError>
-        ensures { IfOk result (λ kept. (q : ModelSeat) →
-            set.contains kept q ≡ (set.contains self.now q && not (set.contains departed.now q.1))) }
+    /// The member that the one at this place observes on the ring with this number.
+    pub(crate) fn subject(&self, number: u8, members: &[Process], place: usize) -> Option<Process>
+        requires order { IsOrder number members.now self.now }
+        requires ascend { IsTrue (identifiers_ascend members.now) }
+        ensures { (observer : ModelProcess) → slice_get members.now place ≡ Some observer →
+            result ≡ find (λ m. option_eq same_bytes (model.ring_observer members.now number m) (Some observer)) members.now }
     {
-        let seats = self.seats.as_slice();
-        let mut kept = Vec::with_capacity(alloc, seats.len().saturating_add(more))?;
-        let mut start = 0;
-        for place in 0..seats.len() {
-            let is_gone = departed.has(&seats[place].1);
-            start = keep_until(&mut kept, seats, start, place, is_gone)?;
-        }
-        kept.extend_from_slice(&seats[start..])?;
-        Ok(Ring { seats: kept })
+        member_at(members, self.place_after(place))
     }
 
-    // Puts a seat in its place.
-    fn insert(&mut self, seat: Seat) -> Result<(), AllocError>
-        ensures { OnOk result ((q : ModelSeat) → set.contains self.new q ≡ (set.contains self.old q || same_seat q seat)) }
+    // The observer of a process that is no member.
+    fn observer_of_stranger(
+        &self,
+        number: u8,
+        members: &[Process],
+        process: &Process,
+    ) -> Option<Process>
+        requires order { IsOrder number members.now self.now }
+        requires ascend { IsTrue (identifiers_ascend members.now) }
+        requires stranger { position (same_bytes process.now) members.now ≡ None }
+        ensures { result ≡ model.ring_observer members.now number process.now }
     {
-        let seats = self.seats.as_slice();
-        let place = seats.partition_point(|other| is_below(other, &seat));
-        self.seats.insert(place, seat)?;
-        Ok(())
+        let below = self.count_below(members, &(ring_key(number, process), *process));
+        member_at(members, self.place(previous(below, self.count())))
     }
 
-    /// The process in the seat next before this one, going round.
-    pub(crate) fn observer(&self, seat: &Seat) -> Option<Process>
-        ensures { (ring : ℕ) (members : List ModelProcess) (subject : ModelProcess) →
-            self.now ≡ seats_of ring members → seat.now.0 ≡ model.ring_key ring subject → seat.now.1 ≡ subject →
-            result ≡ model.ring_observer members ring subject }
+    // How many seats are below that of a process with this key.
+    fn count_below(&self, members: &[Process], seat: &([u8; 32], Process)) -> usize
+        requires order { (number : ℕ) × IsOrder number members.now self.now }
+        requires ascend { IsTrue (identifiers_ascend members.now) }
+        ensures bound { result ≤ length self.now }
+        ensures point { IsPartitionPoint (λ x. member_below members.now seat.now x ≡ true) (λ x. member_below members.now seat.now x ≡ false) self.now result }
     {
-        match self.next_before(seat) {
-            Some(before) => Some(before.1),
+        let seats = self.seats.as_slice();
+        seats.partition_point(|other| is_below(members, other, seat))
+    }
+
+    // The place of the member in the seat before that of the member at this place, going round;
+    // none where it is alone.
+    fn place_before(&self, place: usize) -> Option<u16>
+        ensures { (i : ℕ) → place_at self.now i ≡ Some place →
+            (rank : ℕ) × (place_at self.now rank ≡ Some place) × (result ≡ other_at self.now (rank_before rank (length self.now)) place) }
+    {
+        match self.ranks.get(place) {
+            Some(rank) => self.other(previous(*rank, self.count()), place),
             None => None,
         }
     }
 
-    /// The process in the seat next after that of a member, going round: the member that it
-    /// observes.
-    pub(crate) fn subject(&self, seat: &Seat) -> Option<Process>
-        ensures { (ring : ℕ) (members : List ModelProcess) (observer : ModelProcess) →
-            self.now ≡ seats_of ring members → seat.now.0 ≡ model.ring_key ring observer → seat.now.1 ≡ observer → is_in members observer ≡ true →
-            result ≡ find (λ m. option_eq same_bytes (model.ring_observer members ring m) (Some observer)) members }
+    // The place of the member in the seat after that of the member at this place, going round;
+    // none where it is alone.
+    fn place_after(&self, place: usize) -> Option<u16>
+        ensures { (i : ℕ) → place_at self.now i ≡ Some place →
+            (rank : ℕ) × (place_at self.now rank ≡ Some place) × (result ≡ other_at self.now (rank_after rank (length self.now)) place) }
     {
-        match self.next_after(seat) {
-            Some(after) => Some(after.1),
+        match self.ranks.get(place) {
+            Some(rank) => self.other(following(*rank, self.count()), place),
             None => None,
         }
     }
 
-    // The seat next before this one, going round; none where no other seat is there.
-    fn next_before(&self, seat: &Seat) -> Option<Seat>
-        ensures { IsNextBefore self.now seat.now result }
+    // The place of the member in a seat, unless it is this one.
+    fn other(&self, rank: usize, place: usize) -> Option<u16>
+        ensures { result ≡ other_at self.now rank place }
     {
-        match self.last_below(seat) {
-            Some(below) => Some(below),
-            None => self.last_but(seat),
-        }
-    }
-
-    // The seat next after this one, going round; none where no other seat is there.
-    fn next_after(&self, seat: &Seat) -> Option<Seat>
-        ensures { IsNextAfter self.now seat.now result }
-    {
-        match self.first_above(seat) {
-            Some(above) => Some(above),
-            None => self.first_but(seat),
-        }
-    }
-
-    // The last seat below this one.
-    fn last_below(&self, seat: &Seat) -> Option<Seat>
-        ensures { IsLastBelow self.now seat.now result }
-    {
-        let seats = self.seats.as_slice();
-        let below = seats.partition_point(|other| is_below(other, seat));
-        seats[..below].last().copied()
-    }
-
-    // The first seat above this one.
-    fn first_above(&self, seat: &Seat) -> Option<Seat>
-        ensures { IsFirstAbove self.now seat.now result }
-    {
-        let seats = self.seats.as_slice();
-        let above = seats.partition_point(|other| is_at_most(other, seat));
-        seats[above..].first().copied()
-    }
-
-    // The last seat of all, where none is below this one; none where it is this one.
-    fn last_but(&self, seat: &Seat) -> Option<Seat>
-        requires { IsLastBelow self.now seat.now None }
-        ensures { IsNextBefore self.now seat.now result }
-    {
-        match self.last() {
-            Some(last) => {
-                if last.cmp(seat).is_eq() {
+        match self.place(rank) {
+            Some(other) => {
+                if usize::from(other) == place {
                     None
                 } else {
-                    Some(last)
+                    Some(other)
                 }
             }
             None => None,
         }
     }
 
-    // The first seat of all, where none is above this one; none where it is this one.
-    fn first_but(&self, seat: &Seat) -> Option<Seat>
-        requires { IsFirstAbove self.now seat.now None }
-        ensures { IsNextAfter self.now seat.now result }
+    // How many seats there are.
+    fn count(&self) -> usize
+        ensures { result ≡ length self.now }
     {
-        match self.first() {
-            Some(first) => {
-                if first.cmp(seat).is_eq() {
-                    None
-                } else {
-                    Some(first)
-                }
-            }
+        self.seats.as_slice().len()
+    }
+
+    // The place of the member in a seat.
+    fn place(&self, rank: usize) -> Option<u16>
+        ensures { result ≡ place_at self.now rank }
+    {
+        match self.seats.get(rank) {
+            Some(seat) => Some(seat.1),
             None => None,
         }
-    }
-
-    // The last seat of all.
-    fn last(&self) -> Option<Seat>
-        ensures { IsLast self.now result }
-    {
-        self.seats.as_slice().last().copied()
-    }
-
-    // The first seat of all.
-    fn first(&self) -> Option<Seat>
-        ensures { IsFirst self.now result }
-    {
-        self.seats.as_slice().first().copied()
     }
 }
 
-// Where the seat at a place is gone, keeps those from start up to it. Answers where the next
-// stretch starts.
-fn keep_until(
-    kept: &mut Vec<Seat>,
-    seats: &[Seat],
-    start: usize,
-    place: usize,
-    is_gone: bool,
-) -> Result<usize, AllocError>
-    requires { (start ≤ place) × (place < length seats.now) }
-    ensures kept { OnOk result (kept.new.items ≡ (if is_gone then kept.old.items ++ take (place - start) (drop start seats.now) else kept.old.items)) }
-    ensures next { IfOk result (λ next. next ≡ (if is_gone then place + 1 else start)) }
+// The ring of these seats, which are those of so many members.
+fn ranked(alloc: Global, seats: Vec<Seat>, count: usize) -> Result<Ring, AllocError>
+    requires { All (λ x. x.1 < count) seats.items }
+    ensures { IfOk result (λ ring. ring ≡ seats.items) }
 {
-    if is_gone {
-        kept.extend_from_slice(&seats[start..place])?;
-        Ok(place + 1)
+    let mut ranks = Vec::new(alloc);
+    ranks.resize(count, 0)?;
+    for rank in 0..seats.len() {
+        note_rank(&mut ranks, seats[rank].1, rank);
+    }
+    Ok(Ring { seats, ranks })
+}
+
+// Notes the rank of the member at a place.
+fn note_rank(ranks: &mut Vec<usize>, place: u16, rank: usize)
+    requires { place < length ranks.old.items }
+    ensures { ranks.new.items ≡ set ranks.old.items place rank }
+{
+    ranks[usize::from(place)] = rank;
+}
+
+// The rank before another among so many, going round.
+fn previous(rank: usize, count: usize) -> usize
+    ensures { result ≡ rank_before rank count }
+{
+    if rank == 0 {
+        count.saturating_sub(1)
     } else {
-        Ok(start)
+        rank - 1
     }
 }
 
-// The ring with a few more seats: each is put in its place.
-fn with_few(kept: Ring, newcomers: &[Seat]) -> Result<Ring, AllocError>
-    ensures { IfOk result (λ ring. (q : ModelSeat) →
-        set.contains ring q ≡ (set.contains kept q || list_any (same_seat q) newcomers.now)) }
+// The rank after another among so many, going round.
+fn following(rank: usize, count: usize) -> usize
+    ensures { result ≡ rank_after rank count }
 {
-    let mut ring = kept;
-    for seat in newcomers {
-        ring.insert(*seat)?;
+    if rank >= count.saturating_sub(1) {
+        0
+    } else {
+        rank + 1
     }
-    Ok(ring)
 }
 
-// The ring with many more seats: all are sorted.
-fn with_many(kept: Ring, newcomers: &[Seat]) -> Result<Ring, AllocError>
-    ensures { IfOk result (λ ring. (q : ModelSeat) →
-        set.contains ring q ≡ (set.contains kept q || list_any (same_seat q) newcomers.now)) }
+// The member at a place.
+fn member_at(members: &[Process], place: Option<u16>) -> Option<Process>
+    ensures { result ≡ member_if_any members.now place }
 {
-    let mut seats = kept.seats;
-    seats.extend_from_slice(newcomers)?;
-    seats.sort()?;
-    Ok(Ring { seats })
+    match place {
+        Some(place) => members.get(usize::from(place)).copied(),
+        None => None,
+    }
+}
+
+// Whether the seat of a member is below that of a process with this key.
+fn is_below(members: &[Process], seat: &Seat, other: &([u8; 32], Process)) -> bool
+    ensures { result ≡ member_below members.now other.now seat.now }
+{
+    match members.get(usize::from(seat.1)) {
+        Some(member) => (seat.0, *member).cmp(other).is_lt(),
+        None => false,
+    }
 }

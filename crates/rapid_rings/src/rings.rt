@@ -1,20 +1,16 @@
 // The rings of a configuration.
 
-ghost use Rattle.std.specs.Prelude.{◌≡◌, [], ◌∷◌, ◌++◌, not, Some, is_some, map, filter, if◌then◌else◌, IfSome, IfOk, OnOk};
-ghost use Rattle.std.specs.List.{slice_get};
-ghost use Rattle.std.specs.Option.{option_and_then, option_map, option_to_list};
-ghost use Rattle.rapid_rings.specs.Seats.{seat, seats_of, seatings_of};
-ghost use Rattle.rapid_rings.specs.Following.{HaveCome, HaveDeparted};
-ghost use Rattle.rapid_model.specs.Process.{Process as ModelProcess};
-ghost use Rattle.rapid_model.specs.Configuration.{position_of};
-ghost use Rattle.rapid_model.specs.Ring as model;
+ghost use Rattle.std.specs.Prelude.{◌≡◌, [], ◌∷◌, ◌++◌, map, position, Some, IfOk, OnOk};
+ghost use Rattle.std.specs.Option.{option_map, option_to_list};
+ghost use Rattle.rapid_rings.specs.Seats.{IsOrder};
+ghost use Rattle.rapid_rings.specs.Following.{places_of_new};
+ghost use Rattle.rapid_model.specs.Process.{Process as ModelProcess, same_bytes};
+ghost use Rattle.rapid_model.specs.Configuration.{AreMembers, position_of};
 ghost use Rattle.rapid_model.specs.Ring.{observers_of, subject_on, subjects_of};
 
 use crate::ObserverTable;
-use crate::departed::Departed;
-use crate::places::{guess_after, place_near};
-use crate::ring::{Ring, Seat, ring_key};
-use crate::seating::Seating;
+use crate::places::{places_below, places_in, places_of_strangers};
+use crate::ring::Ring;
 use rapid_config::{ConfigId, Configuration, Params};
 use rapid_endpoint::Process;
 use std::alloc::{AllocError, Global};
@@ -28,8 +24,6 @@ pub struct Rings {
     configuration: Configuration,
     // by number
     rings: Vec<Ring>,
-    // by number
-    seatings: Vec<Seating>,
 }
 
 impl Model for Rings {
@@ -40,7 +34,7 @@ impl Model for Rings {
 
     ghost view = { λ r. r.configuration };
 
-    ghost invariant = { λ r. HasRings r.configuration r.rings.items r.seatings.items };
+    ghost invariant = { λ r. HasRings r.configuration r.rings.items };
 }
 
 impl Rings {
@@ -48,18 +42,63 @@ impl Rings {
     pub fn new(alloc: Global, configuration: &Configuration) -> Result<Rings, AllocError>
         ensures { IfOk result (λ rings. rings ≡ configuration.now) }
     {
-        build(alloc, configuration, None)
+        let members = configuration.members();
+        let places = places_below(alloc, members.len())?;
+        let mut rings = Vec::new(alloc);
+        for number in 0..configuration.params().k() {
+            rings.push(Ring::new(alloc, number, members, places.as_slice())?)?;
+        }
+        Ok(Rings {
+            configuration: configuration.try_copy(alloc)?,
+            rings,
+        })
     }
 
     /// The rings of a configuration that follows: keys are computed of newcomers only.
     pub fn next(&self, alloc: Global, configuration: &Configuration) -> Result<Rings, AllocError>
         ensures { IfOk result (λ rings. rings ≡ configuration.now) }
     {
-        build(alloc, configuration, Some(self))
+        let members = configuration.members();
+        let places = places_in(alloc, configuration, self.configuration.members())?;
+        let newcomers = places_of_strangers(alloc, &self.configuration, members)?;
+        let (places, newcomers) = (places.as_slice(), newcomers.as_slice());
+        let params = configuration.params();
+        let mut rings = Vec::new(alloc);
+        for number in 0..params.k() {
+            rings.push(self.next_ring(alloc, number, members, places, newcomers)?)?;
+        }
+        Ok(Rings {
+            configuration: configuration.try_copy(alloc)?,
+            rings,
+        })
     }
 
-    /// The pairs of a ring and the member that the process observes on it, by ring. It costs a
-    /// search for the process and one on each ring.
+    // The ring with this number of the members that follow: of those before, these are the places
+    // now, and these are the places of those that are new.
+    fn next_ring(
+        &self,
+        alloc: Global,
+        number: u8,
+        members: &[Process],
+        places: &[Option<u16>],
+        newcomers: &[u16],
+    ) -> Result<Ring, AllocError>
+        requires members { AreMembers members.now }
+        requires places { places.now ≡ map (λ p. position (same_bytes p) members.now) self.now.members }
+        requires newcomers { newcomers.now ≡ places_of_new self.now.members members.now }
+        ensures { IfOk result (λ ring. IsOrder number members.now ring) }
+    {
+        match self.rings.get(usize::from(number)) {
+            Some(ring) => ring.next(alloc, number, members, places, newcomers),
+            None => {
+                let places = places_below(alloc, members.len())?;
+                Ring::new(alloc, number, members, places.as_slice())
+            }
+        }
+    }
+
+    /// The pairs of a ring and the member that the process observes on it, by ring. It costs one
+    /// search for the process.
     pub fn subjects_of(
         &self,
         alloc: Global,
@@ -91,211 +130,21 @@ impl Rings {
             result ≡ subject_on self.now observer ring }
     {
         match self.rings.get(usize::from(ring)) {
-            Some(seats) => seats.subject(&self.seat(ring, place)?),
+            Some(seats) => seats.subject(ring, self.configuration.members(), place),
             None => None,
         }
     }
 
-    // The seat of the member at a place on a ring.
-    fn seat(&self, ring: u8, place: usize) -> Option<Seat>
-        ensures { result ≡ option_and_then (λ seats. slice_get seats place) (slice_get (seatings_of self.now) ring) }
-    {
-        match self.seatings.get(usize::from(ring)) {
-            Some(seating) => seating.seat(place),
-            None => None,
-        }
-    }
-
-    // The observer of a process on a ring. It is found sooner where the process is the member at
-    // this place.
+    // The observer of a process on a ring. Where it is a member, this is its place.
     #[tactic(auto, unfolding(rapid_model::specs::Ring::observers_of))]
     fn observer_of(&self, ring: u8, place: Option<usize>, process: &Process) -> Option<Process>
+        requires { place ≡ position_of self.now process.now }
         ensures { result ≡ (observers_of self.now).observer ring process.now }
     {
         match self.rings.get(usize::from(ring)) {
-            Some(seats) => seats.observer(&(self.key(ring, place, process), *process)),
+            Some(seats) => seats.observer(ring, self.configuration.members(), place, process),
             None => None,
         }
-    }
-
-    // The key of a process on a ring, which is computed only where it is not that of the member at
-    // this place.
-    fn key(&self, ring: u8, place: Option<usize>, process: &Process) -> [u8; 32]
-        ensures { result ≡ model.ring_key ring process.now }
-    {
-        match place {
-            Some(place) => self.key_near(ring, place, process),
-            None => ring_key(ring, process),
-        }
-    }
-
-    // The key of a process on a ring, which is computed only where another member or none is at
-    // this place.
-    fn key_near(&self, ring: u8, place: usize, process: &Process) -> [u8; 32]
-        ensures { result ≡ model.ring_key ring process.now }
-    {
-        match self.kept_key(ring, place, process) {
-            Some(key) => key,
-            None => ring_key(ring, process),
-        }
-    }
-
-    // The key of the member at a place on a ring, where it is this process.
-    fn kept_key(&self, ring: u8, place: usize, process: &Process) -> Option<[u8; 32]>
-        ensures { IfSome result (λ key. key ≡ model.ring_key ring process.now) }
-    {
-        match self.seatings.get(usize::from(ring)) {
-            Some(seating) => seating.key(place, process),
-            None => None,
-        }
-    }
-}
-
-// A member, and its place in the configuration before, if there is one that has it.
-type Located = (Process, Option<usize>);
-
-// The rings of a configuration, with the keys that rings before it have.
-fn build(
-    alloc: Global,
-    configuration: &Configuration,
-    before: Option<&Rings>,
-) -> Result<Rings, AllocError>
-    ensures { IfOk result (λ rings. rings ≡ configuration.now) }
-{
-    let members = locate(alloc, configuration.members(), before)?;
-    let departed = departed_from(alloc, before, configuration)?;
-    let mut rings = Vec::new(alloc);
-    let mut seatings = Vec::new(alloc);
-    for number in 0..configuration.params().k() {
-        let (seating, newcomers) = seat_members(alloc, number, members.as_slice(), before)?;
-        let newcomers = newcomers.as_slice();
-        rings.push(ring_of(
-            alloc,
-            number,
-            configuration,
-            &seating,
-            newcomers,
-            before,
-            &departed,
-        )?)?;
-        seatings.push(seating)?;
-    }
-    Ok(Rings {
-        configuration: configuration.try_copy(alloc)?,
-        rings,
-        seatings,
-    })
-}
-
-// The members with their places before.
-fn locate(
-    alloc: Global,
-    members: &[Process],
-    before: Option<&Rings>,
-) -> Result<Vec<Located>, AllocError>
-    ensures { IfOk result (λ located. located.items ≡ map (λ m. (m, option_and_then (λ rings. position_of rings.now m) before.entry)) members.now) }
-{
-    let mut located = Vec::with_capacity(alloc, members.len())?;
-    let mut guess = 0;
-    for member in members {
-        let place = place_before(before, guess, member);
-        guess = guess_after(place, guess);
-        located.push((*member, place))?;
-    }
-    Ok(located)
-}
-
-// The place of a process in the configuration before.
-fn place_before(before: Option<&Rings>, guess: usize, process: &Process) -> Option<usize>
-    ensures { result ≡ option_and_then (λ rings. position_of rings.now process.now) before.entry }
-{
-    match before {
-        Some(rings) => place_near(&rings.configuration, guess, process),
-        None => None,
-    }
-}
-
-// The members before that are members no more.
-fn departed_from(
-    alloc: Global,
-    before: Option<&Rings>,
-    configuration: &Configuration,
-) -> Result<Departed, AllocError>
-    ensures { IfOk result (λ departed. IfSome before.entry (λ rings. HaveDeparted rings.now configuration.now departed)) }
-{
-    match before {
-        Some(rings) => Departed::between(alloc, &rings.configuration, configuration),
-        None => Ok(Departed::nobody(alloc)),
-    }
-}
-
-// The members on the ring with this number, by place, and the seats of those that have no place
-// before.
-fn seat_members(
-    alloc: Global,
-    number: u8,
-    members: &[Located],
-    before: Option<&Rings>,
-) -> Result<(Seating, Vec<Seat>), AllocError>
-    ensures seating { IfOk result (λ r. r.0 ≡ map (λ m. seat number m.0) members.now) }
-    ensures newcomers { IfOk result (λ r. r.1.items ≡ map (λ m. seat number m.0) (filter (λ m. not (is_some m.1)) members.now)) }
-{
-    let mut seating = Seating::with_capacity(alloc, members.len())?;
-    let mut newcomers = Vec::new(alloc);
-    for member in members {
-        let key = known_key(before, number, member);
-        add_newcomer(&mut newcomers, member, key)?;
-        seating.push((key, member.0))?;
-    }
-    Ok((seating, newcomers))
-}
-
-// Adds the seat of a member that has no place before.
-fn add_newcomer(
-    newcomers: &mut Vec<Seat>,
-    member: &Located,
-    key: [u8; 32],
-) -> Result<(), AllocError>
-    ensures { OnOk result (newcomers.new.items ≡ (if is_some member.now.1 then newcomers.old.items else newcomers.old.items ++ (key, member.now.0) ∷ [])) }
-{
-    if member.1.is_none() {
-        newcomers.push((key, member.0))?;
-    }
-    Ok(())
-}
-
-// The ring with this number: made of the ring before, if there is one, else of the seats of all
-// members.
-fn ring_of(
-    alloc: Global,
-    number: u8,
-    configuration: &Configuration,
-    seating: &Seating,
-    newcomers: &[Seat],
-    before: Option<&Rings>,
-    departed: &Departed,
-) -> Result<Ring, AllocError>
-    requires seated { seating.now ≡ map (seat number) configuration.now.members }
-    requires newcomers { IfSome before (λ rings. HaveCome rings.now configuration.now number newcomers.now) }
-    requires departed { IfSome before (λ rings. HaveDeparted rings.now configuration.now departed.now) }
-    ensures { IfOk result (λ ring. ring ≡ seats_of number configuration.now.members) }
-{
-    match before {
-        Some(rings) => match rings.rings.get(usize::from(number)) {
-            Some(ring) => ring.next(alloc, departed, newcomers),
-            None => seating.ring(alloc),
-        },
-        None => seating.ring(alloc),
-    }
-}
-
-// The key of a process on a ring, which rings before may have.
-fn known_key(before: Option<&Rings>, ring: u8, member: &Located) -> [u8; 32]
-    ensures { result ≡ model.ring_key ring member.now.0 }
-{
-    match (before, member.1) {
-        (Some(rings), Some(place)) => rings.key_near(ring, place, &member.0),
-        _ => ring_key(ring, &member.0),
     }
 }
 
