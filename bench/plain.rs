@@ -1,5 +1,5 @@
-//! The same work in plain Rust, as something to measure against: each figure is printed as `NAME NUMBER`, in nanoseconds for one unit of
-//! work or in bytes.
+//! The same work in plain Rust, as something to measure against: each figure is printed as
+//! `NAME NUMBER`, in nanoseconds for one unit of work or in bytes.
 use std::hint::black_box;
 use std::time::Instant;
 use view::{Configuration, Params};
@@ -33,12 +33,14 @@ mod voting;
 mod world;
 
 const ROUND_CONSTANTS: [u32; 64] = [
-    0x428a2f98, 0x71374491, 0xb5c0fbcf, 0xe9b5dba5, 0x3956c25b, 0x59f111f1, 0x923f82a4, 0xab1c5ed5, 0xd807aa98, 0x12835b01, 0x243185be, 0x550c7dc3,
-    0x72be5d74, 0x80deb1fe, 0x9bdc06a7, 0xc19bf174, 0xe49b69c1, 0xefbe4786, 0x0fc19dc6, 0x240ca1cc, 0x2de92c6f, 0x4a7484aa, 0x5cb0a9dc, 0x76f988da,
-    0x983e5152, 0xa831c66d, 0xb00327c8, 0xbf597fc7, 0xc6e00bf3, 0xd5a79147, 0x06ca6351, 0x14292967, 0x27b70a85, 0x2e1b2138, 0x4d2c6dfc, 0x53380d13,
-    0x650a7354, 0x766a0abb, 0x81c2c92e, 0x92722c85, 0xa2bfe8a1, 0xa81a664b, 0xc24b8b70, 0xc76c51a3, 0xd192e819, 0xd6990624, 0xf40e3585, 0x106aa070,
-    0x19a4c116, 0x1e376c08, 0x2748774c, 0x34b0bcb5, 0x391c0cb3, 0x4ed8aa4a, 0x5b9cca4f, 0x682e6ff3, 0x748f82ee, 0x78a5636f, 0x84c87814, 0x8cc70208,
-    0x90befffa, 0xa4506ceb, 0xbef9a3f7, 0xc67178f2,
+    0x428a2f98, 0x71374491, 0xb5c0fbcf, 0xe9b5dba5, 0x3956c25b, 0x59f111f1, 0x923f82a4, 0xab1c5ed5,
+    0xd807aa98, 0x12835b01, 0x243185be, 0x550c7dc3, 0x72be5d74, 0x80deb1fe, 0x9bdc06a7, 0xc19bf174,
+    0xe49b69c1, 0xefbe4786, 0x0fc19dc6, 0x240ca1cc, 0x2de92c6f, 0x4a7484aa, 0x5cb0a9dc, 0x76f988da,
+    0x983e5152, 0xa831c66d, 0xb00327c8, 0xbf597fc7, 0xc6e00bf3, 0xd5a79147, 0x06ca6351, 0x14292967,
+    0x27b70a85, 0x2e1b2138, 0x4d2c6dfc, 0x53380d13, 0x650a7354, 0x766a0abb, 0x81c2c92e, 0x92722c85,
+    0xa2bfe8a1, 0xa81a664b, 0xc24b8b70, 0xc76c51a3, 0xd192e819, 0xd6990624, 0xf40e3585, 0x106aa070,
+    0x19a4c116, 0x1e376c08, 0x2748774c, 0x34b0bcb5, 0x391c0cb3, 0x4ed8aa4a, 0x5b9cca4f, 0x682e6ff3,
+    0x748f82ee, 0x78a5636f, 0x84c87814, 0x8cc70208, 0x90befffa, 0xa4506ceb, 0xbef9a3f7, 0xc67178f2,
 ];
 
 fn compress(state: &mut [u32; 8], block: &[u8]) {
@@ -54,7 +56,9 @@ fn compress(state: &mut [u32; 8], block: &[u8]) {
     let [mut a, mut b, mut c, mut d, mut e, mut f, mut g, mut h] = *state;
     for i in 0..64 {
         let s1 = e.rotate_right(6) ^ e.rotate_right(11) ^ e.rotate_right(25);
-        let t1 = h.wrapping_add(s1).wrapping_add((e & f) ^ (!e & g)).wrapping_add(ROUND_CONSTANTS[i]).wrapping_add(w[i]);
+        let choice = (e & f) ^ (!e & g);
+        let t1 = h.wrapping_add(s1).wrapping_add(choice);
+        let t1 = t1.wrapping_add(ROUND_CONSTANTS[i]).wrapping_add(w[i]);
         let s0 = a.rotate_right(2) ^ a.rotate_right(13) ^ a.rotate_right(22);
         let t2 = s0.wrapping_add((a & b) ^ (a & c) ^ (b & c));
         (h, g, f, e, d, c, b, a) = (g, f, e, d.wrapping_add(t1), c, b, a, t1.wrapping_add(t2));
@@ -66,7 +70,10 @@ fn compress(state: &mut [u32; 8], block: &[u8]) {
 
 /// SHA-256 (FIPS 180-4).
 fn sha256(bytes: &[u8]) -> [u8; 32] {
-    let mut state = [0x6a09e667, 0xbb67ae85, 0x3c6ef372, 0xa54ff53a, 0x510e527f, 0x9b05688c, 0x1f83d9ab, 0x5be0cd19];
+    let mut state = [
+        0x6a09e667, 0xbb67ae85, 0x3c6ef372, 0xa54ff53a,
+        0x510e527f, 0x9b05688c, 0x1f83d9ab, 0x5be0cd19,
+    ];
     let whole = bytes.chunks_exact(64);
     let rest = whole.remainder();
     for block in whole {
@@ -144,7 +151,8 @@ fn from_bytes(bytes: &[u8]) -> Option<Configuration> {
     if count > 1024 || bytes.len() != 49 + 22 * count {
         return None;
     }
-    let members: Vec<Process> = bytes[49..].chunks_exact(22).map(|p| p.try_into().unwrap()).collect();
+    let members = bytes[49..].chunks_exact(22);
+    let members: Vec<Process> = members.map(|p| p.try_into().unwrap()).collect();
     if !members.windows(2).all(|w| w[0][..16] < w[1][..16]) {
         return None;
     }
@@ -162,7 +170,8 @@ fn from_bytes(bytes: &[u8]) -> Option<Configuration> {
     })
 }
 
-/// Prints how many nanoseconds one unit of the work takes, of which each run does so many, in the fastest of so many runs.
+/// Prints how many nanoseconds one unit of the work takes, of which each run does so many, in the
+/// fastest of so many runs.
 fn measure(name: &str, units: u128, runs: u32, mut work: impl FnMut()) {
     work();
     let mut least = u128::MAX;
@@ -181,7 +190,8 @@ fn held() -> u64 {
     kibibytes.parse::<u64>().unwrap() * 1024
 }
 
-/// Prints how many bytes a fast round of 1,024 members holds after the vote of each, for these cuts in turn.
+/// Prints how many bytes a fast round of 1,024 members holds after the vote of each, for these cuts
+/// in turn.
 fn measure_bytes(name: &str, cuts: &[Vec<Process>]) {
     const ROUNDS: u64 = 1000;
     let mut rounds = Vec::with_capacity(ROUNDS as usize);
@@ -219,7 +229,8 @@ fn measure_all() {
             }
         });
     }
-    let cuts: Vec<Vec<Process>> = (1..=1024).map(|first| (first..first + 10).map(process).collect()).collect();
+    let ten_from = |first| (first..first + 10).map(process).collect();
+    let cuts: Vec<Vec<Process>> = (1..=1024).map(ten_from).collect();
     measure_bytes("round_bytes_one_cut", &cuts[..1]);
     measure_bytes("round_bytes_own_cuts", &cuts);
     frames::measure_all();

@@ -5,9 +5,9 @@
   docs/surface.py --write   writes it to docs/SURFACE.md
   docs/surface.py --check   ends with status 1 where docs/SURFACE.md is not that page
 
-A function stands on the page where its crate's lib.rt names it or its type in a `pub use`. What it does
-is the first sentence of its docstring, what its caller shows are its clauses `requires`, and the
-numbers of refusals are those of the method `code`.
+A function stands on the page where its crate's lib.rt names it or its type in a `pub use`. What it
+does is the first sentence of its docstring, what its caller shows are its clauses `requires`, and
+the numbers of refusals are those of the method `code`.
 """
 import re
 import sys
@@ -16,17 +16,30 @@ from pathlib import Path
 TOP = Path(__file__).resolve().parent.parent
 PAGE = TOP / "docs/SURFACE.md"
 LAWS = {"rapid_model", "rapid_agreement", "rapid_safety", "rapid_histories"}
-NO_LIBRARIES = {"rapidd", "rapid_bench", "rapid_bench_views", "rapid_bench_worlds", "rapid_reference", "rapid_sharded_map", "rapid_uses"}
+NO_LIBRARIES = {
+    "rapidd",
+    "rapid_bench",
+    "rapid_bench_views",
+    "rapid_bench_worlds",
+    "rapid_reference",
+    "rapid_sharded_map",
+    "rapid_uses",
+}
 
 HEAD = """# The public surface
 
-Written by `docs/surface.py` from the sources; `docs/surface.py --check` says whether it still is what they say.
-Crates stand lowest first. Behind each function stands the first sentence of its docstring; *shows* is what its caller has to
-show (its clauses `requires`), where it has to show anything; *errors* is what the docstring says of them. What a call ensures
+Written by `docs/surface.py` from the sources; `docs/surface.py --check` says whether it still is \
+what they say.
+Crates stand lowest first. Behind each function stands the first sentence of its docstring; \
+*shows* is what its caller has to
+show (its clauses `requires`), where it has to show anything; *errors* is what the docstring says \
+of them. What a call ensures
 stands in its contract: [PROMISES.md](PROMISES.md) retells it.
 
-A table has the number that `code()` answers for each refusal (or reply), and when it comes. 99, where it stands, is want of memory, which is
-answered only where a growth was really refused. A function named `tell` does nothing: what it ensures is for proofs.
+A table has the number that `code()` answers for each refusal (or reply), and when it comes. 99, \
+where it stands, is want of memory, which is
+answered only where a growth was really refused. A function named `tell` does nothing: what it \
+ensures is for proofs.
 """
 
 
@@ -50,7 +63,8 @@ class Item:
         said = " ".join(self.doc.partition("# Errors")[2].split())
         if said or "Result<" not in self.head:
             return said
-        return " ".join(s for s in self.sentences()[1:] if re.search(r"`(?!None|Some|Ok)[A-Z]\w+`|error", s))
+        names = re.compile(r"`(?!None|Some|Ok)[A-Z]\w+`|error")
+        return " ".join(s for s in self.sentences()[1:] if names.search(s))
 
 
 class Type:
@@ -206,8 +220,8 @@ def print_crate(name, out):
     for found in types.values():
         print_type(found, out)
     if functions:
-        laws = "laws, each the contract of a function with an empty body" if name in LAWS else "functions"
-        out.extend(["", f"**{laws}**", ""])
+        laws = "laws, each the contract of a function with an empty body"
+        out.extend(["", f"**{laws if name in LAWS else 'functions'}**", ""])
         for item in functions:
             print_item(item, out)
 
@@ -217,7 +231,9 @@ def page():
     out = [HEAD.rstrip()]
     for line in (TOP / "crates.txt").read_text().split("\n"):
         name = line.partition(":")[0]
-        if name and not name.startswith("#") and name not in NO_LIBRARIES and not name.endswith("_tests"):
+        if not name or name.startswith("#") or name.endswith("_tests"):
+            continue
+        if name not in NO_LIBRARIES:
             print_crate(name, out)
     text = "\n".join(out) + "\n"
     return re.sub(r"\n{3,}", "\n\n", text)
@@ -229,7 +245,8 @@ def main(words):
         PAGE.write_text(page())
     elif words == ["--check"]:
         if not PAGE.is_file() or PAGE.read_text() != page():
-            print("docs/SURFACE.md is not what the sources say: docs/surface.py --write", file=sys.stderr)
+            said = "docs/SURFACE.md is not what the sources say: docs/surface.py --write"
+            print(said, file=sys.stderr)
             return 1
     elif not words:
         print(page(), end="")

@@ -1,11 +1,18 @@
-//! An allocator that gives nothing back, to be preloaded: what a program holds is then all that it allocated, each block rounded up to 16
-//! bytes.
+//! An allocator that gives nothing back, to be preloaded: what a program holds is then all that it
+//! allocated, each block rounded up to 16 bytes.
 #![no_std]
 use core::ptr::{copy_nonoverlapping, null_mut};
 use core::sync::atomic::{AtomicUsize, Ordering};
 
 extern "C" {
-    fn mmap(address: *mut u8, length: usize, protection: i32, flags: i32, file: i32, offset: i64) -> *mut u8;
+    fn mmap(
+        address: *mut u8,
+        length: usize,
+        protection: i32,
+        flags: i32,
+        file: i32,
+        offset: i64,
+    ) -> *mut u8;
     fn abort() -> !;
 }
 
@@ -23,11 +30,13 @@ static NEXT: AtomicUsize = AtomicUsize::new(0);
 
 fn take(size: usize, align: usize) -> *mut u8 {
     if NEXT.load(Ordering::Relaxed) == 0 {
-        let room = unsafe { mmap(null_mut(), ROOM, READ_AND_WRITE, PRIVATE_ANONYMOUS_NORESERVE, -1, 0) };
+        let flags = PRIVATE_ANONYMOUS_NORESERVE;
+        let room = unsafe { mmap(null_mut(), ROOM, READ_AND_WRITE, flags, -1, 0) };
         let _ = NEXT.compare_exchange(0, room as usize, Ordering::Relaxed, Ordering::Relaxed);
     }
     let block = |next: usize| next.next_multiple_of(align.max(16));
-    let next = NEXT.fetch_update(Ordering::Relaxed, Ordering::Relaxed, |next| Some(block(next) + size)).unwrap_or(0);
+    let after = |next| Some(block(next) + size);
+    let next = NEXT.fetch_update(Ordering::Relaxed, Ordering::Relaxed, after).unwrap_or(0);
     block(next) as *mut u8
 }
 

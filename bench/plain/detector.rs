@@ -31,7 +31,8 @@ fn may_be_well_formed(view: &View, alert: &Alert) -> bool {
 }
 
 impl Detector {
-    /// Makes room for reports on the subject of a well-formed alert, unless it is a joiner too many.
+    /// Makes room for reports on the subject of a well-formed alert, unless it is a joiner too
+    /// many.
     fn begin(&mut self, view: &View, alert: &Alert) -> bool {
         if view.observer(alert.ring, &alert.subject) != Some(alert.observer) {
             return false;

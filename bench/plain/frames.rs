@@ -370,7 +370,8 @@ pub fn every_ring() -> Vec<(u8, Process)> {
 
 /// The batch of an observer that is to remove these members, each on its ring.
 pub fn batch(observer: Process, config: ConfigId, subjects: &[(u8, Process)]) -> Message {
-    let alert = |&(ring, subject): &(u8, Process)| Alert { observer, subject, ring, kind: Kind::Remove, config };
+    let kind = Kind::Remove;
+    let alert = |&(ring, subject): &(u8, Process)| Alert { observer, subject, ring, kind, config };
     Message { sender: observer, body: Body::Batch(config, subjects.iter().map(alert).collect()) }
 }
 
@@ -380,7 +381,9 @@ pub fn vote(sender: Process, config: ConfigId, last: u16) -> Message {
 }
 
 pub fn measure_all() {
-    let messages = [("vote", vote(process(1), [7; 32], 100)), ("batch", batch(process(1), [7; 32], &every_ring()))];
+    let vote = vote(process(1), [7; 32], 100);
+    let batch = batch(process(1), [7; 32], &every_ring());
+    let messages = [("vote", vote), ("batch", batch)];
     for (name, message) in &messages {
         let frame = encode(message);
         measure_feeding(&format!("feed_{name}_whole"), &frame, frame.len());

@@ -4,11 +4,11 @@
   docs/diagrams/make.py PROGRAM           draws each diagram into docs/diagrams
   docs/diagrams/make.py PROGRAM --check   ends with status 1 where one there would not be drawn so
 
-PROGRAM is run as `PROGRAM sim`: the proved crates/rapidd/out/rapidd, which answers each line at once.
-Nothing is drawn that the program was not given or did not print. A script of examples/sim is given line
-by line, each followed by `packets`, so that it is known which packets a line sent. Many ticks are given
-one by one, and `flow` as the `deliver` lines that it stands for; what the program prints of views has
-to be what it prints for the script itself.
+PROGRAM is run as `PROGRAM sim`: the proved crates/rapidd/out/rapidd, which answers each line at
+once. Nothing is drawn that the program was not given or did not print. A script of examples/sim is
+given line by line, each followed by `packets`, so that it is known which packets a line sent. Many
+ticks are given one by one, and `flow` as the `deliver` lines that it stands for; what the program
+prints of views has to be what it prints for the script itself.
 
 To whom a packet goes is found by a second run of the same lines, at whose end each node crashes in
 turn: where a packet can be delivered no longer, it goes to the node that has just crashed. In that
@@ -299,11 +299,11 @@ class Drawing:
 HALO = {"paint_order": "stroke", "stroke": "#fff", "stroke_width": "3"}
 
 LEGEND = (
-    "A column is a line that was given, with flow as the deliver lines that it stands for. A dot is a "
-    "step of a node, with the numbers of the packets that it sent; an arrow is a packet, to the line "
-    "that delivers it. A small cross is a packet that no line delivers, or for which no node runs; a "
-    "great one is a crash. A ring is a view that sim printed. A node's line is dashed before its first "
-    "view, and thick after a view change."
+    "A column is a line that was given, with flow as the deliver lines that it stands for. A dot "
+    "is a step of a node, with the numbers of the packets that it sent; an arrow is a packet, to "
+    "the line that delivers it. A small cross is a packet that no line delivers, or for which no "
+    "node runs; a great one is a crash. A ring is a view that sim printed. A node's line is dashed "
+    "before its first view, and thick after a view change."
 )
 
 
