@@ -1,5 +1,5 @@
 -- Sets of reports that grow, and what was before.
-use Rattle.std.proofs.Common.{◌≡◌, ℕ, ◌≤◌, Bool, true, false, cond, not, ◌&&◌, ◌||◌, ◌==◌, List, [], ◌∷◌, ◌++◌, count_by, nat_le, refl, sym, ap, subst, ◌∙◌, Some, arith, eq-eqb}
+use Rattle.std.proofs.Common.{Option, None, ◌≡◌, ℕ, ◌≤◌, Bool, true, false, cond, not, ◌&&◌, ◌||◌, ◌==◌, List, [], ◌∷◌, ◌++◌, count_by, nat_le, refl, sym, ap, subst, ◌∙◌, Some, arith, eq-eqb}
 use Rattle.std.specs.Ordering.{eq_by_cmp}
 use Rattle.std.specs.Cmp.{both_ways}
 use Rattle.std.specs.FinSet as set
@@ -12,7 +12,7 @@ use Rattle.rapid_model.proofs.Closure.{count_mono}
 use Rattle.rapid_cut.specs.declared.mask.Masks.{Masks}
 use Rattle.rapid_cut.specs.declared.growing.Added.{Added}
 use Rattle.rapid_cut.specs.Known.{Known}
-use Rattle.rapid_cut.specs.Growing.{is_for, PutsMask, AddsRings, TakesOut, is_added, without_added, before, HaveGrown}
+use Rattle.rapid_cut.specs.Growing.{is_for, PutsMask, AddsRings, TakesOut, is_added, without_added, without_all, all_added, HaveGrown}
 use Rattle.rapid_cut.specs.Masks.{has_ring}
 use Rattle.rapid_cut.proofs.Masks.{count_same, no_ring}
 use Rattle.rapid_cut.proofs.Closing.{both, and_true, or_left, or_right}
@@ -32,12 +32,21 @@ without_none part r = set.same_set reports_total reports_exact _ _ (λ q. contai
     and_true true = refl
     and_true false = refl
 
-pub before_none : (r : Known) (xs : List Added) → xs ≡ [] → before r xs ≡ r
-before_none r xs e = ap (before r) e ∙ (λ i. record { direct = without_none (λ m. m.direct) r.direct i; all = without_none (λ m. m.all) r.all i })
+pub all_none : (r : Known) (xs : List Added) → xs ≡ [] → without_all r xs ≡ r
+all_none r xs e = ap (without_all r) e ∙ (λ i. record { direct = without_none (λ m. m.direct) r.direct i; all = without_none (λ m. m.all) r.all i })
 
-added_push : (part : Masks → ℕ) (xs : List Added) (a : Added) (q : Report) → is_added part (xs ++ a ∷ []) q ≡ (is_added part xs q || is_for a.subject (part a.rings) q)
-added_push part xs a q =
+-- what is added is noted after the others
+pub added_then : (part : Masks → ℕ) (first : Option Added) (xs : List Added) (a : Added) (q : Report) → is_added part (all_added first (xs ++ a ∷ [])) q ≡ (is_added part (all_added first xs) q || is_for a.subject (part a.rings) q)
+added_then part None xs a q =
     list_any-append (λ (b : Added). is_for b.subject (part b.rings) q) xs (a ∷ []) ∙ ap (λ b. is_added part xs q || b) (or_false (is_for a.subject (part a.rings) q))
+added_then part (Some f) xs a q =
+    ap (λ b. is_for f.subject (part f.rings) q || b)
+    (list_any-append (λ (b : Added). is_for b.subject (part b.rings) q) xs (a ∷ []) ∙ ap (λ b. is_added part xs q || b) (or_false (is_for a.subject (part a.rings) q)))
+    ∙ turn (is_for f.subject (part f.rings) q) (is_added part xs q) (is_for a.subject (part a.rings) q)
+  where
+    turn : (a b c : Bool) → (a || (b || c)) ≡ ((a || b) || c)
+    turn true b c = refl
+    turn false b c = refl
 
 -- on a process, the rings that are new are those of the reports that are not there
 pub new_for : (s : Process) (r : Reports) (mask rings fresh : ℕ) → ((k : ℕ) → set.contains r (s, k) ≡ has_ring mask k) → ((k : ℕ) → has_ring fresh k ≡ (has_ring rings k && not (has_ring mask k)))
@@ -65,11 +74,11 @@ puts_adds s old new mask rings more at is puts q = puts q ∙ inside (same_bytes
     inside false e = refl
 
 -- rings that are not there are noted
-pub without_noted : (part : Masks → ℕ) (r : Reports) (xs : List Added) (a : Added) (rings : ℕ) → ((q : Report) → is_for a.subject (part a.rings) q ≡ (is_for a.subject rings q && not (set.contains r q)))
-    → without_added part r (xs ++ a ∷ []) ≡ without_added part r xs
-without_noted part r xs a rings new =
+pub without_noted : (part : Masks → ℕ) (r : Reports) (xs ys : List Added) (a : Added) (rings : ℕ) → ((q : Report) → is_added part ys q ≡ (is_added part xs q || is_for a.subject (part a.rings) q)) → ((q : Report) → is_for a.subject (part a.rings) q ≡ (is_for a.subject rings q && not (set.contains r q)))
+    → without_added part r ys ≡ without_added part r xs
+without_noted part r xs ys a rings noted new =
     set.same_set reports_total reports_exact _ _ (λ q.
-    contains_before part r (xs ++ a ∷ []) q ∙ ap (λ b. set.contains r q && not b) (added_push part xs a q ∙ ap (λ b. is_added part xs q || b) (new q))
+    contains_before part r ys q ∙ ap (λ b. set.contains r q && not b) (noted q ∙ ap (λ b. is_added part xs q || b) (new q))
     ∙ at (set.contains r q) (is_added part xs q) (is_for a.subject rings q) ∙ sym (contains_before part r xs q))
   where
     at : (a b c : Bool) → (a && not (b || (c && not a))) ≡ (a && not b)
@@ -79,11 +88,11 @@ without_noted part r xs a rings new =
     at false b c = refl
 
 -- rings that are not there are noted and put in
-pub without_more : (part : Masks → ℕ) (r more : Reports) (xs : List Added) (a : Added) (rings : ℕ) → ((q : Report) → is_for a.subject (part a.rings) q ≡ (is_for a.subject rings q && not (set.contains r q)))
-    → AddsRings a.subject rings r more → without_added part more (xs ++ a ∷ []) ≡ without_added part r xs
-without_more part r more xs a rings new adds =
+pub without_more : (part : Masks → ℕ) (r more : Reports) (xs ys : List Added) (a : Added) (rings : ℕ) → ((q : Report) → is_added part ys q ≡ (is_added part xs q || is_for a.subject (part a.rings) q)) → ((q : Report) → is_for a.subject (part a.rings) q ≡ (is_for a.subject rings q && not (set.contains r q)))
+    → AddsRings a.subject rings r more → without_added part more ys ≡ without_added part r xs
+without_more part r more xs ys a rings noted new adds =
     set.same_set reports_total reports_exact _ _ (λ q.
-    contains_before part more (xs ++ a ∷ []) q ∙ ap (λ b. set.contains more q && not b) (added_push part xs a q ∙ ap (λ b. is_added part xs q || b) (new q))
+    contains_before part more ys q ∙ ap (λ b. set.contains more q && not b) (noted q ∙ ap (λ b. is_added part xs q || b) (new q))
     ∙ ap (λ b. b && not (is_added part xs q || (is_for a.subject rings q && not (set.contains r q)))) (adds q)
     ∙ at (set.contains r q) (is_added part xs q) (is_for a.subject rings q) ∙ sym (contains_before part r xs q))
   where
@@ -110,8 +119,8 @@ without_next part r less xs a takes =
     at true b false = refl
     at false b false = refl
 
-pub before_next : (r less : Known) (xs : List Added) (a : Added) → TakesOut a.subject a.rings.direct r.direct less.direct → TakesOut a.subject a.rings.all r.all less.all → before less xs ≡ before r (a ∷ xs)
-before_next r less xs a d e = λ i. record { direct = without_next (λ m. m.direct) r.direct less.direct xs a d i; all = without_next (λ m. m.all) r.all less.all xs a e i }
+pub all_next : (r less : Known) (xs : List Added) (a : Added) → TakesOut a.subject a.rings.direct r.direct less.direct → TakesOut a.subject a.rings.all r.all less.all → without_all less xs ≡ without_all r (a ∷ xs)
+all_next r less xs a d e = λ i. record { direct = without_next (λ m. m.direct) r.direct less.direct xs a d i; all = without_next (λ m. m.all) r.all less.all xs a e i }
 
 -- ---- one ring
 
@@ -139,13 +148,6 @@ pub adds_none : (old new : Reports) (s : Process) (mask : ℕ) → mask ≡ 0 �
 adds_none old new s mask z adds =
     set.same_set reports_total reports_exact _ _ (λ x.
     adds x ∙ ap (λ b. (same_bytes s x.0 && b) || set.contains old x) (ap (λ m. has_ring m x.1) z ∙ no_ring x.1) ∙ ap (λ b. b || set.contains old x) (and_false (same_bytes s x.0)))
-  where
-    and_false : (b : Bool) → (b && false) ≡ false
-    and_false true = refl
-    and_false false = refl
-
-pub none_added : (s : Process) (mask : ℕ) (r : Reports) → mask ≡ 0 → AddsRings s mask r r
-none_added s mask r z x = sym (ap (λ b. (same_bytes s x.0 && b) || set.contains r x) (ap (λ m. has_ring m x.1) z ∙ no_ring x.1) ∙ ap (λ b. b || set.contains r x) (and_false (same_bytes s x.0)))
   where
     and_false : (b : Bool) → (b && false) ≡ false
     and_false true = refl

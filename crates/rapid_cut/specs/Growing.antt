@@ -1,5 +1,5 @@
 -- Reports that were added, and those before.
-use Rattle.std.specs.Prelude.{◌≡◌, ℕ, Bool, not, ◌&&◌, ◌||◌, List, Some, if◌then◌else◌}
+use Rattle.std.specs.Prelude.{◌≡◌, ℕ, Bool, not, ◌&&◌, ◌||◌, List, ◌∷◌, Option, Some, None, if◌then◌else◌}
 use Rattle.std.specs.List.{list_any}
 use Rattle.std.specs.FinSet as set
 use Rattle.rapid_model.specs.Process.{Process, is_in, same_bytes}
@@ -7,6 +7,7 @@ use Rattle.rapid_model.specs.Ring.{Observers}
 use Rattle.rapid_model.specs.Reports.{Report, Reports, reaches_low}
 use Rattle.rapid_cut.specs.declared.mask.Masks.{Masks}
 use Rattle.rapid_cut.specs.declared.growing.Added.{Added}
+use Rattle.rapid_cut.specs.declared.growing.GrowingReports.{GrowingReports}
 use Rattle.rapid_cut.specs.Masks.{has_ring}
 use Rattle.rapid_cut.specs.Known.{Known}
 
@@ -34,9 +35,18 @@ is_added part xs x = list_any (λ a. is_for a.subject (part a.rings) x) xs
 abbrev pub without_added : (Masks → ℕ) → Reports → List Added → Reports
 without_added part r xs = set.retain r (λ x. not (is_added part xs x))
 
--- What was known before this was added.
-abbrev pub before : Known → List Added → Known
-before r xs = record { direct = without_added (λ m. m.direct) r.direct xs; all = without_added (λ m. m.all) r.all xs }
+-- What was known before all this was added.
+abbrev pub without_all : Known → List Added → Known
+without_all r xs = record { direct = without_added (λ m. m.direct) r.direct xs; all = without_added (λ m. m.all) r.all xs }
+
+-- All that was added: the first addition, if there is one, and the others.
+abbrev pub all_added : Option Added → List Added → List Added
+all_added None xs = xs
+all_added (Some a) xs = a ∷ xs
+
+-- What was known before.
+abbrev pub before : GrowingReports → Known
+before g = without_all g.reports (all_added g.first g.others.items)
 
 -- These processes are those that have at least L reports now and had not.
 pub record HaveGrown (t : Observers) (old new : Reports) (grown : List Process) : Type 0 where

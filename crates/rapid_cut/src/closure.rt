@@ -127,7 +127,7 @@ fn add_implied<T: ObserverTable>(
     requires low { model.reaches_low (T.observers table.now) known.old.reports.direct (Some subject.now) ≡ true }
     ensures direct { OnOk result (known.new.reports.direct ≡ known.old.reports.direct) }
     ensures added { OnOk result (AddsImplied (T.observers table.now) known.old.reports.direct subject.now known.old.reports.all known.new.reports.all) }
-    ensures before { before known.new.reports known.new.fresh.items ≡ before known.old.reports known.old.fresh.items }
+    ensures before { before known.new ≡ before known.old }
 {
     let so_far = known.reports.on(subject);
     let all = implied_rings(table, kept, &known.reports, subject, so_far.all);
@@ -152,7 +152,7 @@ pub fn close<T: ObserverTable>(
     requires known { IsBetween (T.observers table.now) known.old.reports.direct known.old.reports.all }
     ensures direct { OnOk result (known.new.reports.direct ≡ known.old.reports.direct) }
     ensures all { OnOk result (known.new.reports.all ≡ model.reports (T.observers table.now) known.old.reports.direct) }
-    ensures before { before known.new.reports known.new.fresh.items ≡ before known.old.reports known.old.fresh.items }
+    ensures before { before known.new ≡ before known.old }
 {
     for subject in active {
         add_implied(table, kept, subject, known)?;

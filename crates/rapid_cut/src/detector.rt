@@ -143,7 +143,7 @@ fn settle<T: ObserverTable>(
     ensures listed { OnOk result (active.new.items ≡ active_of (T.observers table.now) known.old.reports.direct) }
     ensures cut { IfOk result (λ cut. cut ≡ model.cut_of (T.observers table.now) known.old.reports.direct) }
     ensures active { OnErr result (active.new.items ≡ active.old.items) }
-    ensures before { before known.new.reports known.new.fresh.items ≡ before known.old.reports known.old.fresh.items }
+    ensures before { before known.new ≡ before known.old }
 {
     if grown.is_empty() {
         return cut_of(alloc, table, &known.reports, active);
@@ -176,7 +176,7 @@ fn take_batch<T: ObserverTable>(
     ensures count { IfOk result (λ advance. advance.count ≡ length (detector.taken (T.observers table.now) known.old.reports.direct (map alert_of alerts.now))) }
     ensures bound { IfOk result (λ advance. advance.count ≤ length alerts.now) }
     ensures active { OnErr result (active.new.items ≡ active.old.items) }
-    ensures before { before known.new.reports known.new.fresh.items ≡ before known.old.reports known.old.fresh.items }
+    ensures before { before known.new ≡ before known.old }
 {
     let Taken {
         joiners,
@@ -211,8 +211,9 @@ pub struct Detector<T: ObserverTable> {
 }
 
 impl<T: ObserverTable> Model for Detector<T> {
-    ghost use Rattle.std.specs.Prelude.{◌≡◌, []};
+    ghost use Rattle.std.specs.Prelude.{◌≡◌};
     ghost use Rattle.rapid_cut.specs.Watching.{Watching, watching_code};
+    ghost use Rattle.rapid_cut.specs.Growing.{before};
     ghost use Rattle.rapid_cut.specs.Keeping.{AreKept};
     ghost use Rattle.rapid_cut.specs.Limits.{IsKept};
 
@@ -222,7 +223,7 @@ impl<T: ObserverTable> Model for Detector<T> {
 
     ghost view = { λ d. record { table = d.table; detector = record { direct = d.known.reports.direct; closed = d.closed; skipped = d.skipped } } };
 
-    ghost invariant = { λ d. IsKept (T.observers d.table) d.known.reports.direct d.known.reports.all d.active.items d.joiners d.closed × AreKept (T.observers d.table) d.kept.places.entries d.kept.observers.items × (d.known.fresh.items ≡ []) };
+    ghost invariant = { λ d. IsKept (T.observers d.table) d.known.reports.direct d.known.reports.all d.active.items d.joiners d.closed × AreKept (T.observers d.table) d.kept.places.entries d.kept.observers.items × (before d.known ≡ d.known.reports) };
 }
 
 impl<T: ObserverTable> Detector<T> {

@@ -1,9 +1,11 @@
 // Reports that can be as they were.
 
-ghost use Rattle.std.specs.Prelude.{◌≡◌, ℕ, [], ◌∷◌, ◌++◌, IfOk, OnOk, OnErr};
+ghost use Rattle.std.specs.Prelude.{◌≡◌, ℕ, ◌||◌, IfOk, OnOk, OnErr};
 ghost use Rattle.std.specs.FinSet as set;
+ghost use Rattle.rapid_model.specs.Reports.{Report};
+ghost use Rattle.rapid_cut.specs.declared.mask.Masks as masks;
 ghost use Rattle.rapid_cut.specs.Masks.{has_ring};
-ghost use Rattle.rapid_cut.specs.Growing.{AddsRings, before};
+ghost use Rattle.rapid_cut.specs.Growing.{AddsRings, is_for, is_added, all_added, without_all, before};
 
 use crate::mask::Masks;
 use crate::reports::KnownReports;
@@ -17,13 +19,15 @@ struct Added {
     rings: Masks,
 }
 
-/// The reports that are known, and which of them were added since they were last kept.
+/// The reports that are known, and which of them were added since they were last kept. To add on
+/// one process takes no memory but that of the report.
 #[derive(Debug, Drop)]
 pub struct GrowingReports {
     /// All that are known.
     pub reports: KnownReports,
-    // what was added
-    fresh: Vec<Added>,
+    // what was added first, and what was added then
+    first: Option<Added>,
+    others: Vec<Added>,
 }
 
 impl GrowingReports {
@@ -31,11 +35,12 @@ impl GrowingReports {
     pub fn new(alloc: Global) -> GrowingReports
         ensures direct { result.reports.direct ≡ set.empty }
         ensures all { result.reports.all ≡ set.empty }
-        ensures fresh { result.fresh.items ≡ [] }
+        ensures kept { before result ≡ result.reports }
     {
         GrowingReports {
             reports: KnownReports::new(alloc),
-            fresh: Vec::new(alloc),
+            first: None,
+            others: Vec::new(alloc),
         }
     }
 
@@ -45,9 +50,13 @@ impl GrowingReports {
         requires all { (k : ℕ) → set.contains self.old.reports.all (subject.now, k) ≡ has_ring so_far.all k }
         ensures direct { OnOk result (AddsRings subject.now rings.direct self.old.reports.direct self.new.reports.direct) }
         ensures all { OnOk result (AddsRings subject.now rings.all self.old.reports.all self.new.reports.all) }
-        ensures before { before self.new.reports self.new.fresh.items ≡ before self.old.reports self.old.fresh.items }
+        ensures before { before self.new ≡ before self.old }
     {
-        note(&mut self.fresh, *subject, rings.without(so_far))?;
+        let added = Added {
+            subject: *subject,
+            rings: rings.without(so_far),
+        };
+        note(&mut self.first, &mut self.others, added)?;
         self.reports.put(subject, so_far.with(rings))?;
         Ok(())
     }
@@ -55,46 +64,56 @@ impl GrowingReports {
     /// Keeps what was added.
     pub fn keep(&mut self)
         ensures reports { self.new.reports ≡ self.old.reports }
-        ensures fresh { self.new.fresh.items ≡ [] }
+        ensures kept { before self.new ≡ self.new.reports }
     {
-        self.fresh.clear();
+        self.first = None;
+        self.others.clear();
     }
 
     /// Takes out what was added. That needs no memory.
     pub fn undo(&mut self)
-        ensures reports { self.new.reports ≡ before self.old.reports self.old.fresh.items }
-        ensures fresh { self.new.fresh.items ≡ [] }
+        ensures reports { self.new.reports ≡ before self.old }
+        ensures kept { before self.new ≡ self.new.reports }
     {
-        take_out(&mut self.reports, self.fresh.as_slice());
-        self.fresh.clear();
+        if let Some(added) = self.first {
+            self.reports.take_out(&added.subject, added.rings);
+        }
+        take_out(&mut self.reports, self.others.as_slice());
+        self.first = None;
+        self.others.clear();
     }
 
     /// The same reports, as kept.
     pub fn try_copy(&self, alloc: Global) -> Result<GrowingReports, AllocError>
         ensures reports { IfOk result (λ copy. copy.reports ≡ self.now.reports) }
-        ensures fresh { IfOk result (λ copy. copy.fresh.items ≡ []) }
+        ensures kept { IfOk result (λ copy. before copy ≡ copy.reports) }
     {
         Ok(GrowingReports {
             reports: self.reports.try_copy()?,
-            fresh: Vec::new(alloc),
+            first: None,
+            others: Vec::new(alloc),
         })
     }
 }
 
 /// Takes out what was added.
-fn take_out(reports: &mut KnownReports, fresh: &[Added])
-    ensures { reports.new ≡ before reports.old fresh.now }
+fn take_out(reports: &mut KnownReports, others: &[Added])
+    ensures { reports.new ≡ without_all reports.old others.now }
 {
-    for added in fresh {
+    for added in others {
         reports.take_out(&added.subject, added.rings);
     }
 }
 
 /// Notes what is added.
-fn note(fresh: &mut Vec<Added>, subject: Process, rings: Masks) -> Result<(), AllocError>
-    ensures more { OnOk result (fresh.new.items ≡ fresh.old.items ++ (record { subject = subject; rings = rings }) ∷ []) }
-    ensures unchanged { OnErr result (fresh.new.items ≡ fresh.old.items) }
+fn note(first: &mut Option<Added>, others: &mut Vec<Added>, added: Added) -> Result<(), AllocError>
+    ensures more { OnOk result ((part : masks.Masks → ℕ) (x : Report) → is_added part (all_added first.new others.new.items) x ≡ (is_added part (all_added first.old others.old.items) x || is_for added.subject (part added.rings) x)) }
+    ensures unchanged { OnErr result (all_added first.new others.new.items ≡ all_added first.old others.old.items) }
 {
-    fresh.push(Added { subject, rings })?;
+    if first.is_none() {
+        *first = Some(added);
+        return Ok(());
+    }
+    others.push(added)?;
     Ok(())
 }

@@ -134,7 +134,7 @@ fn put<T: ObserverTable>(
     ensures direct { OnOk result (known.new.reports.direct ≡ set.insert known.old.reports.direct (subject, ring)) }
     ensures all { OnOk result (known.new.reports.all ≡ set.insert known.old.reports.all (subject, ring)) }
     ensures grown { OnOk result ((start : Reports) → HaveGrown (T.observers table.now) start known.old.reports.direct grown.old.items → HaveGrown (T.observers table.now) start known.new.reports.direct grown.new.items) }
-    ensures before { before known.new.reports known.new.fresh.items ≡ before known.old.reports known.old.fresh.items }
+    ensures before { before known.new ≡ before known.old }
 {
     let one = bit(ring);
     let comes_to_low = comes_to_low(table, so_far.direct, with(so_far.direct, one));
@@ -166,7 +166,7 @@ fn take<T: ObserverTable>(
     ensures all { IfOk result (λ taken. known.new.reports.all ≡ (if taken then set.insert known.old.reports.all (report_of (alert_of alert.now)) else known.old.reports.all)) }
     ensures joiners { OnOk result (joiners.new ≡ length (detector.joiners (T.observers table.now) known.new.reports.direct)) }
     ensures grown { OnOk result ((start : Reports) → HaveGrown (T.observers table.now) start known.old.reports.direct grown.old.items → HaveGrown (T.observers table.now) start known.new.reports.direct grown.new.items) }
-    ensures before { before known.new.reports known.new.fresh.items ≡ before known.old.reports known.old.fresh.items }
+    ensures before { before known.new ≡ before known.old }
 {
     let (well_formed, member) = check(table, kept, alert);
     if !well_formed {
@@ -235,7 +235,7 @@ pub fn take_all<T: ObserverTable>(
     ensures bound { IfOk result (λ taken. taken.count ≤ length alerts.now) }
     ensures limits { OnOk result (IsWithinLimits (T.observers table.now) known.new.reports.direct) }
     ensures grown { IfOk result (λ taken. HaveGrown (T.observers table.now) known.old.reports.direct known.new.reports.direct taken.grown.items) }
-    ensures before { before known.new.reports known.new.fresh.items ≡ before known.old.reports known.old.fresh.items }
+    ensures before { before known.new ≡ before known.old }
 {
     let mut joiners = joiners;
     let mut count = 0;

@@ -8,5 +8,5 @@ invariant-loop-subject g l =
     record {
       direct : l.known.reports.direct ≡ l.fn.known.reports.direct;
       passing : IsPassing (g.T.ObserverTable.observers l.table) l.fn.known.reports.direct (drop l.subject-index l.active) l.known.reports.all;
-      before : before l.known.reports l.known.fresh.items ≡ before l.fn.known.reports l.fn.known.fresh.items;
+      before : before l.known ≡ before l.fn.known;
     }

@@ -14,5 +14,5 @@ invariant-loop-alert g l =
       into : IsTakingInto (g.T.ObserverTable.observers l.table) l.fn.known.reports.direct (map alert_of l.alerts) l.alert-index l.known.reports.direct l.fn.known.reports.all l.known.reports.all;
       known : Includes l.known.reports.all l.known.reports.direct;
       grown : HaveGrown (g.T.ObserverTable.observers l.table) l.fn.known.reports.direct l.known.reports.direct l.grown.items;
-      before : before l.known.reports l.known.fresh.items ≡ before l.fn.known.reports l.fn.known.fresh.items;
+      before : before l.known ≡ before l.fn.known;
     }

@@ -10,5 +10,5 @@ invariant_of-result g c =
       subst (λ l. IsKept t c.new.result.reports.direct c.new.result.reports.all l 0 false) (sym c.new-2.ensures.items)
           (kept_none t c.new.result.reports.direct c.new.result.reports.all c.params.ensures.rules c.new.ensures.direct c.new.ensures.all),
       none_kept t c.new-3.result.places.entries c.new-3.result.observers.items c.new-3.ensures,
-      c.new.ensures.fresh,
+      c.new.ensures.kept,
     )

@@ -1,6 +1,6 @@
 use Rattle.std.proofs.Common.{◌∙◌, ap}
 use Rattle.rapid_cut.specs.declared.growing.Added.{Added}
-use Rattle.rapid_cut.specs.Growing.{before}
+use Rattle.rapid_cut.specs.Growing.{all_added, without_all}
 use Rattle.rapid_cut.proofs.Fresh.{puts_adds, new_for, without_noted, without_more}
 use Rattle.rapid_cut.proofs.growing.GrowingReports.add.Goals as goal
 
@@ -17,31 +17,32 @@ returns-clause-before c =
     let r = c.args.self.now.reports in
     let s = c.args.subject.now in
     let a : Added = record { subject = s; rings = c.without.result } in
-    let xs = c.args.self.now.fresh.items in
-    ap (before c.put.new.self) c.in_ok-note.ensures.more
-    ∙ (λ i. record {
+    let xs = all_added c.args.self.now.first c.args.self.now.others.items in
+    let ys = all_added c.note.new.first c.note.new.others.items in
+    λ i. record {
       direct =
-          without_more (λ m. m.direct) r.direct c.put.new.self.direct xs a c.args.rings.direct
+          without_more (λ m. m.direct) r.direct c.put.new.self.direct xs ys a c.args.rings.direct (c.in_ok-note.ensures.more (λ m. m.direct))
           (new_for s r.direct c.args.so_far.direct c.args.rings.direct c.without.result.direct c.requires.direct c.without.ensures.direct)
           (puts_adds s r.direct c.put.new.self.direct c.args.so_far.direct c.args.rings.direct c.with.result.direct c.requires.direct c.with.ensures.direct c.in_ok-put.ensures.direct) i;
       all =
-          without_more (λ m. m.all) r.all c.put.new.self.all xs a c.args.rings.all
+          without_more (λ m. m.all) r.all c.put.new.self.all xs ys a c.args.rings.all (c.in_ok-note.ensures.more (λ m. m.all))
           (new_for s r.all c.args.so_far.all c.args.rings.all c.without.result.all c.requires.all c.without.ensures.all)
           (puts_adds s r.all c.put.new.self.all c.args.so_far.all c.args.rings.all c.with.result.all c.requires.all c.with.ensures.all c.in_ok-put.ensures.all) i;
-    })
+    }
 
 pub returns-in_err-put-clause-before : goal.returns-in_err-put-clause-before
 returns-in_err-put-clause-before c =
     let r = c.args.self.now.reports in
     let s = c.args.subject.now in
     let a : Added = record { subject = s; rings = c.without.result } in
-    let xs = c.args.self.now.fresh.items in
-    ap (λ k. before k c.note.new.fresh.items) c.in_err-put.ensures.unchanged ∙ ap (before r) c.in_ok-note.ensures.more
+    let xs = all_added c.args.self.now.first c.args.self.now.others.items in
+    let ys = all_added c.note.new.first c.note.new.others.items in
+    ap (λ k. without_all k ys) c.in_err-put.ensures.unchanged
     ∙ (λ i. record {
       direct =
-          without_noted (λ m. m.direct) r.direct xs a c.args.rings.direct
+          without_noted (λ m. m.direct) r.direct xs ys a c.args.rings.direct (c.in_ok-note.ensures.more (λ m. m.direct))
           (new_for s r.direct c.args.so_far.direct c.args.rings.direct c.without.result.direct c.requires.direct c.without.ensures.direct) i;
       all =
-          without_noted (λ m. m.all) r.all xs a c.args.rings.all
+          without_noted (λ m. m.all) r.all xs ys a c.args.rings.all (c.in_ok-note.ensures.more (λ m. m.all))
           (new_for s r.all c.args.so_far.all c.args.rings.all c.without.result.all c.requires.all c.without.ensures.all) i;
     })
