@@ -100,8 +100,8 @@ fn joiners_with<T: ObserverTable>(
     }
 }
 
-/// Whether a process with reports for the first rings has fewer than L, and with them for the
-/// others as many.
+/// Whether a process has fewer than L reports if they are for the first rings, and at least L if
+/// they are for the second.
 fn comes_to_low<T: ObserverTable>(table: &T, before: u16, now: u16) -> bool
     ensures { result ≡ (not (nat_le (T.observers table.now).params.l (count_by (has_ring before) (rings (T.observers table.now)))) && nat_le (T.observers table.now).params.l (count_by (has_ring now) (rings (T.observers table.now)))) }
 {
