@@ -1,9 +1,10 @@
 // The places of members, which are guessed first: lists that differ in few have most members in a
 // row.
 
-ghost use Rattle.std.specs.Prelude.{◌≡◌, ◌≤◌, ◌<◌, ◌∷◌, ◌++◌, [], not, length, map, if◌then◌else◌, IfOk, OnOk};
+ghost use Rattle.std.specs.Prelude.{◌≡◌, ◌≤◌, ◌∷◌, ◌++◌, [], length, map, if◌then◌else◌, IfOk, OnOk};
 ghost use Rattle.std.specs.List.{range_with_len};
 ghost use Rattle.rapid_model.specs.Configuration.{position_of};
+ghost use Rattle.rapid_model.specs.Limits.{most_members};
 ghost use Rattle.rapid_rings.specs.Following.{places_of_new};
 
 use rapid_config::Configuration;
@@ -34,7 +35,7 @@ pub(crate) fn places_of_strangers(
     configuration: &Configuration,
     processes: &[Process],
 ) -> Result<Vec<u16>, AllocError>
-    requires { length processes.now ≤ 1024 }
+    requires { length processes.now ≤ most_members }
     ensures { IfOk result (λ places. places.items ≡ places_of_new configuration.now.members processes.now) }
 {
     let mut places = Vec::new(alloc);
@@ -49,7 +50,7 @@ pub(crate) fn places_of_strangers(
 
 /// The places below a number.
 pub(crate) fn places_below(alloc: Global, count: usize) -> Result<Vec<u16>, AllocError>
-    requires { count ≤ 1024 }
+    requires { count ≤ most_members }
     ensures { IfOk result (λ places. places.items ≡ range_with_len 0 count) }
 {
     let mut places = Vec::with_capacity(alloc, count)?;
@@ -90,7 +91,7 @@ fn place_near(configuration: &Configuration, guess: u16, process: &Process) -> O
 fn place_of(configuration: &Configuration, process: &Process) -> Option<u16>
     ensures { result ≡ position_of configuration.now process.now }
 {
-    let _members = configuration.members();
+    configuration.tell();
     match configuration.position(process) {
         Some(place) => Some(place as u16),
         None => None,

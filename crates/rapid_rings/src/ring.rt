@@ -1,10 +1,9 @@
 // One ring.
 
-ghost use Rattle.std.specs.Prelude.{◌≡◌, true, false, set, ◌-◌, ◌+◌, ◌==◌, ◌≤◌, ◌<◌, ℕ, All, List, length, map, position, slice_get, nat_le, if◌then◌else◌, Some, None, IsTrue, IfOk};
-ghost use Rattle.std.specs.List.{range_with_len};
+ghost use Rattle.std.specs.Prelude.{◌≡◌, ◌≤◌, ◌<◌, ℕ, true, false, All, List, length, map, set, position, slice_get, Some, None, IsTrue, IfOk};
+ghost use Rattle.std.specs.List.{range_with_len, find};
 ghost use Rattle.std.specs.List.Sorted.{IsPartitionPoint};
-ghost use Rattle.std.specs.Option.{option_and_then, option_eq};
-ghost use Rattle.std.specs.List.{find};
+ghost use Rattle.std.specs.Option.{option_eq};
 ghost use Rattle.rapid_model.specs.Process.{Process as ModelProcess, same_bytes};
 ghost use Rattle.rapid_model.specs.Configuration.{identifiers_ascend};
 ghost use Rattle.rapid_model.specs.Ring as model;

@@ -1,6 +1,6 @@
 // The rings of a configuration.
 
-ghost use Rattle.std.specs.Prelude.{◌≡◌, [], ◌∷◌, ◌++◌, map, position, Some, IfOk, OnOk};
+ghost use Rattle.std.specs.Prelude.{◌≡◌, ◌++◌, map, position, Some, IfOk, OnOk};
 ghost use Rattle.std.specs.Option.{option_map, option_to_list};
 ghost use Rattle.rapid_rings.specs.Seats.{IsOrder};
 ghost use Rattle.rapid_rings.specs.Following.{places_of_new};
