@@ -24,8 +24,7 @@ use std::time::Clock;
 const USAGE: &str = "rapid_bench WORD.. prints figures, a line each: NAME, a space, a number.
   votes     nanoseconds of a vote among 1,024 members, for cuts of 1, 10 and 100 processes
   memory    bytes of a fast round after 1,024 votes, for one cut and for a cut each
-  rings_new, rings_next    nanoseconds of the sixteen rings of 1,024 members, from nothing and \
-after one left and one joined
+  rings_new, rings_next    nanoseconds of the sixteen rings of 1,024 members, from nothing and after one left and one joined
   from_bytes    nanoseconds of a configuration of 1,024 members, read from its bytes
   frames    nanoseconds of a thousand bytes of frames, written, and read in pieces
   steps     nanoseconds of a step of a node and of a copy of one, at 5, 100 and 1,024 members

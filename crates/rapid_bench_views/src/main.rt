@@ -17,8 +17,7 @@ use std::time::{Clock, Instant};
 
 /// What is printed where no word names a figure.
 const USAGE: &str = "rapid_bench_views WORD.. prints figures, a line each: NAME, a space, a number.
-  views    nanoseconds of a hundred reads of a stamp, and of the view of 1,000 processes, \
-by 1 and by 4 threads
+  views    nanoseconds of a hundred reads of a stamp, and of the view of 1,000 processes, by 1 and by 4 threads
            at a time; and of the same under a lock
   desks    nanoseconds of a vote and a tick among 1,000 processes, at a node and at a desk";
 

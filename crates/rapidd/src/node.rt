@@ -21,18 +21,14 @@ const NODE_LINES: &str = "Lines of standard input:
   tick [COUNT]   the clock ticks so often, 1 to 1000 times
   view           prints the present view, or no view
   quit           ends the node, as the end of the input does
-A line that begins with # is passed over, and another prints refused BadLine. Each view that the \
-node
+A line that begins with # is passed over, and another prints refused BadLine. Each view that the node
 enters prints
   height H members ENDPOINT ..
-An ENDPOINT is 127.x.x.x:PORT with a port from 1. Every tenth tick is a round of probes. K, H and \
-L are
+An ENDPOINT is 127.x.x.x:PORT with a port from 1. Every tenth tick is a round of probes. K, H and L are
 those of a cluster that the node founds; one that joins takes those of its cluster.
 
-Status: 0 at the end of the input, after quit and after help, 1 where standard input or output \
-failed
-or the port was not to be had, 2 where the words were refused, 3 for want of memory, or where \
-the node
+Status: 0 at the end of the input, after quit and after help, 1 where standard input or output failed
+or the port was not to be had, 2 where the words were refused, 3 for want of memory, or where the node
 has halted or its journal is full.";
 
 /// An option whose value is a text.

@@ -65,12 +65,10 @@ const SIM_LINES: &str = "Lines:
   tick N [COUNT]                   the clock of node N ticks
   deliver P                        packet P comes to the node at its endpoint
   drop P                           packet P is passed over by later flows
-  flow                             delivers packets in order until there are none, or 10,000 were \
-passed
+  flow                             delivers packets in order until there are none, or 10,000 were passed
   crash N                          node N stops for good
   packets                          prints how many packets were sent
-Processes are numbers from 1 to 65535 at 127.0.0.1, packets are numbered from 1 in the order \
-sent, and
+Processes are numbers from 1 to 65535 at 127.0.0.1, packets are numbered from 1 in the order sent, and
 COUNT is 1 to 1000. A line that begins with # is passed over. A line that is refused prints its
 reason; of a repeated event what came before stands. A view that a node enters prints a line.
 
@@ -79,8 +77,7 @@ Status: 0 at the end of the input and after help, 1 where standard input or outp
 
 /// What `cluster --help` says of what it does.
 const CLUSTER_TURNS: &str =
-    "Process 1 is the founder, and the others ask it to let them in. A turn delivers the least \
-packet
+    "Process 1 is the founder, and the others ask it to let them in. A turn delivers the least packet
 that no turn has delivered or passed over and at whose endpoint a node runs, or where there is none
 lets the clock of the next node tick. At the end it prints
   events E                       how many starts and turns there were
@@ -151,8 +148,7 @@ fn cluster<'a>(alloc: Global) -> Result<Command<'a>, AllocError> {
 fn grammar<'a>(alloc: Global) -> Result<Command<'a>, AllocError> {
     let detect = Command::new(alloc, "detect")
         .about(
-            "Reads who observes whom and alerts from standard input, and prints the cuts that \
-             they make",
+            "Reads who observes whom and alerts from standard input, and prints the cuts that they make",
         )
         .after_help(DETECT_LINES);
     let sim = Command::new(alloc, "sim")
