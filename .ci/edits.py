@@ -11,18 +11,17 @@ since a function calls another that is changed too, is tried again without the e
 refused already. An edit that this leaves undecided, or that changes more than bodies, is tried
 alone, as `rt` does it. That the crate is proved without any edit was seen before.
 
-All else is the toolchain's own rt, which is read as a library.
+All else is the toolchain's own rt, which is read as a module.
 """
 import functools
-import importlib.machinery
-import importlib.util
 import os
 import re
-import shutil
 import sys
 import tempfile
 from collections import namedtuple
 from pathlib import Path
+
+import toolchain
 
 ALONE = ["--jobs", "1"]
 FUNCTION = re.compile(r"\bfn (\w+)")
@@ -44,17 +43,6 @@ Function = namedtuple("Function", "module owner name others")
 # An edit, the texts that it puts in place of others by file, and the functions whose bodies it
 # changes.
 Edit = namedtuple("Edit", "path pairs functions")
-
-
-def toolchain():
-    """The toolchain's command rt, as a module."""
-    sys.dont_write_bytecode = True
-    command = os.path.realpath(shutil.which("rt"))
-    sys.path.insert(0, os.path.dirname(command))
-    loader = importlib.machinery.SourceFileLoader("rt_command", command)
-    module = importlib.util.module_from_spec(importlib.util.spec_from_loader("rt_command", loader))
-    loader.exec_module(module)
-    return module
 
 
 def pairs_of(text):
@@ -286,7 +274,7 @@ def tried_alone(rt, crate, edit, label, kept):
 
 
 def main(names):
-    rt = toolchain()
+    rt = toolchain.load()
     rt.must_fail_all = functools.partial(tried, rt)
     return rt.main(["must-fail", *names] if names else ["ci"])
 
