@@ -21,7 +21,8 @@ import tempfile
 from collections import namedtuple
 from pathlib import Path
 
-import toolchain
+sys.dont_write_bytecode = True
+import toolchain  # noqa: E402
 
 ALONE = ["--jobs", "1"]
 FUNCTION = re.compile(r"\bfn (\w+)")
