@@ -11,11 +11,18 @@ since a function calls another that is changed too, is tried again without the e
 refused already. An edit that this leaves undecided, or that changes more than bodies, is tried
 alone, as `rt` does it. That the crate is proved without any edit was seen before.
 
+In `rt ci` a check of edits takes over what the proof of the crate, in the same run, found proved, so
+that it proves no function that neither changes nor rests on one that does. For this the library of a
+crate with edits is built with its checked modules, and not with its statements alone; the crates
+above it, which load what they cite, are proved over either in the same time.
+
 All else is the toolchain's own rt, which is read as a module.
 """
 import functools
+import json
 import os
 import re
+import shutil
 import sys
 import tempfile
 from collections import namedtuple
@@ -250,19 +257,20 @@ def tried_together(rt, crate, edits, kept):
     return refused
 
 
-def tried(rt, crate, paths, _flags):
+def tried(rt, room, crate, paths, _flags):
     """Whether each edit of a crate is refused, and what to say of it."""
     well = [it for it in paths if not rt.read_edit(it, crate.folder)[1]]
     many = [it for it in (read(Path(it), Path(crate.folder)) for it in well) if it.functions]
-    results = []
-    with tempfile.TemporaryDirectory(prefix="check-edits-") as kept:
-        refused = tried_together(rt, crate, many, kept) if len(many) > 1 else {}
-        for it in paths:
-            label = f"must-fail {crate.name}/{os.path.basename(it)}"
-            if Path(it) in refused:
-                results.append((True, f"{label}: refused, as it must be: {refused[Path(it)]}"))
-            else:
-                results.append(tried_alone(rt, crate, it, label, kept))
+    results, kept = [], room / crate.name
+    kept.mkdir(exist_ok=True)
+    refused = tried_together(rt, crate, many, kept) if len(many) > 1 else {}
+    for it in paths:
+        label = f"must-fail {crate.name}/{os.path.basename(it)}"
+        if Path(it) in refused:
+            results.append((True, f"{label}: refused, as it must be: {refused[Path(it)]}"))
+        else:
+            results.append(tried_alone(rt, crate, it, label, kept))
+    shutil.rmtree(kept)
     return results
 
 
@@ -274,10 +282,44 @@ def tried_alone(rt, crate, edit, label, kept):
     return well, said
 
 
+def take_modules(built, folder):
+    """Takes the checked modules out of what a proof wrote, each a file of its own, as a check finds
+    what earlier ones left."""
+    folder.mkdir(parents=True)
+    with open(built / "toolchain/checked.a", "rb") as archive:
+        for row in (built / "toolchain/checked.json").read_text(encoding="utf-8").splitlines():
+            name, at, length = json.loads(row)
+            if "/" not in name:
+                archive.seek(at)
+                (folder / f"{name}.oantt").write_bytes(archive.read(length))
+
+
+def keeping(rt, room, prove):
+    """The method that proves a crate or its tests, which now keeps what it found proved of a crate
+    that has edits."""
+    about = Path(rt.KIT, "rlibs/std.rlib/format").read_text(encoding="utf-8")
+    build = re.search(r"^rattle-build (.*)$", about, re.M)[1].replace("/", "_")
+
+    def proved(crate, *commands):
+        if not rt.edits_of(crate)[0]:
+            return prove(crate, *commands)
+        commands = [[it for it in words if it != "--statements"] for words in commands]
+        status = prove(crate, *commands)
+        for words in commands:
+            if not status and "--test" not in words:
+                built = Path(crate.folder, words[words.index("-o") + 1])
+                take_modules(built, room / crate.name / build)
+        return status
+
+    return proved
+
+
 def main(names):
     rt = toolchain.load()
-    rt.must_fail_all = functools.partial(tried, rt)
-    return rt.main(["must-fail", *names] if names else ["ci"])
+    with tempfile.TemporaryDirectory(prefix="check-edits-") as room:
+        rt.must_fail_all = functools.partial(tried, rt, Path(room))
+        rt.Crate.prove = keeping(rt, Path(room), rt.Crate.prove)
+        return rt.main(["must-fail", *names] if names else ["ci"])
 
 
 if __name__ == "__main__":
