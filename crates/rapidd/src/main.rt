@@ -4,15 +4,13 @@
 //! node` runs a member of a cluster over loopback TCP.
 #![tactic(auto)]
 
-mod node;
-mod words;
-
+use rapid_commands::{run_words, without_words};
 use std::process::ExitCode;
 use std::{env, io};
 
 fn main(rt: HostRuntime) -> ExitCode {
     match arguments(&rt) {
-        Ok(words) => ExitCode::from(words::run_words(
+        Ok(words) => ExitCode::from(run_words(
             &rt,
             rt.alloc(),
             words.as_slice(),
@@ -20,7 +18,7 @@ fn main(rt: HostRuntime) -> ExitCode {
             &mut io::writer(&rt),
             &mut rt.stderr(),
         )),
-        Err(error) => ExitCode::from(words::without_words(&error, &mut rt.stderr())),
+        Err(error) => ExitCode::from(without_words(&error, &mut rt.stderr())),
     }
 }
 
@@ -28,6 +26,3 @@ fn main(rt: HostRuntime) -> ExitCode {
 fn arguments(rt: &HostRuntime) -> io::Result<Vec<String>> {
     Ok(env::args(rt)?.collect(rt.alloc())?)
 }
-
-#[cfg(test)]
-mod tests;

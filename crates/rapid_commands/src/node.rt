@@ -1,7 +1,7 @@
 // The command `node`.
 
 ghost use Rattle.std.specs.Prelude.{◌≡◌, ◌≤◌, true};
-ghost use Rattle.rapidd.specs.NodeWords.{NamesNode};
+ghost use Rattle.rapid_commands.specs.NodeWords.{NamesNode};
 
 use crate::words::{DONE, REFUSED, number};
 use clap::{Arg, ArgAction, ArgMatches, Command, value_parser};

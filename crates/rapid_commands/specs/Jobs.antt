@@ -7,8 +7,8 @@ use Rattle.rapid_cluster.specs.Written.{Ended}
 use Rattle.rapid_text.specs.Underway.{AppendsFront}
 use Rattle.rapid_text.specs.declared.fault.RunFault.{RunFault}
 use Rattle.rapid_sim.specs.Wants.{SimPrints}
-use Rattle.rapidd.specs.declared.words.Job.{Job}
-use Rattle.rapidd.specs.declared.words.Job.TheVariants.{Detect, Sim, Cluster}
+use Rattle.rapid_commands.specs.declared.words.Job.{Job}
+use Rattle.rapid_commands.specs.declared.words.Job.TheVariants.{Detect, Sim, Cluster}
 
 -- A cluster has at most 32 clerks.
 abbrev pub CanRun : Job → Type 0

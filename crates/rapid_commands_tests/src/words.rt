@@ -1,6 +1,6 @@
 // The statuses of the program, and what it writes with each.
 
-use crate::words::{run_words, without_words};
+use rapid_commands::{run_words, without_words};
 use std::alloc::Global;
 use std::io;
 use std::io::{ErrorKind, Read, Write};

@@ -6,10 +6,10 @@ use Rattle.rapid_model.specs.DetectText.{detect_text}
 use Rattle.rapid_cluster.specs.Written.{Ended}
 use Rattle.rapid_text.specs.Underway.{AppendsFront}
 use Rattle.rapid_text.specs.declared.fault.RunFault.{RunFault}
-use Rattle.rapidd.specs.Jobs.{WroteFront}
-use Rattle.rapidd.specs.declared.words.Job.{Job}
-use Rattle.rapidd.specs.declared.words.Job.TheVariants.{Detect, Cluster}
-use Rattle.rapidd.specs.declared.words.Setting.{Setting}
+use Rattle.rapid_commands.specs.Jobs.{WroteFront}
+use Rattle.rapid_commands.specs.declared.words.Job.{Job}
+use Rattle.rapid_commands.specs.declared.words.Job.TheVariants.{Detect, Cluster}
+use Rattle.rapid_commands.specs.declared.words.Setting.{Setting}
 
 detect_known : (known a b : Option (List ℕ)) → IfSome known (λ input. AppendsFront a b (detect_text input)) → WroteFront Detect known a b
 detect_known None a b h = tt

@@ -2,7 +2,7 @@ use lib.Pointwise.{bytes_decides}
 use Rattle.std.proofs.Common.{arith, ◌≡◌, ◌<◌, ◌∙◌, ap, codes, length, option_map, refl, slice_get, sym, Some, true, nat_lt}
 use Rattle.std.proofs.lemmas.Bool.Decides.{nat_tests}
 use Rattle.std.proofs.lemmas.Option.{slice_get_read}
-use Rattle.rapidd.proofs.node.names_node.Goals as goal
+use Rattle.rapid_commands.proofs.node.names_node.Goals as goal
 
 pub returns-in-Some : goal.returns-in-Some
 returns-in-Some g c = λ named.

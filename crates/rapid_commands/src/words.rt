@@ -2,9 +2,11 @@
 
 ghost use Rattle.std.specs.Prelude.{◌≡◌, ◌≢◌, ◌≤◌, ◌<◌, ◌⊎◌, IfSome, OnOk, OnErr};
 ghost use Rattle.clap.specs.Words.{kind_of};
-ghost use Rattle.rapidd.specs.Jobs.{CanRun, Wrote, WroteFront};
-ghost use Rattle.rapidd.specs.NodeWords.{NamesNode};
-ghost use Rattle.rapidd.specs.Statuses.{run_status};
+ghost use Rattle.std.specs.IoError.{error_kind};
+ghost use Rattle.std.specs.declared.io.ErrorKind.TheVariants.{OutOfMemory};
+ghost use Rattle.rapid_commands.specs.Jobs.{CanRun, Wrote, WroteFront};
+ghost use Rattle.rapid_commands.specs.NodeWords.{NamesNode};
+ghost use Rattle.rapid_commands.specs.Statuses.{run_status};
 
 use crate::node::{names_node, node, node_words, run_as_node, text};
 use clap::error::ErrorKind;
@@ -92,16 +94,20 @@ const MOST_WORKERS: u16 = 32;
 
 /// What the words of `cluster` ask for.
 #[derive(Clone, Copy, Debug)]
-struct Setting {
-    params: Params,
-    nodes: u16,
-    workers: u16,
-    turns: u16,
+pub struct Setting {
+    /// K, H and L.
+    pub params: Params,
+    /// How many nodes, 1 to 64.
+    pub nodes: u16,
+    /// How many threads, 1 to 32.
+    pub workers: u16,
+    /// How many turns each thread takes, 1 to 10,000.
+    pub turns: u16,
 }
 
-/// The commands of the program.
+/// The commands of the program that read lines or drive a simulated cluster.
 #[derive(Clone, Copy, Debug)]
-enum Job {
+pub enum Job {
     /// The cut detector over lines.
     Detect,
     /// The simulator over lines.
@@ -250,9 +256,11 @@ fn tell<O: Write, E: Write>(error: &Error, out: &mut O, err: &mut E) -> u8
     }
 }
 
-/// The status where the words that the program was given could not be had.
+/// The status where the words that the program was given could not be had: 3 for want of memory,
+/// else 2.
 pub fn without_words<E: Write>(error: &io::Error, err: &mut E) -> u8
-    ensures { result ≤ 3 }
+    ensures memory { error_kind error.now ≡ OutOfMemory → result ≡ 3 }
+    ensures other { error_kind error.now ≢ OutOfMemory → result ≡ 2 }
 {
     let _ = writeln!(err, "error: {error}");
     match error.kind() {

@@ -1,0 +1,8 @@
+//! The command line of `rapidd`: which words name a command, what it runs, and with which status it
+//! ends.
+#![tactic(auto)]
+
+mod node;
+mod words;
+
+pub use words::{Job, Setting, run_words, without_words};
