@@ -1,6 +1,6 @@
 // The alerts that are taken.
 
-ghost use Rattle.std.specs.Prelude.{◌≡◌, ◌≤◌, ◌<◌, ℕ, true, not, ◌&&◌, ◌∷◌, [], ◌++◌, map, length, count_by, nat_le, IfOk, OnOk, if◌then◌else◌};
+ghost use Rattle.std.specs.Prelude.{◌≡◌, ◌≤◌, ◌<◌, ℕ, true, not, ◌&&◌, ◌||◌, ◌∷◌, [], ◌++◌, map, length, count_by, nat_le, IfOk, OnOk, if◌then◌else◌};
 ghost use Rattle.std.specs.FinSet as set;
 ghost use Rattle.rapid_model.specs.Alert as model;
 ghost use Rattle.rapid_model.specs.Process.{is_in};
@@ -46,35 +46,42 @@ fn check<T: ObserverTable>(table: &T, kept: &KeptObservers, alert: &Alert) -> (b
     (well_formed, member)
 }
 
-/// Whether there is a direct report on the process, whose direct reports are for these rings.
-fn is_on(reports: &KnownReports, subject: &Process, mask: u16) -> bool
-    requires { (k : ℕ) → set.contains reports.now.direct (subject.now, k) ≡ has_ring mask k }
-    ensures { result ≡ is_in (subjects reports.now.direct) subject.now }
+/// Whether one report more on the process leaves as many joiners reported on: it is a member, or
+/// there is a direct report on it, whose direct reports are for these rings.
+fn is_counted<T: ObserverTable>(
+    table: &T,
+    reports: &KnownReports,
+    subject: &Process,
+    member: bool,
+    mask: u16,
+) -> bool
+    requires mask { (k : ℕ) → set.contains reports.now.direct (subject.now, k) ≡ has_ring mask k }
+    requires member { member ≡ (T.observers table.now).is_member subject.now }
+    ensures { result ≡ ((T.observers table.now).is_member subject.now || is_in (subjects reports.now.direct) subject.now) }
 {
+    let _ = table;
     let _ = reports;
     let _ = subject;
-    has_any(mask)
+    member || has_any(mask)
 }
 
-/// Whether the alert is taken: it is well-formed and on no 513th joiner.
-fn is_taken<T: ObserverTable>(
+/// Whether a well-formed alert is taken: it is on no 513th joiner.
+fn has_room<T: ObserverTable>(
     table: &T,
     reports: &KnownReports,
     joiners: usize,
     alert: &Alert,
-    member: bool,
-    well_formed: bool,
-    mask: u16,
+    counted: bool,
 ) -> bool
-    requires mask { (k : ℕ) → set.contains reports.now.direct (alert.now.subject, k) ≡ has_ring mask k }
-    requires member { member ≡ (T.observers table.now).is_member alert.now.subject }
-    requires well_formed { well_formed ≡ model.is_well_formed (T.observers table.now) (alert_of alert.now) }
+    requires counted { counted ≡ ((T.observers table.now).is_member alert.now.subject || is_in (subjects reports.now.direct) alert.now.subject) }
+    requires well_formed { model.is_well_formed (T.observers table.now) (alert_of alert.now) ≡ true }
     requires joiners { joiners ≡ length (detector.joiners (T.observers table.now) reports.now.direct) }
-    ensures value { result ≡ detector.is_taken (T.observers table.now) reports.now.direct (alert_of alert.now) }
-    ensures well_formed { result ≡ true → well_formed ≡ true }
+    ensures { result ≡ detector.is_taken (T.observers table.now) reports.now.direct (alert_of alert.now) }
 {
     let _ = table;
-    well_formed && (member || is_on(reports, &alert.subject, mask) || joiners < JOINERS)
+    let _ = reports;
+    let _ = alert;
+    counted || joiners < JOINERS
 }
 
 /// How many joiners are reported on once there is a report on this process too.
@@ -83,21 +90,17 @@ fn joiners_with<T: ObserverTable>(
     reports: &KnownReports,
     joiners: usize,
     subject: &Process,
-    member: bool,
-    mask: u16,
+    counted: bool,
 ) -> usize
-    requires mask { (k : ℕ) → set.contains reports.now.direct (subject.now, k) ≡ has_ring mask k }
-    requires member { member ≡ (T.observers table.now).is_member subject.now }
+    requires counted { counted ≡ ((T.observers table.now).is_member subject.now || is_in (subjects reports.now.direct) subject.now) }
     requires joiners { joiners ≡ length (detector.joiners (T.observers table.now) reports.now.direct) }
     requires room { joiners ≤ 512 }
     ensures { (ring : ℕ) → result ≡ length (detector.joiners (T.observers table.now) (set.insert reports.now.direct (subject.now, ring))) }
 {
     let _ = table;
-    if member || is_on(reports, subject, mask) {
-        joiners
-    } else {
-        joiners + 1
-    }
+    let _ = reports;
+    let _ = subject;
+    if counted { joiners } else { joiners + 1 }
 }
 
 /// Whether a process has fewer than L reports if they are for the first rings, and at least L if
@@ -172,33 +175,19 @@ fn take<T: ObserverTable>(
     if !well_formed {
         return Ok(false);
     }
-    let so_far = known.reports.on(&alert.subject);
-    let mask = so_far.direct;
-    if has_bit(mask, alert.ring) {
+    let subject = &alert.subject;
+    let so_far = known.reports.on(subject);
+    if has_bit(so_far.direct, alert.ring) {
         return Ok(true);
     }
-    if !is_taken(
-        table,
-        &known.reports,
-        *joiners,
-        alert,
-        member,
-        well_formed,
-        mask,
-    ) {
+    let counted = is_counted(table, &known.reports, subject, member, so_far.direct);
+    if !has_room(table, &known.reports, *joiners, alert, counted) {
         return Ok(false);
     }
     if !member {
-        kept.keep(table, &alert.subject)?;
+        kept.keep(table, subject)?;
     }
-    *joiners = joiners_with(
-        table,
-        &known.reports,
-        *joiners,
-        &alert.subject,
-        member,
-        mask,
-    );
+    *joiners = joiners_with(table, &known.reports, *joiners, subject, counted);
     put(table, known, grown, alert.subject, alert.ring, so_far)?;
     Ok(true)
 }
