@@ -89,7 +89,7 @@ impl GrowingReports {
         ensures kept { IfOk result (λ copy. before copy ≡ copy.reports) }
     {
         Ok(GrowingReports {
-            reports: self.reports.try_copy()?,
+            reports: self.reports.try_copy(alloc)?,
             first: None,
             others: Vec::new(alloc),
         })

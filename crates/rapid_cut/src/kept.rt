@@ -39,6 +39,9 @@ impl KeptObservers {
     pub fn place(&self, subject: &Process) -> Option<usize>
         ensures { result ≡ lookup (is_at (process_cmp subject.now)) self.now.places.entries }
     {
+        if self.places.is_empty() {
+            return None;
+        }
         self.places.get(&SubjectKey::new(*subject)).copied()
     }
 
@@ -124,11 +127,24 @@ impl KeptObservers {
         ensures observers { IfOk result (λ copy. copy.observers.items ≡ self.now.observers.items) }
     {
         Ok(KeptObservers {
-            places: self.places.clone()?,
+            places: copied(self.alloc, &self.places)?,
             observers: self.observers.clone()?,
             alloc: self.alloc,
         })
     }
+}
+
+/// The same places. Where there are none, a new map costs less than a copy of an empty one.
+fn copied(
+    alloc: Global,
+    places: &HashMap<SubjectKey, usize>,
+) -> Result<HashMap<SubjectKey, usize>, AllocError>
+    ensures { IfOk result (λ copy. copy.entries ≡ places.now.entries) }
+{
+    if places.is_empty() {
+        return Ok(HashMap::new(alloc));
+    }
+    places.clone()
 }
 
 /// The observers of a process, by ring.

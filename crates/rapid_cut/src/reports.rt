@@ -73,11 +73,24 @@ impl KnownReports {
     }
 
     /// The same reports.
-    pub fn try_copy(&self) -> Result<KnownReports, AllocError>
+    pub fn try_copy(&self, alloc: Global) -> Result<KnownReports, AllocError>
         ensures { IfOk result (λ copy. copy ≡ self.now) }
     {
         Ok(KnownReports {
-            masks: self.masks.clone()?,
+            masks: copied(alloc, &self.masks)?,
         })
     }
+}
+
+/// The same masks. Where there are none, a new map costs less than a copy of an empty one.
+fn copied(
+    alloc: Global,
+    masks: &HashMap<SubjectKey, Masks>,
+) -> Result<HashMap<SubjectKey, Masks>, AllocError>
+    ensures { IfOk result (λ copy. copy.entries ≡ masks.now.entries) }
+{
+    if masks.is_empty() {
+        return Ok(HashMap::new(alloc));
+    }
+    masks.clone()
 }
