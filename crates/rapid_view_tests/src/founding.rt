@@ -39,6 +39,11 @@ pub(crate) fn view_of(alloc: Global, configuration: &Configuration) -> Result<Vi
     Ok(View::new(configuration.try_copy(alloc)?))
 }
 
+/// The view of the founding configuration.
+pub(crate) fn first_view(alloc: Global) -> Result<View, Fail> {
+    view_of(alloc, &founding(alloc)?)
+}
+
 /// Two seats of one cell.
 pub(crate) fn two_of<R: Wait + Drop>(
     writer: &ViewWriter<R>,

@@ -2,8 +2,10 @@
 
 ghost use Rattle.std.specs.Prelude.{◌≡◌};
 
-use crate::founding::{after, founding, two_of, view_of};
+use crate::founding::{after, first_view, founding, two_of, view_of};
 use rapid_view::{View, ViewCell, ViewSeat, ViewWriter};
+use std::alloc::Global;
+use std::process::Abort;
 use std::sync::Wait;
 use std::test::*;
 use std::thread::join;
@@ -56,18 +58,39 @@ fn publish_all<R: Wait + Drop>(
     (writer, all)
 }
 
-#[test]
-fn two_threads_read_beside_a_writer(rt: HostRuntime) -> Result<(), Fail> {
-    let alloc = rt.alloc();
+/// The views of the hundred configurations after the founding one.
+fn hundred_views(alloc: Global) -> Result<Vec<View>, Fail> {
     let mut configuration = founding(alloc)?;
-    let view = view_of(alloc, &configuration)?;
-    let (mut writer, seats) = ViewCell::new(&rt, alloc, view, 2, 101)?;
-    let (one, other) = two_of(&writer, seats).expect(&rt, "two seats");
-    let mut views: Vec<View> = Vec::with_capacity(alloc, 100)?;
+    let mut views = Vec::with_capacity(alloc, 100)?;
     for number in 2..102u16 {
         configuration = after(alloc, &configuration, number)?;
         views.push(view_of(alloc, &configuration)?)?;
     }
+    Ok(views)
+}
+
+/// A seat that is told by another has seen the last height of that one, and finds the hundredth
+/// view.
+fn sees_the_last<R: Wait + Abort>(
+    rt: &R,
+    one: &mut ViewSeat,
+    other: &mut ViewSeat,
+    last: u64,
+) -> Result<(), Fail>
+    requires { one.old.cell ≡ other.old.cell }
+{
+    one.told_by(other);
+    assert!(rt; one.stamp().height() >= last);
+    assert_eq!(rt; one.members(rt)?.stamp().height(), 100);
+    Ok(())
+}
+
+#[test]
+fn two_threads_read_beside_a_writer(rt: HostRuntime) -> Result<(), Fail> {
+    let alloc = rt.alloc();
+    let views = hundred_views(alloc)?;
+    let (writer, seats) = ViewCell::new(&rt, alloc, first_view(alloc)?, 2, 101)?;
+    let (one, other) = two_of(&writer, seats).expect(&rt, "two seats");
     let ((first, second), published) = join(
         &rt,
         move || -> ((ViewSeat, Sighting), (ViewSeat, Sighting))
@@ -91,8 +114,5 @@ fn two_threads_read_beside_a_writer(rt: HostRuntime) -> Result<(), Fail> {
     let (mut one, seen) = first;
     let (mut other, told) = second;
     assert!(rt; seen.rose && told.rose);
-    one.told_by(&mut other);
-    assert!(rt; one.stamp().height() >= told.last);
-    assert_eq!(rt; one.members(&rt)?.stamp().height(), 100);
-    Ok(())
+    sees_the_last(&rt, &mut one, &mut other, told.last)
 }
