@@ -5,7 +5,7 @@ ghost use Rattle.std.specs.Prelude.{◌≤◌, ◌<◌};
 use rapid_config::{ConfigId, Configuration, Cut, Params};
 use rapid_desk::{Desk, DeskError};
 use rapid_endpoint::{Endpoint, Process, ProcessId};
-use rapid_node::{Body, Event, Message};
+use rapid_node::{Body, Event, Message, MessageError};
 use std::alloc::{AllocError, Global};
 use std::process::Abort;
 use std::sync::Wait;
@@ -44,6 +44,17 @@ pub(crate) fn decision(alloc: Global, id: ConfigId, number: u16) -> Result<Event
     Ok(Event::Receive(message))
 }
 
+/// Process 1 confirms that the configuration was installed.
+pub(crate) fn confirmation(configuration: Configuration) -> Result<Event, MessageError> {
+    let message = Message::new(process(1), Body::Confirm(configuration))?;
+    Ok(Event::Receive(message))
+}
+
+/// An event that the journal keeps.
+pub(crate) fn edge_down() -> Event {
+    Event::EdgeDown(ConfigId::zero(), 0, process(2))
+}
+
 /// The desk of process 1 alone, with so many seats. Where its first view was not published, that
 /// was for want of memory.
 pub(crate) fn alone<R: Wait + Abort>(
@@ -60,4 +71,36 @@ pub(crate) fn alone<R: Wait + Abort>(
         Err(DeskError::Unpublished) => Err(AllocError)?,
         made => Ok(Box::new(alloc, made?)?),
     }
+}
+
+/// One event at the desk. What is to be sent after it is dropped.
+pub(crate) fn step<R: Wait>(desk: &mut Desk<&R>, event: Event) -> Result<(), DeskError> {
+    desk.step(event)?;
+    Ok(())
+}
+
+/// Hands the decision on the cut of this process to the desk, in the configuration with this
+/// identifier.
+pub(crate) fn decide<R: Wait>(
+    alloc: Global,
+    desk: &mut Desk<&R>,
+    id: ConfigId,
+    number: u16,
+) -> Result<(), Fail> {
+    step(desk, decision(alloc, id, number)?)?;
+    Ok(())
+}
+
+/// Hands the decisions to let in processes 2, 3 and 4 to the desk of process 1 alone. Gives the
+/// configuration after them.
+pub(crate) fn let_three_in<R: Wait>(
+    alloc: Global,
+    desk: &mut Desk<&R>,
+) -> Result<Configuration, Fail> {
+    let mut configuration = founding(alloc)?;
+    for number in 2..5u16 {
+        decide(alloc, desk, configuration.id(), number)?;
+        configuration = after(alloc, &configuration, number)?;
+    }
+    Ok(configuration)
 }

@@ -1,11 +1,10 @@
 // Want of memory at a desk: each call says so by its name, and leaves what it says. The gate runs
 // these tests once for each allocation, with that one refused.
 
-use crate::founding::{after, alone, decision, founding, process};
-use rapid_config::Configuration;
+use crate::founding::{after, alone, confirmation, decision, founding, process, step};
 use rapid_desk::{Desk, DeskError, Subscription, Taken};
 use rapid_endpoint::Endpoint;
-use rapid_node::{Body, Event, Message, MessageError, NodeFault};
+use rapid_node::{Event, NodeFault};
 use rapid_view::ViewSeat;
 use std::alloc::{AllocError, Global};
 use std::process::Abort;
@@ -20,10 +19,10 @@ fn hand_over<R: Wait + Abort>(
     event: Event,
     again: Event,
 ) -> Result<(), Fail> {
-    match desk.step(event) {
-        Ok(_) => Ok(()),
+    match step(desk, event) {
+        Ok(()) => Ok(()),
         Err(DeskError::OutOfMemory) => {
-            desk.step(again)?;
+            step(desk, again)?;
             Ok(())
         }
         Err(error) => {
@@ -33,8 +32,8 @@ fn hand_over<R: Wait + Abort>(
                     DeskError::Node(NodeFault::OutOfMemory) | DeskError::Unpublished
                 )
             );
-            let halted = desk.step(again);
-            assert!(rt; matches!(&halted, Err(DeskError::Node(NodeFault::Halted))));
+            let halted = step(desk, again);
+            assert!(rt; matches!(halted, Err(DeskError::Node(NodeFault::Halted))));
             Err(AllocError)?
         }
     }
@@ -80,35 +79,46 @@ fn let_three_in<R: Wait + Abort>(
     Ok(())
 }
 
-#[test]
-fn want_of_memory_at_decisions(rt: HostRuntime) -> Result<(), Fail> {
-    let alloc = rt.alloc();
-    let mut desk = alone(&rt, alloc, 1)?;
-    let mut subscription = desk.subscribe(2)?;
-    let mut seats = desk.take_seats().expect(&rt, "the seats");
-    let mut seat = seats.pop().expect(&rt, "one seat");
-    let_three_in(&rt, alloc, &mut *desk, &mut seat)?;
-    assert!(rt; is_told_in_order(&rt, &mut subscription));
-    assert_eq!(rt; seat.members(&rt)?.stamp().height(), 3);
+/// The seat and the subscriber see the three guests come in.
+fn all_see_three<R: Wait + Abort>(
+    rt: &R,
+    alloc: Global,
+    desk: &mut Desk<&R>,
+    subscription: &mut Subscription,
+    seat: &mut ViewSeat,
+) -> Result<(), Fail> {
+    let_three_in(rt, alloc, desk, seat)?;
+    assert!(rt; is_told_in_order(rt, subscription));
+    assert!(rt; seat.members(rt)?.stamp().height() == 3);
     Ok(())
 }
 
-/// Process 1 confirms that the configuration was installed.
-fn confirm(configuration: Configuration) -> Result<Event, MessageError> {
-    let message = Message::new(process(1), Body::Confirm(configuration))?;
-    Ok(Event::Receive(message))
+#[test]
+fn want_of_memory_at_decisions(rt: HostRuntime) -> Result<(), Fail> {
+    let mut desk = alone(&rt, rt.alloc(), 1)?;
+    let mut subscription = desk.subscribe(2)?;
+    let mut seats = desk.take_seats().expect(&rt, "the seats");
+    let mut seat = seats.pop().expect(&rt, "one seat");
+    all_see_three(&rt, rt.alloc(), &mut *desk, &mut subscription, &mut seat)
+}
+
+/// The joiner has seats once it is let in.
+fn has_seats_once_in<R: Wait + Abort>(
+    rt: &R,
+    alloc: Global,
+    desk: &mut Desk<&R>,
+) -> Result<(), Fail> {
+    let configuration = after(alloc, &founding(alloc)?, 2)?;
+    let copy = configuration.try_copy(alloc)?;
+    hand_over(rt, desk, confirmation(configuration)?, confirmation(copy)?)?;
+    assert!(rt; desk.take_seats().is_some());
+    Ok(())
 }
 
 #[test]
 fn want_of_memory_at_a_first_view(rt: HostRuntime) -> Result<(), Fail> {
-    let alloc = rt.alloc();
     let seed = Endpoint::new([127, 0, 0, 1], 1);
-    let desk = Desk::joiner(&rt, alloc, process(2), seed, 1)?;
-    let mut desk = Box::new(alloc, desk)?;
-    let configuration = after(alloc, &founding(alloc)?, 2)?;
-    let copy = configuration.try_copy(alloc)?;
-    let (first, again) = (confirm(configuration)?, confirm(copy)?);
-    hand_over(&rt, &mut *desk, first, again)?;
-    assert!(rt; desk.take_seats().is_some());
-    Ok(())
+    let desk = Desk::joiner(&rt, rt.alloc(), process(2), seed, 1)?;
+    let mut desk = Box::new(rt.alloc(), desk)?;
+    has_seats_once_in(&rt, rt.alloc(), &mut *desk)
 }

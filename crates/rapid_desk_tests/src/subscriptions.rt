@@ -1,9 +1,9 @@
 // What subscribers are told.
 
-use crate::founding::{after, alone, decision, founding};
-use rapid_config::ConfigId;
-use rapid_desk::{DeskError, Subscription, Taken};
-use rapid_node::Event;
+use crate::founding::{alone, decide, edge_down, founding, let_three_in, step};
+use rapid_desk::{Desk, DeskError, Subscription, Taken};
+use std::alloc::Global;
+use std::process::Abort;
 use std::sync::Wait;
 use std::test::*;
 
@@ -26,53 +26,101 @@ fn next<R: Wait>(rt: &R, subscription: &mut Subscription) -> Told {
     }
 }
 
+/// Whether the subscriber is told all this, in order.
+fn is_told<R: Wait>(rt: &R, subscription: &mut Subscription, all: &[Told]) -> bool {
+    for told in all {
+        if next(rt, subscription) != *told {
+            return false;
+        }
+    }
+    true
+}
+
+/// After three changes the subscriber, which has room for two, lags, also after the end.
+fn lags<R: Wait + Abort>(
+    rt: &R,
+    alloc: Global,
+    desk: &mut Desk<&R>,
+    subscription: &mut Subscription,
+) -> Result<(), Fail> {
+    let_three_in(alloc, desk)?;
+    let told = [Told::Change(1), Told::Change(2), Told::Lagged, Told::Lagged];
+    assert!(rt; is_told(rt, subscription, &told));
+    desk.close();
+    assert!(rt; next(rt, subscription) == Told::Lagged);
+    Ok(())
+}
+
 #[test]
 fn a_subscriber_lags_after_its_capacity(rt: HostRuntime) -> Result<(), Fail> {
-    let alloc = rt.alloc();
-    let mut configuration = founding(alloc)?;
-    let mut desk = alone(&rt, alloc, 1)?;
+    let mut desk = alone(&rt, rt.alloc(), 1)?;
     let mut subscription = desk.subscribe(2)?;
-    for number in [2, 3, 4] {
-        desk.step(decision(alloc, configuration.id(), number)?)?;
-        configuration = after(alloc, &configuration, number)?;
-    }
-    for told in [Told::Change(1), Told::Change(2), Told::Lagged, Told::Lagged] {
-        assert_eq!(rt; next(&rt, &mut subscription), told);
-    }
+    lags(&rt, rt.alloc(), &mut *desk, &mut subscription)
+}
+
+/// Hands the decision to let in process 2 to the desk of process 1 alone.
+fn let_one_in<R: Wait>(alloc: Global, desk: &mut Desk<&R>) -> Result<(), Fail> {
+    let first = founding(alloc)?;
+    decide(alloc, desk, first.id(), 2)
+}
+
+/// The subscriber is told nothing before a change, then the change and the end.
+fn takes_all<R: Wait + Abort>(
+    rt: &R,
+    alloc: Global,
+    desk: &mut Desk<&R>,
+    subscription: &mut Subscription,
+) -> Result<(), Fail> {
+    assert!(rt; next(rt, subscription) == Told::Empty);
+    step(desk, edge_down())?;
+    assert!(rt; next(rt, subscription) == Told::Empty);
+    let_one_in(alloc, desk)?;
     desk.close();
-    assert_eq!(rt; next(&rt, &mut subscription), Told::Lagged);
+    let told = [Told::Change(1), Told::Closed, Told::Closed];
+    assert!(rt; is_told(rt, subscription, &told));
     Ok(())
 }
 
 #[test]
 fn a_subscriber_takes_what_is_there_and_then_the_end(rt: HostRuntime) -> Result<(), Fail> {
-    let alloc = rt.alloc();
-    let configuration = founding(alloc)?;
-    let mut desk = alone(&rt, alloc, 1)?;
+    let mut desk = alone(&rt, rt.alloc(), 1)?;
     let mut subscription = desk.subscribe(1)?;
-    assert_eq!(rt; next(&rt, &mut subscription), Told::Empty);
-    desk.step(Event::EdgeDown(ConfigId::zero(), 0, crate::founding::process(2)))?;
-    assert_eq!(rt; next(&rt, &mut subscription), Told::Empty);
-    desk.step(decision(alloc, configuration.id(), 2)?)?;
-    desk.close();
-    for told in [Told::Change(1), Told::Closed, Told::Closed] {
-        assert_eq!(rt; next(&rt, &mut subscription), told);
+    takes_all(&rt, rt.alloc(), &mut *desk, &mut subscription)
+}
+
+/// Makes a subscription of this capacity, and drops it.
+fn subscribe<R: Wait>(desk: &mut Desk<&R>, capacity: usize) -> Result<(), DeskError> {
+    desk.subscribe(capacity)?;
+    Ok(())
+}
+
+/// Whether the desk refuses a subscription of this capacity for its capacity.
+fn is_bad<R: Wait>(desk: &mut Desk<&R>, capacity: usize) -> bool {
+    matches!(subscribe(desk, capacity), Err(DeskError::BadCapacity))
+}
+
+/// Makes so many subscriptions of capacity 1.
+fn subscribe_often<R: Wait>(desk: &mut Desk<&R>, count: usize) -> Result<(), DeskError> {
+    for _ in 0..count {
+        subscribe(desk, 1)?;
     }
+    Ok(())
+}
+
+/// The desk serves 64 subscribers, and others when these have ended.
+fn serves_so_many<R: Wait + Abort>(rt: &R, desk: &mut Desk<&R>) -> Result<(), Fail> {
+    assert!(rt; is_bad(desk, 0));
+    assert!(rt; is_bad(desk, 1_025));
+    subscribe_often(desk, 64)?;
+    assert!(rt; is_bad(desk, 0));
+    assert!(rt; matches!(subscribe(desk, 1_024), Err(DeskError::TooManySubscribers)));
+    desk.close();
+    subscribe(desk, 1_024)?;
     Ok(())
 }
 
 #[test]
 fn a_desk_serves_so_many(rt: HostRuntime) -> Result<(), Fail> {
     let mut desk = alone(&rt, rt.alloc(), 1)?;
-    for capacity in [0, 1_025] {
-        assert!(rt; matches!(&desk.subscribe(capacity), Err(DeskError::BadCapacity)));
-    }
-    for _ in 0..64 {
-        desk.subscribe(1)?;
-    }
-    assert!(rt; matches!(&desk.subscribe(0), Err(DeskError::BadCapacity)));
-    assert!(rt; matches!(&desk.subscribe(1_024), Err(DeskError::TooManySubscribers)));
-    desk.close();
-    desk.subscribe(1_024)?;
-    Ok(())
+    serves_so_many(&rt, &mut *desk)
 }
