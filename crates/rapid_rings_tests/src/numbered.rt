@@ -1,6 +1,8 @@
-// Processes by their numbers.
+// Processes by their numbers, and configurations of them.
 
+use rapid_config::{ConfigError, Configuration, Params};
 use rapid_endpoint::{Endpoint, Process, ProcessId};
+use std::alloc::{AllocError, Global};
 
 /// The process of this identifier in 16 bytes, at this port of 127.0.0.1.
 pub fn at(number: u16, port: u16) -> Process {
@@ -19,4 +21,35 @@ pub fn is_numbered(found: Option<Process>, number: u16) -> bool {
         Some(found) => found == process(number),
         None => number == 0,
     }
+}
+
+/// An identifier and a port.
+pub type Name = (u16, u16);
+
+/// The processes with these names.
+fn named(alloc: Global, names: &[Name]) -> Result<Vec<Process>, AllocError> {
+    let mut processes = Vec::new(alloc);
+    for (number, port) in names {
+        processes.push(at(*number, *port))?;
+    }
+    Ok(processes)
+}
+
+/// The parameters K, H and L.
+pub type Marks = (u8, u8, u8);
+
+/// Three rings.
+pub const THREE: Marks = (3, 3, 1);
+
+/// The founding configuration of these members, who ascend. `EmptyCut` where there are none.
+pub fn founded(
+    alloc: Global,
+    (k, h, l): Marks,
+    names: &[Name],
+) -> Result<Configuration, ConfigError> {
+    let members = named(alloc, names)?;
+    if members.is_empty() {
+        return Err(ConfigError::EmptyCut);
+    }
+    Configuration::seed(alloc, Params::new(k, h, l)?, members.as_slice())
 }

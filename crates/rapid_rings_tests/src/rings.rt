@@ -1,108 +1,56 @@
 // The rings of configurations.
 
-ghost use Rattle.std.specs.Prelude.{◌≤◌, length};
-
-use crate::numbered::{is_numbered, process};
-use rapid_config::{Configuration, Params};
+use crate::numbered::{Marks, Name, THREE, founded, is_numbered, process};
+use rapid_config::{ConfigError, Configuration};
 use rapid_endpoint::Process;
 use rapid_rings::{ObserverTable, Rings};
 use std::alloc::{AllocError, Global};
-use std::test::Fail;
-
-/// The founding configuration of these members, who ascend, with three rings.
-pub fn founded(alloc: Global, members: &[Process]) -> Result<Configuration, Fail>
-    requires { 1 ≤ length members.now }
-{
-    Ok(Configuration::seed(alloc, Params::new(3, 3, 1)?, members)?)
-}
 
 /// The rings of these members, who ascend.
-pub fn rings_of(alloc: Global, members: &[Process]) -> Result<Rings, Fail>
-    requires { 1 ≤ length members.now }
-{
-    let configuration = founded(alloc, members)?;
+pub fn rings_of(alloc: Global, marks: Marks, names: &[Name]) -> Result<Rings, ConfigError> {
+    let configuration = founded(alloc, marks, names)?;
     Ok(Rings::new(alloc, &configuration)?)
 }
 
-/// Whether one observes the other on a ring; 0 stands for nobody.
-fn observes(rings: &Rings, ring: u8, observer: u16, subject: u16) -> bool {
-    is_numbered(rings.observer(ring, &process(subject)), observer)
-}
+/// A ring, an observer and a subject; 0 stands for nobody.
+pub type Edge = (u8, u16, u16);
 
-/// A subject, and its observers on rings 0 to 2; 0 stands for nobody.
-type Observed = (u16, [u16; 3]);
-
-/// Whether the subject has these observers.
-fn is_observed(rings: &Rings, (subject, [zero, one, two]): &Observed) -> bool {
-    observes(rings, 0, *zero, *subject)
-        && observes(rings, 1, *one, *subject)
-        && observes(rings, 2, *two, *subject)
-}
-
-/// Whether all have their observers.
-fn are_observed(rings: &Rings, rows: &[Observed]) -> bool {
-    for row in rows {
-        if !is_observed(rings, row) {
+/// Whether each one observes the other on the ring.
+fn are_edges(rings: &Rings, edges: &[Edge]) -> bool {
+    for (ring, observer, subject) in edges {
+        if !is_numbered(rings.observer(*ring, &process(*subject)), *observer) {
             return false;
         }
     }
     true
 }
 
-const OF_TWO: [Observed; 2] = [(1, [2, 2, 2]), (2, [1, 1, 1])];
-
-#[test]
-fn two_members_observe_each_other(rt: HostRuntime) -> Result<(), Fail> {
-    let rings = rings_of(rt.alloc(), &[process(1), process(2)])?;
-    assert!(rt; are_observed(&rings, &OF_TWO));
-    assert!(rt; observes(&rings, 3, 0, 1) && observes(&rings, 255, 0, 1));
-    Ok(())
+/// A call of rings, and what it answers.
+#[derive(Clone, Copy)]
+pub enum Call<'a> {
+    /// Who observes whom.
+    Edges(&'a [Edge]),
+    /// The subjects of a process, each a ring and a number.
+    Subjects(u16, &'a [(u8, u16)]),
+    /// By one search, whether on a ring a process is a member, and its observer.
+    Search(u8, u16, bool, u16),
+    /// The rings of a configuration of these members that follows, and who observes whom there.
+    Next(&'a [Name], &'a [Edge]),
 }
 
-const OF_ONE: [Observed; 2] = [(1, [0, 0, 0]), (5, [1, 1, 1])];
-
-#[test]
-fn a_member_alone_is_not_observed(rt: HostRuntime) -> Result<(), Fail> {
-    let rings = rings_of(rt.alloc(), &[process(1)])?;
-    assert!(rt; are_observed(&rings, &OF_ONE));
-    Ok(())
-}
-
-// The observers of these tests were computed by Python's hashlib, from the rule that none is
-// between.
-
-/// The rings of the members 1 to 5.
-fn rings_of_five(alloc: Global) -> Result<Rings, Fail> {
-    rings_of(
-        alloc,
-        &[process(1), process(2), process(3), process(4), process(5)],
-    )
-}
-
-const OF_FIVE: [Observed; 8] = [
-    (1, [3, 5, 2]),
-    (2, [1, 1, 5]),
-    (3, [4, 4, 1]),
-    (4, [5, 2, 3]),
-    (5, [2, 3, 4]),
-    // joiners
-    (6, [4, 1, 3]),
-    (7, [3, 1, 2]),
-    (40_000, [2, 3, 1]),
-];
-
-#[test]
-fn five_members_and_joiners_have_their_observers(rt: HostRuntime) -> Result<(), Fail> {
-    let rings = rings_of_five(rt.alloc())?;
-    assert!(rt; are_observed(&rings, &OF_FIVE));
-    Ok(())
+/// Whether it is the pair of a ring and the process with a number.
+fn is_pair((on, process): &(u8, Process), (ring, number): &(u8, u16)) -> bool {
+    *on == *ring && is_numbered(Some(*process), *number)
 }
 
 /// Whether these are the pairs of a ring and the process with a number.
 fn are_pairs(pairs: &[(u8, Process)], expected: &[(u8, u16)]) -> bool {
+    for (pair, row) in pairs.iter().zip(expected) {
+        if !is_pair(pair, row) {
+            return false;
+        }
+    }
     pairs.len() == expected.len()
-        && pairs.iter().zip(expected).all(|(pair, (ring, number))| pair.0 == *ring
-            && pair.1 == process(*number))
 }
 
 /// Whether a process has these subjects, each a ring and a number.
@@ -116,14 +64,6 @@ fn has_subjects(
     Ok(are_pairs(subjects.as_slice(), expected))
 }
 
-#[test]
-fn members_have_their_subjects(rt: HostRuntime) -> Result<(), Fail> {
-    let rings = rings_of_five(rt.alloc())?;
-    assert!(rt; has_subjects(rt.alloc(), &rings, 2, &[(0, 5), (1, 4), (2, 1)])?);
-    assert!(rt; has_subjects(rt.alloc(), &rings, 6, &[])?);
-    Ok(())
-}
-
 /// Whether rings of three tell their configuration, in which there is no process 6.
 fn tell(rings: &Rings, configuration: &Configuration) -> bool {
     rings.params().k() == 3
@@ -132,18 +72,28 @@ fn tell(rings: &Rings, configuration: &Configuration) -> bool {
         && !rings.is_member(&process(6))
 }
 
-/// The next rings keep keys of the last and tell of their configuration.
-#[test]
-fn the_next_rings_keep_the_keys(rt: HostRuntime) -> Result<(), Fail> {
-    let before = rings_of(
-        rt.alloc(),
-        &[process(1), process(3), process(4), process(6)],
-    )?;
-    let members = [process(1), process(2), process(3), process(4), process(5)];
-    let configuration = founded(rt.alloc(), &members)?;
-    let rings = before.next(rt.alloc(), &configuration)?;
-    assert!(rt; are_observed(&rings, &OF_FIVE) && tell(&rings, &configuration));
-    Ok(())
+/// Whether on the next rings each one observes the other, process 1 has three subjects, and they
+/// tell of their configuration.
+fn are_next(
+    alloc: Global,
+    before: &Rings,
+    configuration: &Configuration,
+    edges: &[Edge],
+) -> Result<bool, AllocError> {
+    let rings = before.next(alloc, configuration)?;
+    let subjects = rings.subjects_of(alloc, &process(1))?.len();
+    Ok(subjects == 3 && are_edges(&rings, edges) && tell(&rings, configuration))
+}
+
+/// Whether the rings of these members follow.
+fn follow(
+    alloc: Global,
+    before: &Rings,
+    names: &[Name],
+    edges: &[Edge],
+) -> Result<bool, ConfigError> {
+    let configuration = founded(alloc, THREE, names)?;
+    Ok(are_next(alloc, before, &configuration, edges)?)
 }
 
 /// Whether one search of a process tells that it is a member or not, and its observer on a ring.
@@ -152,38 +102,190 @@ fn is_found(rings: &Rings, ring: u8, subject: u16, is_member: bool, observer: u1
     found == is_member && is_numbered(by, observer)
 }
 
-#[test]
-fn one_search_tells_members_and_observers(rt: HostRuntime) -> Result<(), Fail> {
-    let rings = rings_of_five(rt.alloc())?;
-    assert!(rt; is_found(&rings, 1, 4, true, 2) && is_found(&rings, 2, 6, false, 3));
-    Ok(())
+/// Whether a call answers as it has to.
+fn answers(alloc: Global, rings: &Rings, call: &Call) -> Result<bool, ConfigError> {
+    match call {
+        Call::Edges(edges) => Ok(are_edges(rings, edges)),
+        Call::Subjects(observer, subjects) => {
+            Ok(has_subjects(alloc, rings, *observer, subjects)?)
+        }
+        Call::Search(ring, subject, is_member, observer) => {
+            Ok(is_found(rings, *ring, *subject, *is_member, *observer))
+        }
+        Call::Next(names, edges) => follow(alloc, rings, names, edges),
+    }
 }
 
-// A ring, and the numbers of those who observe 1, 2, 300 and 65,535 on it, by the order of their
-// keys.
-const SIXTEEN_RINGS: [(u8, [u16; 4]); 5] = [
-    (0, [65_535, 1, 2, 300]),
-    (1, [65_535, 1, 2, 300]),
-    (2, [2, 65_535, 1, 300]),
-    (7, [300, 65_535, 2, 1]),
-    (15, [300, 1, 65_535, 2]),
+/// Whether all calls of rings answer as they have to.
+fn all_answer(alloc: Global, rings: &Rings, calls: &[Call]) -> Result<bool, ConfigError> {
+    for call in calls {
+        if !answers(alloc, rings, call)? {
+            return Ok(false);
+        }
+    }
+    Ok(true)
+}
+
+/// Whether all calls of the rings of these members answer as they have to.
+pub fn runs(
+    alloc: Global,
+    marks: Marks,
+    names: &[Name],
+    calls: &[Call],
+) -> Result<bool, ConfigError> {
+    let rings = rings_of(alloc, marks, names)?;
+    all_answer(alloc, &rings, calls)
+}
+
+/// Two members.
+pub const TWO: [Name; 2] = [(1, 1), (2, 2)];
+
+/// Who observes whom of two members.
+pub const OF_TWO: [Edge; 8] = [
+    (0, 2, 1),
+    (1, 2, 1),
+    (2, 2, 1),
+    (0, 1, 2),
+    (1, 1, 2),
+    (2, 1, 2),
+    // no rings
+    (3, 0, 1),
+    (255, 0, 1),
 ];
 
-/// Whether these observe 1, 2, 300 and 65,535 on a ring.
-fn is_order(rings: &Rings, (ring, [first, second, third, last]): &(u8, [u16; 4])) -> bool {
-    observes(rings, *ring, *first, 1)
-        && observes(rings, *ring, *second, 2)
-        && observes(rings, *ring, *third, 300)
-        && observes(rings, *ring, *last, 65_535)
+#[test]
+fn two_members_observe_each_other(rt: HostRuntime) {
+    assert!(rt;
+        matches!(
+            runs(rt.alloc(), THREE, &TWO, &[Call::Edges(&OF_TWO)]),
+            Ok(true)
+        )
+    );
 }
 
+const OF_ONE: [Edge; 6] = [
+    (0, 0, 1),
+    (1, 0, 1),
+    (2, 0, 1),
+    (0, 1, 5),
+    (1, 1, 5),
+    (2, 1, 5),
+];
+
 #[test]
-fn each_ring_has_an_order_of_its_own(rt: HostRuntime) -> Result<(), Fail> {
-    let members = [process(1), process(2), process(300), process(65_535)];
-    let configuration = Configuration::seed(rt.alloc(), Params::new(16, 9, 3)?, &members)?;
-    let rings = Rings::new(rt.alloc(), &configuration)?;
-    for row in &SIXTEEN_RINGS {
-        assert!(rt; is_order(&rings, row));
-    }
-    Ok(())
+fn a_member_alone_is_not_observed(rt: HostRuntime) {
+    assert!(rt;
+        matches!(
+            runs(rt.alloc(), THREE, &[(1, 1)], &[Call::Edges(&OF_ONE)]),
+            Ok(true)
+        )
+    );
+}
+
+// The observers of these tests were computed by Python's hashlib, from the rule that none is
+// between.
+
+/// Five members.
+pub const FIVE: [Name; 5] = [(1, 1), (2, 2), (3, 3), (4, 4), (5, 5)];
+
+const OF_FIVE: [Edge; 24] = [
+    (0, 3, 1),
+    (1, 5, 1),
+    (2, 2, 1),
+    (0, 1, 2),
+    (1, 1, 2),
+    (2, 5, 2),
+    (0, 4, 3),
+    (1, 4, 3),
+    (2, 1, 3),
+    (0, 5, 4),
+    (1, 2, 4),
+    (2, 3, 4),
+    (0, 2, 5),
+    (1, 3, 5),
+    (2, 4, 5),
+    // joiners
+    (0, 4, 6),
+    (1, 1, 6),
+    (2, 3, 6),
+    (0, 3, 7),
+    (1, 1, 7),
+    (2, 2, 7),
+    (0, 2, 40_000),
+    (1, 3, 40_000),
+    (2, 1, 40_000),
+];
+
+#[test]
+fn five_members_and_joiners_have_their_observers(rt: HostRuntime) {
+    assert!(rt;
+        matches!(
+            runs(rt.alloc(), THREE, &FIVE, &[Call::Edges(&OF_FIVE)]),
+            Ok(true)
+        )
+    );
+}
+
+const SUBJECTS: [Call; 2] = [
+    Call::Subjects(2, &[(0, 5), (1, 4), (2, 1)]),
+    Call::Subjects(6, &[]),
+];
+
+#[test]
+fn members_have_their_subjects(rt: HostRuntime) {
+    assert!(rt; matches!(runs(rt.alloc(), THREE, &FIVE, &SUBJECTS), Ok(true)));
+}
+
+const BEFORE: [Name; 4] = [(1, 1), (3, 3), (4, 4), (6, 6)];
+
+const NEXT: [Call; 1] = [Call::Next(&FIVE, &OF_FIVE)];
+
+/// The next rings keep keys of the last and tell of their configuration.
+#[test]
+fn the_next_rings_keep_the_keys(rt: HostRuntime) {
+    assert!(rt; matches!(runs(rt.alloc(), THREE, &BEFORE, &NEXT), Ok(true)));
+}
+
+const SEARCHES: [Call; 2] = [Call::Search(1, 4, true, 2), Call::Search(2, 6, false, 3)];
+
+#[test]
+fn one_search_tells_members_and_observers(rt: HostRuntime) {
+    assert!(rt; matches!(runs(rt.alloc(), THREE, &FIVE, &SEARCHES), Ok(true)));
+}
+
+const OF_SIXTEEN: [Name; 4] = [(1, 1), (2, 2), (300, 300), (65_535, 65_535)];
+
+// Who observes 1, 2, 300 and 65,535 on five of sixteen rings, by the order of their keys.
+const SIXTEEN_RINGS: [Edge; 20] = [
+    (0, 65_535, 1),
+    (0, 1, 2),
+    (0, 2, 300),
+    (0, 300, 65_535),
+    (1, 65_535, 1),
+    (1, 1, 2),
+    (1, 2, 300),
+    (1, 300, 65_535),
+    (2, 2, 1),
+    (2, 65_535, 2),
+    (2, 1, 300),
+    (2, 300, 65_535),
+    (7, 300, 1),
+    (7, 65_535, 2),
+    (7, 2, 300),
+    (7, 1, 65_535),
+    (15, 300, 1),
+    (15, 1, 2),
+    (15, 65_535, 300),
+    (15, 2, 65_535),
+];
+
+#[test]
+fn each_ring_has_an_order_of_its_own(rt: HostRuntime) {
+    let found = runs(
+        rt.alloc(),
+        (16, 9, 3),
+        &OF_SIXTEEN,
+        &[Call::Edges(&SIXTEEN_RINGS)],
+    );
+    assert!(rt; matches!(found, Ok(true)));
 }

@@ -1,14 +1,13 @@
 // Tables of explicit edges.
 
-use crate::numbered::{is_numbered, process};
-use rapid_config::{ConfigId, Params};
+use crate::numbered::{Marks, is_numbered, process};
+use rapid_config::{ConfigError, ConfigId, Params};
 use rapid_rings::{ObserverTable, Table, TableError};
 use std::alloc::Global;
-use std::test::Fail;
 
 /// A call of a table, and what it answers.
 #[derive(Clone, Copy)]
-enum Call {
+pub enum Call {
     /// An edge: a ring, an observer and a subject.
     Add(u8, u16, u16, Result<(), TableError>),
     /// A process is made a joiner.
@@ -19,6 +18,40 @@ enum Call {
     Member(u16, bool),
     /// By one search, whether a process is a member, and its observer on a ring.
     Search(u8, u16, bool, u16),
+    /// So many rings, and the identifier that is all zero.
+    Bare(u8),
+    /// The members 2 to 1,025 are observed by process 1 on ring 0.
+    Fill,
+    /// An edge from process 1 to process 5 on a ring, put again where a growth is refused.
+    PutAgain(u8),
+    /// Process 9 is made a joiner, again where a growth is refused.
+    JoinAgain,
+}
+
+/// Has the members 2 to 1,025 observed on ring 0; whether each is.
+fn fill(table: &mut Table) -> bool {
+    for number in 2..1026 {
+        if table.add(0, process(1), process(number)) != Ok(()) {
+            return false;
+        }
+    }
+    true
+}
+
+/// Puts an edge from process 1 to process 5 on a ring, again where a growth is refused.
+fn put(table: &mut Table, ring: u8) -> Result<(), TableError> {
+    match table.add(ring, process(1), process(5)) {
+        Err(TableError::OutOfMemory) => table.add(ring, process(1), process(5)),
+        answer => answer,
+    }
+}
+
+/// Whether process 9 is made a joiner, again where a growth is refused.
+fn join(table: &mut Table) -> bool {
+    match table.joiner(process(9)) {
+        Err(_refused) => table.is_member(&process(9)) && table.joiner(process(9)).is_ok(),
+        Ok(()) => true,
+    }
 }
 
 /// Whether a call answers as it has to.
@@ -36,6 +69,10 @@ fn answers(table: &mut Table, call: &Call) -> bool {
             let (found, by) = table.member_and_observer(*ring, &process(*subject));
             found == *is_member && is_numbered(by, *number)
         }
+        Call::Bare(k) => table.params().k() == *k && table.id() == ConfigId::new([0; 32]),
+        Call::Fill => fill(table),
+        Call::PutAgain(ring) => put(table, *ring).is_ok(),
+        Call::JoinAgain => join(table),
     }
 }
 
@@ -49,11 +86,13 @@ fn all_answer(table: &mut Table, calls: &[Call]) -> bool {
     true
 }
 
-/// Whether all calls of a table of four rings answer as they have to, in order.
-fn runs(alloc: Global, calls: &[Call]) -> Result<bool, Fail> {
-    let mut table = Table::new(alloc, Params::new(4, 3, 2)?);
+/// Whether all calls of a table answer as they have to, in order.
+pub fn runs(alloc: Global, (k, h, l): Marks, calls: &[Call]) -> Result<bool, ConfigError> {
+    let mut table = Table::new(alloc, Params::new(k, h, l)?);
     Ok(all_answer(&mut table, calls))
 }
+
+const FOUR: Marks = (4, 3, 2);
 
 const EDGES: [Call; 7] = [
     Call::Add(0, 1, 5, Ok(())),
@@ -66,9 +105,8 @@ const EDGES: [Call; 7] = [
 ];
 
 #[test]
-fn an_edge_has_its_observer(rt: HostRuntime) -> Result<(), Fail> {
-    assert!(rt; runs(rt.alloc(), &EDGES)?);
-    Ok(())
+fn an_edge_has_its_observer(rt: HostRuntime) {
+    assert!(rt; matches!(runs(rt.alloc(), FOUR, &EDGES), Ok(true)));
 }
 
 const JOINERS: [Call; 7] = [
@@ -82,16 +120,13 @@ const JOINERS: [Call; 7] = [
 ];
 
 #[test]
-fn a_joiner_is_no_member_and_an_edge_is_refused_by_name(rt: HostRuntime) -> Result<(), Fail> {
-    assert!(rt; runs(rt.alloc(), &JOINERS)?);
-    Ok(())
+fn a_joiner_is_no_member_and_an_edge_is_refused_by_name(rt: HostRuntime) {
+    assert!(rt; matches!(runs(rt.alloc(), FOUR, &JOINERS), Ok(true)));
 }
 
 #[test]
-fn a_table_has_its_parameters_and_no_identifier(rt: HostRuntime) -> Result<(), Fail> {
-    let table = Table::new(rt.alloc(), Params::new(4, 3, 2)?);
-    assert!(rt; table.params().k() == 4 && table.id() == ConfigId::new([0; 32]));
-    Ok(())
+fn a_table_has_its_parameters_and_no_identifier(rt: HostRuntime) {
+    assert!(rt; matches!(runs(rt.alloc(), FOUR, &[Call::Bare(4)]), Ok(true)));
 }
 
 const CODES: [(TableError, u8); 4] = [
@@ -103,28 +138,16 @@ const CODES: [(TableError, u8); 4] = [
 
 #[test]
 fn errors_have_numbers(rt: HostRuntime) {
-    assert!(rt; CODES.iter().all(|(error, code)| error.code() == *code));
-}
-
-/// Has the members 2 to 1,025 observed on ring 0; whether each is.
-fn fill(table: &mut Table) -> bool {
-    for number in 2..1026 {
-        if !answers(table, &Call::Add(0, 1, number, Ok(()))) {
-            return false;
-        }
+    for (error, code) in &CODES {
+        assert!(rt; error.code() == *code);
     }
-    true
 }
 
-/// Whether all calls of a table of two rings, where the members 2 to 1,025 are observed on ring 0,
-/// answer as they have to, in order.
-fn runs_when_full(alloc: Global, calls: &[Call]) -> Result<bool, Fail> {
-    let mut table = Table::new(alloc, Params::new(2, 2, 1)?);
-    Ok(fill(&mut table) && all_answer(&mut table, calls))
-}
+const TWO: Marks = (2, 2, 1);
 
 /// The first error that holds is told, and joiners and further edges have room.
-const FULL: [Call; 8] = [
+const FULL: [Call; 9] = [
+    Call::Fill,
     Call::Add(0, 1, 1026, Err(TableError::TooMany)),
     Call::Observer(0, 1026, 0),
     Call::Add(2, 1, 1026, Err(TableError::TooMany)),
@@ -136,12 +159,12 @@ const FULL: [Call; 8] = [
 ];
 
 #[test]
-fn a_1025th_member_is_not_observed(rt: HostRuntime) -> Result<(), Fail> {
-    assert!(rt; runs_when_full(rt.alloc(), &FULL)?);
-    Ok(())
+fn a_1025th_member_is_not_observed(rt: HostRuntime) {
+    assert!(rt; matches!(runs(rt.alloc(), TWO, &FULL), Ok(true)));
 }
 
-const NO_LONGER_FULL: [Call; 5] = [
+const NO_LONGER_FULL: [Call; 6] = [
+    Call::Fill,
     Call::Joiner(3),
     Call::Joiner(3),
     Call::Add(0, 1, 1026, Ok(())),
@@ -150,7 +173,6 @@ const NO_LONGER_FULL: [Call; 5] = [
 ];
 
 #[test]
-fn a_subject_that_becomes_a_joiner_counts_no_more(rt: HostRuntime) -> Result<(), Fail> {
-    assert!(rt; runs_when_full(rt.alloc(), &NO_LONGER_FULL)?);
-    Ok(())
+fn a_subject_that_becomes_a_joiner_counts_no_more(rt: HostRuntime) {
+    assert!(rt; matches!(runs(rt.alloc(), TWO, &NO_LONGER_FULL), Ok(true)));
 }
