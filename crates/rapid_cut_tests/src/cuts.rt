@@ -1,14 +1,14 @@
 // Cut detection over tables of explicit edges. The worked inputs of `detect` stand in its tests;
 // here stands what its output does not show.
 
-ghost use Rattle.std.specs.Prelude.{◌<◌};
+ghost use Rattle.std.specs.Prelude.{◌≡◌};
 
 use crate::numbered::{are, process};
-use crate::tables::{Edge, edges_of_one, table, table_of_joiners};
+use crate::tables::{Edge, Start, table};
 use rapid_alerts::{Alert, Kind};
 use rapid_config::{ConfigId, Cut, Params};
 use rapid_cut::Detector;
-use rapid_rings::Table;
+use rapid_rings::{Table, TableError};
 use std::alloc::{AllocError, Global};
 use std::test::Fail;
 
@@ -18,8 +18,13 @@ enum Call<'a> {
     /// A batch that removes, the numbers of its cut, none where it has no cut, and how many alerts
     /// are skipped.
     Remove(&'a [Edge], &'a [u16], usize),
+    /// The same, handed in again where a growth is refused.
+    RemoveAgain(&'a [Edge], &'a [u16], usize),
     /// A batch that lets in, and the same.
     Join(&'a [Edge], &'a [u16], usize),
+    /// A batch that lets in so many joiners, from 2 on, whom process 1 observes, by ring 0, has no
+    /// cut, and skips so many alerts.
+    JoinMany(u16, usize),
     /// A batch of one alert of another configuration, which is skipped.
     Old(Edge),
     /// How many reports there are on a process.
@@ -47,6 +52,16 @@ fn alerts(alloc: Global, kind: Kind, edges: &[Edge]) -> Result<Vec<Alert>, Alloc
     Ok(alerts)
 }
 
+/// Alerts of process 1 on ring 0 that let in so many others, from 2 on.
+fn alerts_of_one(alloc: Global, many: u16) -> Result<Vec<Alert>, AllocError> {
+    let mut alerts = Vec::new(alloc);
+    for number in 0..many {
+        let edge = (0, 1, number.wrapping_add(2));
+        alerts.push(alert_in(ConfigId::zero(), Kind::Join, &edge))?;
+    }
+    Ok(alerts)
+}
+
 /// Whether a cut is that of the processes with these numbers; none stands for no cut.
 fn is_cut_of(cut: &Option<Cut>, numbers: &[u16]) -> bool {
     match cut {
@@ -66,21 +81,61 @@ fn has_cut(
     Ok(is_cut_of(&found, cut) && detector.skipped() == skipped)
 }
 
+/// Whether a batch of alerts of a kind has this cut and skips so many of them.
+fn cuts(
+    alloc: Global,
+    detector: &mut Detector<Table>,
+    kind: Kind,
+    (edges, cut, skipped): (&[Edge], &[u16], usize),
+) -> Result<bool, AllocError> {
+    let alerts = alerts(alloc, kind, edges)?;
+    has_cut(detector, alerts.as_slice(), cut, skipped)
+}
+
+/// Whether a batch that removes has this cut and skips so many alerts, handed in again where a
+/// growth is refused: the detector is then as it was.
+fn cuts_again(
+    alloc: Global,
+    detector: &mut Detector<Table>,
+    (edges, cut, skipped): (&[Edge], &[u16], usize),
+) -> Result<bool, AllocError> {
+    match cuts(alloc, detector, Kind::Remove, (edges, cut, skipped)) {
+        Err(_refused) => cuts(alloc, detector, Kind::Remove, (edges, cut, skipped)),
+        answer => answer,
+    }
+}
+
+/// Whether a batch that lets in so many joiners, from 2 on, has no cut and skips so many of them.
+fn lets_in(
+    alloc: Global,
+    detector: &mut Detector<Table>,
+    many: u16,
+    skipped: usize,
+) -> Result<bool, AllocError> {
+    let alerts = alerts_of_one(alloc, many)?;
+    has_cut(detector, alerts.as_slice(), &[], skipped)
+}
+
+/// Whether an alert of another configuration is skipped.
+fn skips_old(detector: &mut Detector<Table>, edge: &Edge) -> Result<bool, AllocError> {
+    let old = alert_in(ConfigId::new([1; 32]), Kind::Remove, edge);
+    has_cut(detector, &[old], &[], 1)
+}
+
 /// Whether a call answers as it has to.
 fn answers(alloc: Global, detector: &mut Detector<Table>, call: &Call) -> Result<bool, AllocError> {
     match call {
         Call::Remove(edges, cut, skipped) => {
-            let alerts = alerts(alloc, Kind::Remove, edges)?;
-            has_cut(detector, alerts.as_slice(), cut, *skipped)
+            cuts(alloc, detector, Kind::Remove, (edges, cut, *skipped))
+        }
+        Call::RemoveAgain(edges, cut, skipped) => {
+            cuts_again(alloc, detector, (edges, cut, *skipped))
         }
         Call::Join(edges, cut, skipped) => {
-            let alerts = alerts(alloc, Kind::Join, edges)?;
-            has_cut(detector, alerts.as_slice(), cut, *skipped)
+            cuts(alloc, detector, Kind::Join, (edges, cut, *skipped))
         }
-        Call::Old(edge) => {
-            let old = alert_in(ConfigId::new([1; 32]), Kind::Remove, edge);
-            has_cut(detector, &[old], &[], 1)
-        }
+        Call::JoinMany(many, skipped) => lets_in(alloc, detector, *many, *skipped),
+        Call::Old(edge) => skips_old(detector, edge),
         Call::Tally(number, reports) => Ok(detector.tally(&process(*number)) == *reports),
         Call::Unstable(count) => Ok(detector.unstable()?.len() == *count),
     }
@@ -100,19 +155,13 @@ fn all_answer(
     Ok(true)
 }
 
-/// A detector with K = 4, H = 3 and L = 2 over these edges.
-fn detector(alloc: Global, edges: &[Edge]) -> Result<Detector<Table>, Fail> {
-    let table = table(alloc, Params::new(4, 3, 2)?, edges)?;
-    Ok(Detector::new(alloc, table))
-}
-
-/// Whether all calls of a detector over these edges answer as they have to.
-fn runs(alloc: Global, edges: &[Edge], calls: &[Call]) -> Result<bool, Fail> {
-    let mut detector = detector(alloc, edges)?;
+/// Whether all calls of a detector over a table answer as they have to, in order.
+fn runs(alloc: Global, start: &Start, calls: &[Call]) -> Result<bool, TableError> {
+    let mut detector = Detector::new(alloc, table(alloc, start)?);
     Ok(all_answer(alloc, &mut detector, calls)?)
 }
 
-const FIVE: [Edge; 4] = [(0, 1, 5), (1, 2, 5), (2, 3, 5), (3, 4, 5)];
+const FIVE: Start = Start::Edges(4, 3, 2, &[(0, 1, 5), (1, 2, 5), (2, 3, 5), (3, 4, 5)]);
 
 /// A repeat counts once, earlier batches count, and who is not alone unstable is held back.
 const REPEATS: [Call; 8] = [
@@ -127,12 +176,11 @@ const REPEATS: [Call; 8] = [
 ];
 
 #[test]
-fn repeats_count_once_and_earlier_batches_count(rt: HostRuntime) -> Result<(), Fail> {
-    assert!(rt; runs(rt.alloc(), &FIVE, &REPEATS)?);
-    Ok(())
+fn repeats_count_once_and_earlier_batches_count(rt: HostRuntime) {
+    assert!(rt; matches!(runs(rt.alloc(), &FIVE, &REPEATS), Ok(true)));
 }
 
-const OBSERVED_BY_FIVE: [Edge; 8] = [
+const BY_FIVE: [Edge; 8] = [
     (0, 1, 5),
     (1, 2, 5),
     (2, 3, 5),
@@ -142,6 +190,8 @@ const OBSERVED_BY_FIVE: [Edge; 8] = [
     (2, 5, 6),
     (3, 5, 6),
 ];
+
+const OBSERVED_BY_FIVE: Start = Start::Edges(4, 3, 2, &BY_FIVE);
 
 /// Two reports on 6 hold its cut back, and the third on 5 implies the two others on 6.
 const IMPLIES: [Call; 5] = [
@@ -153,9 +203,8 @@ const IMPLIES: [Call; 5] = [
 ];
 
 #[test]
-fn rings_of_a_reported_observer_are_implied(rt: HostRuntime) -> Result<(), Fail> {
-    assert!(rt; runs(rt.alloc(), &OBSERVED_BY_FIVE, &IMPLIES)?);
-    Ok(())
+fn rings_of_a_reported_observer_are_implied(rt: HostRuntime) {
+    assert!(rt; matches!(runs(rt.alloc(), &OBSERVED_BY_FIVE, &IMPLIES), Ok(true)));
 }
 
 /// An alert of another observer, on no ring, of the wrong kind and of another configuration.
@@ -167,82 +216,69 @@ const SKIPS: [Call; 4] = [
 ];
 
 #[test]
-fn what_is_ill_formed_is_skipped(rt: HostRuntime) -> Result<(), Fail> {
-    assert!(rt; runs(rt.alloc(), &FIVE, &SKIPS)?);
-    Ok(())
+fn what_is_ill_formed_is_skipped(rt: HostRuntime) {
+    assert!(rt; matches!(runs(rt.alloc(), &FIVE, &SKIPS), Ok(true)));
 }
 
-/// Whether all calls of a detector with K = H = 2 and L = 1 answer as they have to, where so many
-/// joiners, from 2 on, are each observed by process 1.
-fn runs_with_joiners(alloc: Global, joiners: u16, calls: &[Call]) -> Result<bool, Fail>
-    requires { joiners < 900 }
-{
-    let table = table_of_joiners(alloc, Params::new(2, 2, 1)?, joiners)?;
-    let mut detector = Detector::new(alloc, table);
-    Ok(all_answer(alloc, &mut detector, calls)?)
-}
+/// Joiners with K = H = 2 and L = 1.
+const JOINERS: Start = Start::Joiners(513);
 
-#[test]
-fn a_513th_joiner_is_skipped(rt: HostRuntime) -> Result<(), Fail> {
-    let edges = edges_of_one(rt.alloc(), 0, 513)?;
-    let calls = [
-        Call::Join(edges.as_slice(), &[], 1),
-        Call::Tally(513, 1),
-        Call::Tally(514, 0),
-        Call::Unstable(512),
-    ];
-    assert!(rt; runs_with_joiners(rt.alloc(), 513, &calls)?);
-    Ok(())
-}
+const JOIN_513: [Call; 4] = [
+    Call::JoinMany(513, 1),
+    Call::Tally(513, 1),
+    Call::Tally(514, 0),
+    Call::Unstable(512),
+];
 
 #[test]
-fn a_known_joiner_is_taken_when_512_are_there(rt: HostRuntime) -> Result<(), Fail> {
-    let edges = edges_of_one(rt.alloc(), 0, 512)?;
-    let calls = [
-        Call::Join(edges.as_slice(), &[], 0),
-        Call::Join(&[(1, 1, 514), (1, 1, 2)], &[], 1),
-        Call::Tally(2, 2),
-    ];
-    assert!(rt; runs_with_joiners(rt.alloc(), 513, &calls)?);
-    Ok(())
+fn a_513th_joiner_is_skipped(rt: HostRuntime) {
+    assert!(rt; matches!(runs(rt.alloc(), &JOINERS, &JOIN_513), Ok(true)));
 }
 
-/// A batch, handed in again where a growth is refused: the detector is then as it was.
-fn batch_again(
-    detector: &mut Detector<Table>,
-    alerts: &[Alert],
-) -> Result<Option<Cut>, AllocError> {
-    match detector.batch(alerts) {
-        Err(_refused) => detector.batch(alerts),
-        answer => answer,
-    }
+const JOIN_512: [Call; 3] = [
+    Call::JoinMany(512, 0),
+    Call::Join(&[(1, 1, 514), (1, 1, 2)], &[], 1),
+    Call::Tally(2, 2),
+];
+
+#[test]
+fn a_known_joiner_is_taken_when_512_are_there(rt: HostRuntime) {
+    assert!(rt; matches!(runs(rt.alloc(), &JOINERS, &JOIN_512), Ok(true)));
 }
 
-/// Whether two batches, the first with an alert that is skipped, bring the cut of process 5.
-fn brings_cut(alloc: Global, detector: &mut Detector<Table>) -> Result<bool, AllocError> {
-    let first = alerts(alloc, Kind::Remove, &[(2, 3, 5), (1, 2, 5), (0, 2, 5)])?;
-    let last = alerts(alloc, Kind::Remove, &[(0, 1, 5)])?;
-    let before = batch_again(detector, first.as_slice())?;
-    let cut = batch_again(detector, last.as_slice())?;
-    Ok(is_cut_of(&before, &[]) && is_cut_of(&cut, &[5]))
-}
+/// Two batches, the first with an alert that is skipped, bring the cut of process 5.
+const BRINGS: [Call; 3] = [
+    Call::RemoveAgain(&[(2, 3, 5), (1, 2, 5), (0, 2, 5)], &[], 1),
+    Call::RemoveAgain(&[(0, 1, 5)], &[5], 0),
+    Call::Tally(5, 3),
+];
 
 /// Where some growth is refused the detector is as it was, so that batches handed in again bring
 /// the same cut.
 #[test]
 fn want_of_memory_leaves_the_detector_as_it_was(rt: HostRuntime) -> Result<(), Fail> {
-    let mut detector = detector(rt.alloc(), &FIVE)?;
-    assert!(rt; brings_cut(rt.alloc(), &mut detector)?);
-    assert!(rt; detector.skipped() == 0 && detector.tally(&process(5)) == 3);
+    assert!(rt; runs(rt.alloc(), &FIVE, &BRINGS)?);
     Ok(())
+}
+
+/// Whether a copy of a detector over an equal table skipped nothing.
+fn copy_skips_none(detector: &Detector<Table>, table: Table) -> Result<bool, AllocError>
+    requires { table ≡ detector.now.table }
+{
+    let copy = detector.try_copy(table)?;
+    Ok(copy.skipped() == 0)
+}
+
+/// Whether a copy of a new detector skipped nothing.
+fn new_copy_skips_none(alloc: Global, params: Params) -> Result<bool, AllocError> {
+    let detector = Detector::new(alloc, Table::new(alloc, params));
+    copy_skips_none(&detector, Table::new(alloc, params))
 }
 
 /// A copy is made over an equal table. Copies with reports are made with their node, in its tests.
 #[test]
 fn a_detector_is_copied(rt: HostRuntime) -> Result<(), Fail> {
     let params = Params::new(2, 2, 1)?;
-    let detector = Detector::new(rt.alloc(), Table::new(rt.alloc(), params));
-    let copy = detector.try_copy(Table::new(rt.alloc(), params))?;
-    assert!(rt; copy.skipped() == 0);
+    assert!(rt; matches!(new_copy_skips_none(rt.alloc(), params), Ok(true)));
     Ok(())
 }

@@ -10,9 +10,10 @@ pub fn process(number: u16) -> Process {
 
 /// Whether these are the processes with these numbers.
 pub fn are(processes: &[Process], numbers: &[u16]) -> bool {
+    for (found, number) in processes.iter().zip(numbers) {
+        if *found != process(*number) {
+            return false;
+        }
+    }
     processes.len() == numbers.len()
-        && processes
-            .iter()
-            .zip(numbers)
-            .all(|(it, number)| *it == process(*number))
 }

@@ -1,9 +1,7 @@
 // Tables of explicit edges.
 
-ghost use Rattle.std.specs.Prelude.{◌<◌};
-
 use crate::numbered::process;
-use rapid_config::Params;
+use rapid_config::{ConfigError, Params};
 use rapid_rings::{Table, TableError};
 use std::alloc::{AllocError, Global};
 
@@ -28,42 +26,12 @@ fn add_all(table: &mut Table, edges: &[Edge]) -> Result<(), TableError> {
     Ok(())
 }
 
-/// The table of these edges.
-pub fn table(alloc: Global, params: Params, edges: &[Edge]) -> Result<Table, TableError> {
-    let mut table = Table::new(alloc, params);
-    add_all(&mut table, edges)?;
-    Ok(table)
-}
-
-/// Edges of process 1 to so many others, from 2 on, on a ring.
-pub fn edges_of_one(alloc: Global, ring: u8, many: u16) -> Result<Vec<Edge>, AllocError>
-    requires { many < 1000 }
-{
-    let mut edges = Vec::new(alloc);
-    for number in 0..many {
-        edges.push((ring, 1, number + 2))?;
-    }
-    Ok(edges)
-}
-
-/// The table of so many joiners, from 2 on, each observed by process 1 on rings 0 and 1, and of the
-/// member 1000, observed on ring 0.
-pub fn table_of_joiners(alloc: Global, params: Params, joiners: u16) -> Result<Table, TableError>
-    requires { joiners < 900 }
-{
-    let mut table = Table::new(alloc, params);
-    add(&mut table, 0, 1, 1000)?;
-    add_joiners(&mut table, joiners)?;
-    Ok(table)
-}
-
 /// Adds so many joiners, from 2 on, each observed by process 1 on rings 0 and 1.
-fn add_joiners(table: &mut Table, joiners: u16) -> Result<(), TableError>
-    requires { joiners < 900 }
-{
-    for number in 0..joiners {
-        add_joiner(table, number + 2)?;
-        add_all(table, &[(0, 1, number + 2), (1, 1, number + 2)])?;
+fn add_joiners(table: &mut Table, joiners: u16) -> Result<(), TableError> {
+    for joiner in 0..joiners {
+        let number = joiner.saturating_add(2);
+        add_joiner(table, number)?;
+        add_all(table, &[(0, 1, number), (1, 1, number)])?;
     }
     Ok(())
 }
@@ -77,11 +45,53 @@ fn add_member(table: &mut Table, number: u16) -> Result<(), TableError> {
 }
 
 /// Adds so many members, from 2 on, each observed by process 1 on sixteen rings.
-pub fn add_members(table: &mut Table, members: u16) -> Result<(), TableError>
-    requires { members < 900 }
-{
-    for number in 0..members {
-        add_member(table, number + 2)?;
+fn add_members(table: &mut Table, members: u16) -> Result<(), TableError> {
+    for member in 0..members {
+        add_member(table, member.saturating_add(2))?;
     }
     Ok(())
+}
+
+/// The parameters K, H and L, and what a table has.
+#[derive(Clone, Copy)]
+pub enum Start<'a> {
+    /// These edges.
+    Edges(u8, u8, u8, &'a [Edge]),
+    /// So many joiners, from 2 on, each observed by process 1 on rings 0 and 1, and the member
+    /// 1000, observed on ring 0, with K = H = 2 and L = 1.
+    Joiners(u16),
+    /// So many members, from 2 on, each observed by process 1 on sixteen rings, with H = 9 and
+    /// L = 3.
+    Members(u16),
+}
+
+/// The parameters of a table.
+fn params_of(start: &Start) -> Result<Params, ConfigError> {
+    match start {
+        Start::Edges(k, h, l, _) => Params::new(*k, *h, *l),
+        Start::Joiners(_) => Params::new(2, 2, 1),
+        Start::Members(_) => Params::new(16, 9, 3),
+    }
+}
+
+/// Fills a table.
+fn fill(table: &mut Table, start: &Start) -> Result<(), TableError> {
+    match start {
+        Start::Edges(_, _, _, edges) => add_all(table, edges),
+        Start::Joiners(joiners) => {
+            add(table, 0, 1, 1000)?;
+            add_joiners(table, *joiners)
+        }
+        Start::Members(members) => add_members(table, *members),
+    }
+}
+
+/// The table that has this. `RingRange` where its parameters are in no order.
+pub fn table(alloc: Global, start: &Start) -> Result<Table, TableError> {
+    let Ok(params) = params_of(start) else {
+        return Err(TableError::RingRange);
+    };
+    let mut table = Table::new(alloc, params);
+    fill(&mut table, start)?;
+    Ok(table)
 }
