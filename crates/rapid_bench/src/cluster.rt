@@ -43,6 +43,17 @@ fn one_batch(
     Ok(Event::Receive(batch(alloc, observer, id, subjects)?))
 }
 
+/// The pairs of this member.
+fn only(alloc: Global, pairs: &[(u8, Process)], member: &Process) -> Result<Vec<(u8, Process)>> {
+    let mut all = Vec::new(alloc);
+    for pair in pairs {
+        if pair.1 == *member {
+            all.push(*pair)?;
+        }
+    }
+    Ok(all)
+}
+
 /// All well-formed alerts of one observer to remove the member with the number 3, in one batch.
 pub fn alerts_on_one(alloc: Global, configuration: &Configuration) -> Result<Event> {
     let rings = Rings::new(alloc, configuration)?;
@@ -50,9 +61,9 @@ pub fn alerts_on_one(alloc: Global, configuration: &Configuration) -> Result<Eve
     let observer = rings
         .observer(0, &subject)
         .context("nobody observes the member")?;
-    let mut subjects = rings.subjects_of(alloc, &observer)?;
-    subjects.retain(|pair| pair.1 == subject);
-    one_batch(alloc, configuration.id(), observer, &subjects)
+    let subjects = rings.subjects_of(alloc, &observer)?;
+    let seats = only(alloc, &subjects, &subject)?;
+    one_batch(alloc, configuration.id(), observer, &seats)
 }
 
 /// 2,048 alerts of the member with the number 3 in one batch, of which few are well-formed.

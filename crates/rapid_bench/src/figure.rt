@@ -1,23 +1,18 @@
 // How a figure is taken.
+use crate::work::Work;
 use anyhow::Result;
 use std::alloc::Global;
 use std::hint::black_box;
 use std::time::{Clock, Instant};
 
-/// Work whose time is measured.
-pub trait Work {
-    /// Does the work once, and answers how many units of work that was.
-    fn once(&self, alloc: Global) -> Result<u64>;
-}
-
 /// Prints a figure's name and how many nanoseconds one unit of its work takes, in the fastest of so
 /// many runs.
-pub fn measure<R: Print + Clock, W: Work>(
+pub fn measure<R: Print + Clock>(
     rt: &R,
     alloc: Global,
     name: &str,
     runs: u32,
-    work: &W,
+    work: &Work,
 ) -> Result<()> {
     let units = work.once(alloc)?;
     let mut least = u64::MAX;

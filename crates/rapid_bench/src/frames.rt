@@ -1,7 +1,8 @@
 // Messages as frames, and back.
-use crate::figure::{Work, measure};
+use crate::figure::measure;
 use crate::members::process;
 use crate::messages::{batch, on_rings, vote};
+use crate::work::Work;
 use anyhow::{Result, bail};
 use rapid_config::ConfigId;
 use rapid_node::Message;
@@ -23,28 +24,14 @@ fn thousands(length: usize, times: usize) -> u64 {
     (length.saturating_mul(times) / 1000) as u64
 }
 
-/// A message that is encoded again and again.
-#[derive(Drop)]
-struct Encoding {
-    message: Message,
-    length: usize,
-}
-
-impl Work for Encoding {
-    fn once(&self, alloc: Global) -> Result<u64> {
-        let times = times(self.length);
-        for _ in 0..times {
-            let _ = black_box(encode(alloc, black_box(&self.message))?);
-        }
-        Ok(thousands(self.length, times))
+/// Encodes a message of this length again and again, and answers how many thousands of bytes that
+/// makes.
+pub fn encode_often(alloc: Global, message: &Message, length: usize) -> Result<u64> {
+    let times = times(length);
+    for _ in 0..times {
+        let _ = black_box(encode(alloc, black_box(message))?);
     }
-}
-
-/// A frame that is fed again and again, in pieces of so many bytes.
-#[derive(Drop)]
-struct Feeding {
-    frame: Vec<u8>,
-    piece: usize,
+    Ok(thousands(length, times))
 }
 
 /// Feeds a frame in pieces of so many bytes, asks for a message after each, and answers how many
@@ -61,45 +48,76 @@ fn feed_frame(feed: &mut Feed, frame: &[u8], piece: usize) -> Result<usize> {
     Ok(messages)
 }
 
-impl Work for Feeding {
-    fn once(&self, alloc: Global) -> Result<u64> {
-        let mut feed = Feed::new(alloc);
-        let times = times(self.frame.len());
-        for _ in 0..times {
-            if feed_frame(&mut feed, &self.frame, self.piece)? != 1 {
-                bail!("a frame is not one message");
-            }
+/// Feeds a frame again and again in pieces of so many bytes, and answers how many thousands of
+/// bytes that makes.
+pub fn feed_often(alloc: Global, frame: &[u8], piece: usize) -> Result<u64> {
+    let mut feed = Feed::new(alloc);
+    let times = times(frame.len());
+    for _ in 0..times {
+        if feed_frame(&mut feed, frame, piece)? != 1 {
+            bail!("a frame is not one message");
         }
-        Ok(thousands(self.frame.len(), times))
     }
+    Ok(thousands(frame.len(), times))
 }
 
-/// Prints the figure of a message that is encoded.
-fn print_encoding<R: Print + Clock>(
-    rt: &R,
-    alloc: Global,
-    name: &str,
-    message: Message,
-) -> Result<()> {
-    let length = encode(alloc, &message)?.len();
-    measure(rt, alloc, name, 50, &Encoding { message, length })
-}
-
-/// Prints the figures of a frame that is fed whole and in pieces of 1,500, 7 and 1 bytes, under
-/// these names.
+/// Prints the figure of a frame that is fed in pieces of so many bytes.
 fn print_feeding<R: Print + Clock>(
     rt: &R,
     alloc: Global,
-    names: &[&str; 4],
-    message: &Message,
+    name: &str,
+    frame: &[u8],
+    piece: usize,
 ) -> Result<()> {
-    let frame = encode(alloc, message)?;
-    let pieces = [frame.len(), 1500, 7, 1];
-    for (name, piece) in names.iter().zip(pieces) {
-        let frame = Vec::from_slice(alloc, frame.as_slice())?;
-        measure(rt, alloc, name, 50, &Feeding { frame, piece })?;
-    }
-    Ok(())
+    measure(rt, alloc, name, 50, &Work::Feed(frame, piece))
+}
+
+/// Prints the figures of a vote that is fed whole and in pieces of 1,500, 7 and 1 bytes.
+fn print_fed_vote<R: Print + Clock>(rt: &R, alloc: Global, frame: &[u8]) -> Result<()> {
+    print_feeding(rt, alloc, "feed_vote_whole", frame, frame.len())?;
+    print_feeding(rt, alloc, "feed_vote_1500", frame, 1500)?;
+    print_feeding(rt, alloc, "feed_vote_7", frame, 7)?;
+    print_feeding(rt, alloc, "feed_vote_1", frame, 1)
+}
+
+/// Prints the figures of a batch that is fed in the same ways.
+fn print_fed_batch<R: Print + Clock>(rt: &R, alloc: Global, frame: &[u8]) -> Result<()> {
+    print_feeding(rt, alloc, "feed_batch_whole", frame, frame.len())?;
+    print_feeding(rt, alloc, "feed_batch_1500", frame, 1500)?;
+    print_feeding(rt, alloc, "feed_batch_7", frame, 7)?;
+    print_feeding(rt, alloc, "feed_batch_1", frame, 1)
+}
+
+/// Prints the figures of a vote.
+fn print_vote<R: Print + Clock>(rt: &R, alloc: Global, vote: &Message) -> Result<()> {
+    let frame = encode(alloc, vote)?;
+    print_fed_vote(rt, alloc, &frame)?;
+    measure(
+        rt,
+        alloc,
+        "encode_vote",
+        50,
+        &Work::Encode(vote, frame.len()),
+    )
+}
+
+/// Prints the figures of a batch.
+fn print_batch<R: Print + Clock>(rt: &R, alloc: Global, batch: &Message) -> Result<()> {
+    let frame = encode(alloc, batch)?;
+    print_fed_batch(rt, alloc, &frame)?;
+    measure(
+        rt,
+        alloc,
+        "encode_batch",
+        50,
+        &Work::Encode(batch, frame.len()),
+    )
+}
+
+/// The batch of 2,048 alerts.
+fn great_batch(alloc: Global, id: ConfigId) -> Result<Message> {
+    let subjects = on_rings(alloc, 1, 128, 16)?;
+    batch(alloc, process(1), id, &subjects)
 }
 
 /// Prints the figures `encode_vote`, `encode_batch`, `feed_vote_whole` and so on: a vote for a cut
@@ -107,25 +125,7 @@ fn print_feeding<R: Print + Clock>(
 pub fn print<R: Print + Clock>(rt: &R, alloc: Global) -> Result<()> {
     let id = ConfigId::new([7; 32]);
     let vote = vote(alloc, process(1), id, 100)?;
-    let batch = batch(alloc, process(1), id, &on_rings(alloc, 1, 128, 16)?)?;
-    print_feeding(rt, alloc, &VOTE_NAMES, &vote)?;
-    print_feeding(rt, alloc, &BATCH_NAMES, &batch)?;
-    print_encoding(rt, alloc, "encode_vote", vote)?;
-    print_encoding(rt, alloc, "encode_batch", batch)
+    print_vote(rt, alloc, &vote)?;
+    let batch = great_batch(alloc, id)?;
+    print_batch(rt, alloc, &batch)
 }
-
-/// The figures of a vote that is fed.
-const VOTE_NAMES: [&str; 4] = [
-    "feed_vote_whole",
-    "feed_vote_1500",
-    "feed_vote_7",
-    "feed_vote_1",
-];
-
-/// The figures of a batch that is fed.
-const BATCH_NAMES: [&str; 4] = [
-    "feed_batch_whole",
-    "feed_batch_1500",
-    "feed_batch_7",
-    "feed_batch_1",
-];

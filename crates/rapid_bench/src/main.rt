@@ -9,10 +9,12 @@ mod from_bytes;
 mod members;
 mod memory;
 mod messages;
+mod meter;
 mod rings_new;
 mod rings_next;
 mod steps;
 mod votes;
+mod work;
 
 use anyhow::{Result, bail};
 use std::alloc::Global;

@@ -1,51 +1,23 @@
 // Steps of a node, in time and memory.
 use crate::cluster::{alerts_on_many, alerts_on_one, founder, report_many, ticks, votes};
-use crate::figure::nanoseconds_since;
 use crate::members::{MEMBERS, configuration};
-use crate::memory::held;
+use crate::meter::Meter;
 use anyhow::Result;
 use rapid_config::Configuration;
 use rapid_node::{Event, Node};
 use std::alloc::Global;
 use std::fs::Files;
+use std::slice;
 use std::time::{Clock, Instant};
 
 /// The numbers of members for which steps are measured.
 const SIZES: [u16; 3] = [5, 100, MEMBERS];
-
-/// How many times each figure of time is taken.
-const RUNS: u32 = 50;
 
 /// About how many steps a run has.
 const STEPS: usize = 1000;
 
 /// About how many long steps a run has.
 const LONG_STEPS: usize = 20;
-
-/// Events that so many copies of a node take in a run, each from the same start.
-#[derive(Drop)]
-struct Steps {
-    name: String,
-    events: Vec<Event>,
-    copies: usize,
-}
-
-impl Steps {
-    /// The events that copies of a node take, in about so many steps.
-    fn new(name: String, events: Vec<Event>, steps: usize) -> Steps {
-        let copies = (steps / events.len().max(1)).max(2);
-        Steps {
-            name,
-            events,
-            copies,
-        }
-    }
-
-    /// How many steps a run has.
-    fn count(&self) -> u64 {
-        self.copies.saturating_mul(self.events.len()).max(1) as u64
-    }
-}
 
 /// A node takes the events.
 fn take_all(node: &mut Node, events: &[Event]) -> Result<()> {
@@ -72,214 +44,161 @@ fn copies(alloc: Global, node: &Node, count: usize) -> Result<Vec<Node>> {
     Ok(nodes)
 }
 
-/// The steps at votes.
-fn vote_steps(alloc: Global, configuration: &Configuration, members: u16) -> Result<Steps> {
-    let name = format!(in alloc; "vote_step_{members}")?;
-    let events = votes(alloc, configuration.id(), members)?;
-    Ok(Steps::new(name, events, STEPS))
-}
-
-/// The steps at a batch.
-fn batch_steps(alloc: Global, configuration: &Configuration, members: u16) -> Result<Steps> {
-    let name = format!(in alloc; "batch_step_{members}")?;
-    let events = vec![in alloc; alerts_on_one(alloc, configuration)?]?;
-    Ok(Steps::new(name, events, STEPS))
-}
-
-/// The steps at ticks.
-fn tick_steps(alloc: Global, members: u16) -> Result<Steps> {
-    let name = format!(in alloc; "tick_step_{members}")?;
-    let events = ticks(alloc)?;
-    Ok(Steps::new(name, events, STEPS))
-}
-
-/// The steps at a batch, of a node that has many reports.
-fn late_batch_steps(alloc: Global, configuration: &Configuration) -> Result<Steps> {
-    let name = String::from_str(alloc, "late_batch_step_1024")?;
-    let events = vec![in alloc; alerts_on_one(alloc, configuration)?]?;
-    Ok(Steps::new(name, events, LONG_STEPS))
-}
-
-/// The steps at a batch of 2,048 alerts.
-fn great_batch_steps(alloc: Global, configuration: &Configuration) -> Result<Steps> {
-    let name = String::from_str(alloc, "great_batch_step_1024")?;
-    let events = vec![in alloc; alerts_on_many(alloc, configuration.id())?]?;
-    Ok(Steps::new(name, events, LONG_STEPS))
-}
-
-/// How many nanoseconds a run takes.
-fn run_time<R: Clock>(rt: &R, alloc: Global, node: &Node, steps: &Steps) -> Result<u64> {
-    let mut nodes = copies(alloc, node, steps.copies)?;
-    let start = Instant::now(rt)?;
-    each_takes(&mut nodes, &steps.events)?;
-    nanoseconds_since(rt, start)
-}
-
-/// Prints the nanoseconds of a step, in the fastest run.
-fn print_time<R: Print + Clock>(rt: &R, alloc: Global, node: &Node, steps: &Steps) -> Result<()> {
-    let mut least = u64::MAX;
-    for _ in 0..RUNS {
-        least = least.min(run_time(rt, alloc, node, steps)?);
-    }
-    println!(rt; "{} {}", steps.name, least / steps.count().max(1))?;
-    Ok(())
-}
-
-/// How many nanoseconds the copies of a run take.
-fn copy_time<R: Clock>(rt: &R, alloc: Global, node: &Node) -> Result<u64> {
-    let start = Instant::now(rt)?;
-    let _nodes = copies(alloc, node, STEPS)?;
-    nanoseconds_since(rt, start)
-}
-
-/// Prints the nanoseconds of a copy of a node.
-fn print_copy_time<R: Print + Clock>(
-    rt: &R,
+/// What steps are measured with: nodes among so many members.
+#[derive(Drop)]
+struct Bench<'a, R> {
+    rt: &'a R,
     alloc: Global,
-    node: &Node,
+    meter: Meter,
     members: u16,
-) -> Result<()> {
-    let mut least = u64::MAX;
-    for _ in 0..RUNS {
-        least = least.min(copy_time(rt, alloc, node)?);
-    }
-    println!(rt; "copy_{members} {}", least / STEPS as u64)?;
-    Ok(())
 }
 
-/// Prints the figures of time of a node among so many members.
-fn print_times_of<R: Print + Clock>(
-    rt: &R,
-    alloc: Global,
-    configuration: &Configuration,
-    node: &Node,
-    members: u16,
-) -> Result<()> {
-    print_time(rt, alloc, node, &vote_steps(alloc, configuration, members)?)?;
-    print_time(
+impl<R: Print + Clock + Files + Alloc> Bench<'_, R> {
+    /// How much more there is than before.
+    fn more_than(&self, before: u64) -> Result<u64> {
+        Ok(self.meter.read(self.rt)?.saturating_sub(before))
+    }
+
+    /// How much it takes that each of the nodes takes the events.
+    fn taken(&self, nodes: &mut [Node], events: &[Event]) -> Result<u64> {
+        let before = self.meter.read(self.rt)?;
+        each_takes(nodes, events)?;
+        self.more_than(before)
+    }
+
+    /// How much a run takes, in which so many copies of a node take the events.
+    fn run(&self, node: &Node, events: &[Event], count: usize) -> Result<u64> {
+        let mut nodes = copies(self.alloc, node, count)?;
+        self.taken(&mut nodes, events)
+    }
+
+    /// How much the copies of a run take.
+    fn copied(&self, node: &Node) -> Result<u64> {
+        let before = self.meter.read(self.rt)?;
+        let _nodes = copies(self.alloc, node, STEPS)?;
+        self.more_than(before)
+    }
+
+    /// Prints a figure.
+    fn print(&self, name: &str, figure: u64) -> Result<()> {
+        println!(self.rt; "{name}_{}{} {figure}", self.members, self.meter.ending())?;
+        Ok(())
+    }
+
+    /// Prints how much a step takes in the best run, where copies of a node take these events from
+    /// the same start, in about so many steps a run.
+    fn print_steps(&self, name: &str, node: &Node, events: &[Event], steps: usize) -> Result<()> {
+        let count = (steps / events.len().max(1)).max(2);
+        let mut least = u64::MAX;
+        for _ in 0..self.meter.runs() {
+            least = least.min(self.run(node, events, count)?);
+        }
+        let steps = count.saturating_mul(events.len()).max(1) as u64;
+        self.print(name, least / steps)
+    }
+
+    /// Prints how much a copy of a node takes.
+    fn print_copy(&self, node: &Node) -> Result<()> {
+        let mut least = u64::MAX;
+        for _ in 0..self.meter.runs() {
+            least = least.min(self.copied(node)?);
+        }
+        self.print("copy", least / STEPS as u64)
+    }
+
+    /// Prints how much a step at a vote takes.
+    fn print_votes(&self, configuration: &Configuration, node: &Node) -> Result<()> {
+        let events = votes(self.alloc, configuration.id(), self.members)?;
+        self.print_steps("vote_step", node, &events, STEPS)
+    }
+
+    /// Prints how much a step at a batch takes, in about so many steps a run.
+    fn print_batch(
+        &self,
+        name: &str,
+        configuration: &Configuration,
+        node: &Node,
+        steps: usize,
+    ) -> Result<()> {
+        let event = alerts_on_one(self.alloc, configuration)?;
+        self.print_steps(name, node, slice::from_ref(&event), steps)
+    }
+
+    /// Prints how much a step at a batch of 2,048 alerts takes.
+    fn print_great_batch(&self, configuration: &Configuration, node: &Node) -> Result<()> {
+        let event = alerts_on_many(self.alloc, configuration.id())?;
+        self.print_steps(
+            "great_batch_step",
+            node,
+            slice::from_ref(&event),
+            LONG_STEPS,
+        )
+    }
+
+    /// Prints how much a step at a tick takes.
+    fn print_ticks(&self, node: &Node) -> Result<()> {
+        self.print_steps("tick_step", node, &ticks(self.alloc)?, STEPS)
+    }
+
+    /// Prints the figures of a node that has taken nothing.
+    fn print_short(&self, configuration: &Configuration, node: &Node) -> Result<()> {
+        self.print_votes(configuration, node)?;
+        self.print_batch("batch_step", configuration, node, STEPS)?;
+        self.print_ticks(node)?;
+        self.print_copy(node)
+    }
+
+    /// Prints the figures of long batches, the second of them after many reports.
+    fn print_long(&self, configuration: &Configuration, node: &mut Node) -> Result<()> {
+        self.print_great_batch(configuration, node)?;
+        report_many(self.alloc, configuration, node)?;
+        self.print_batch("late_batch_step", configuration, node, LONG_STEPS)
+    }
+
+    /// Prints the figures of the founder's node.
+    fn print_founder(&self, configuration: &Configuration, is_long: bool) -> Result<()> {
+        let mut node = founder(self.alloc, configuration)?;
+        if is_long {
+            self.print_long(configuration, &mut *node)
+        } else {
+            self.print_short(configuration, &*node)
+        }
+    }
+
+    /// Prints the figures of the founding configuration.
+    fn print_all(&self, is_long: bool) -> Result<()> {
+        self.print_founder(&configuration(self.alloc, self.members)?, is_long)
+    }
+}
+
+/// Prints the figures of steps and copies, and those of long batches.
+fn print_with<R: Print + Clock + Files + Alloc>(rt: &R, alloc: Global, meter: Meter) -> Result<()> {
+    for members in SIZES {
+        Bench {
+            rt,
+            alloc,
+            meter,
+            members,
+        }
+        .print_all(false)?;
+    }
+    Bench {
         rt,
         alloc,
-        node,
-        &batch_steps(alloc, configuration, members)?,
-    )?;
-    print_time(rt, alloc, node, &tick_steps(alloc, members)?)?;
-    print_copy_time(rt, alloc, node, members)
-}
-
-/// Prints the figures of time of so many members.
-fn print_times_among<R: Print + Clock>(rt: &R, alloc: Global, members: u16) -> Result<()> {
-    let configuration = configuration(alloc, members)?;
-    let node = founder(alloc, &configuration)?;
-    print_times_of(rt, alloc, &configuration, &*node, members)
-}
-
-/// Prints the figures of time of long batches.
-fn print_long_times<R: Print + Clock>(rt: &R, alloc: Global) -> Result<()> {
-    let configuration = configuration(alloc, MEMBERS)?;
-    let mut node = founder(alloc, &configuration)?;
-    print_time(
-        rt,
-        alloc,
-        &*node,
-        &great_batch_steps(alloc, &configuration)?,
-    )?;
-    report_many(alloc, &configuration, &mut *node)?;
-    print_time(rt, alloc, &*node, &late_batch_steps(alloc, &configuration)?)
+        meter,
+        members: MEMBERS,
+    }
+    .print_all(true)
 }
 
 /// Prints the figures of time: `vote_step_5`, `batch_step_5`, `tick_step_5`, `copy_5` and so on,
 /// `great_batch_step_1024` and `late_batch_step_1024`.
-pub fn print<R: Print + Clock>(rt: &R, alloc: Global) -> Result<()> {
-    for members in SIZES {
-        print_times_among(rt, alloc, members)?;
-    }
-    print_long_times(rt, alloc)
-}
-
-/// How many bytes more are held after a run.
-fn run_bytes<R: Files + Alloc>(rt: &R, alloc: Global, node: &Node, steps: &Steps) -> Result<u64> {
-    let mut nodes = copies(alloc, node, steps.copies)?;
-    let before = held(rt)?;
-    each_takes(&mut nodes, &steps.events)?;
-    Ok(held(rt)?.saturating_sub(before))
-}
-
-/// Prints how many bytes more are held after a step.
-fn print_held<R: Print + Files + Alloc>(
-    rt: &R,
-    alloc: Global,
-    node: &Node,
-    steps: &Steps,
-) -> Result<()> {
-    let bytes = run_bytes(rt, alloc, node, steps)?;
-    println!(rt; "{}_bytes {}", steps.name, bytes / steps.count().max(1))?;
-    Ok(())
-}
-
-/// How many bytes more are held after the copies of a run.
-fn copied_bytes<R: Files + Alloc>(rt: &R, alloc: Global, node: &Node) -> Result<u64> {
-    let before = held(rt)?;
-    let _nodes = copies(alloc, node, STEPS)?;
-    Ok(held(rt)?.saturating_sub(before))
-}
-
-/// Prints how many bytes more are held after a copy of a node.
-fn print_copied<R: Print + Files + Alloc>(
-    rt: &R,
-    alloc: Global,
-    node: &Node,
-    members: u16,
-) -> Result<()> {
-    let bytes = copied_bytes(rt, alloc, node)?;
-    println!(rt; "copy_{members}_bytes {}", bytes / STEPS as u64)?;
-    Ok(())
-}
-
-/// Prints the figures of memory of a node among so many members.
-fn print_bytes_of<R: Print + Files + Alloc>(
-    rt: &R,
-    alloc: Global,
-    configuration: &Configuration,
-    node: &Node,
-    members: u16,
-) -> Result<()> {
-    print_held(rt, alloc, node, &vote_steps(alloc, configuration, members)?)?;
-    print_held(
-        rt,
-        alloc,
-        node,
-        &batch_steps(alloc, configuration, members)?,
-    )?;
-    print_held(rt, alloc, node, &tick_steps(alloc, members)?)?;
-    print_copied(rt, alloc, node, members)
-}
-
-/// Prints the figures of memory of so many members.
-fn print_bytes_among<R: Print + Files + Alloc>(rt: &R, alloc: Global, members: u16) -> Result<()> {
-    let configuration = configuration(alloc, members)?;
-    let node = founder(alloc, &configuration)?;
-    print_bytes_of(rt, alloc, &configuration, &*node, members)
-}
-
-/// Prints the figures of memory of long batches.
-fn print_long_bytes<R: Print + Files + Alloc>(rt: &R, alloc: Global) -> Result<()> {
-    let configuration = configuration(alloc, MEMBERS)?;
-    let mut node = founder(alloc, &configuration)?;
-    print_held(
-        rt,
-        alloc,
-        &*node,
-        &great_batch_steps(alloc, &configuration)?,
-    )?;
-    report_many(alloc, &configuration, &mut *node)?;
-    print_held(rt, alloc, &*node, &late_batch_steps(alloc, &configuration)?)
+pub fn print<R: Print + Clock + Files + Alloc>(rt: &R, alloc: Global) -> Result<()> {
+    print_with(rt, alloc, Meter::Time(Instant::now(rt)?))
 }
 
 /// Prints the figures of memory: `vote_step_5_bytes`, `copy_5_bytes` and so on. They are all that a
 /// step allocates where the allocator gives nothing back.
-pub fn print_bytes<R: Print + Files + Alloc>(rt: &R, alloc: Global) -> Result<()> {
-    for members in SIZES {
-        print_bytes_among(rt, alloc, members)?;
-    }
-    print_long_bytes(rt, alloc)
+pub fn print_bytes<R: Print + Clock + Files + Alloc>(rt: &R, alloc: Global) -> Result<()> {
+    print_with(rt, alloc, Meter::Memory)
 }
