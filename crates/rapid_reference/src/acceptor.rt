@@ -1,7 +1,7 @@
 // The acceptor as lists of what it promised and of its votes.
 use crate::cuts::{Cuts, NUMBERS, Number, number_of};
 use anyhow::{Context, Result, bail};
-use rapid_paxos::{AcceptError, Acceptor, Ballot, PromiseError};
+use rapid_paxos::{AcceptError, Acceptor, Ballot, Promise, PromiseError};
 use std::alloc::Global;
 
 /// How many calls a sequence has.
@@ -14,31 +14,28 @@ const SEQUENCES: usize = 20_736;
 /// A vote at a ballot.
 type Vote = (Ballot, Number);
 
-/// What was promised, and every vote in turn.
+/// Every ballot promised or voted at, and every vote in turn.
 #[derive(Drop)]
 struct BallotList {
-    promised: Vec<Ballot>,
+    ballots: Vec<Ballot>,
     votes: Vec<Vote>,
 }
 
 impl BallotList {
     /// The highest ballot promised or voted at, or the fast one.
     fn rnd(&self) -> Ballot {
-        let promised = self.promised.iter().max().copied().unwrap_or(Ballot::FAST);
-        let voted = self
-            .votes
-            .iter()
-            .map(|vote| vote.0)
-            .max()
-            .unwrap_or(Ballot::FAST);
-        promised.max(voted)
+        let mut highest = Ballot::FAST;
+        for ballot in &self.ballots {
+            highest = highest.max(*ballot);
+        }
+        highest
     }
 
     fn promise(&mut self, ballot: Ballot) -> Result<Result<Option<Vote>, PromiseError>> {
         if ballot <= self.rnd() {
             return Ok(Err(PromiseError::Promised(self.rnd())));
         }
-        self.promised.push(ballot)?;
+        self.ballots.push(ballot)?;
         Ok(Ok(self.votes.last().copied()))
     }
 
@@ -49,9 +46,24 @@ impl BallotList {
         if self.votes.iter().any(|vote| vote.0 == ballot) {
             return Ok(Err(AcceptError::AlreadyVoted));
         }
+        self.ballots.push(ballot)?;
         self.votes.push((ballot, number))?;
         Ok(Ok(()))
     }
+}
+
+/// The vote that a promise reports.
+fn vote_of(promise: &Promise) -> Option<Vote> {
+    match &promise.vote {
+        Some((ballot, cut)) => Some((*ballot, number_of(cut))),
+        None => None,
+    }
+}
+
+/// The acceptor promises a ballot; the vote that it reports.
+fn promised(acceptor: &mut Acceptor, ballot: Ballot) -> Result<Option<Vote>, PromiseError> {
+    let promise = acceptor.promise(ballot)?;
+    Ok(vote_of(&promise))
 }
 
 /// Makes one call, and answers whether it cast a vote.
@@ -64,9 +76,7 @@ fn call(
     kind: usize,
 ) -> Result<bool> {
     if kind == 1 {
-        let answer = acceptor.promise(ballot).map(|promise| promise
-            .vote
-            .map(|(voted, cut)| (voted, number_of(&cut))));
+        let answer = promised(acceptor, ballot);
         let expected = list.promise(ballot)?;
         if answer != expected {
             bail!("the promise of {ballot:?} is {answer:?} and not {expected:?}");
@@ -90,7 +100,7 @@ fn call(
 fn try_one(alloc: Global, cuts: &Cuts, ballots: [Ballot; 2], sequence: usize) -> Result<usize> {
     let mut acceptor = Acceptor::new(alloc);
     let mut list = BallotList {
-        promised: Vec::new(alloc),
+        ballots: Vec::new(alloc),
         votes: Vec::new(alloc),
     };
     let mut rest = sequence;

@@ -5,7 +5,7 @@ use crate::cuts::{Cuts, NUMBERS, Number, number_of};
 use anyhow::{Context, Result, bail};
 use rapid_config::Cut;
 use rapid_fast::fast_size;
-use rapid_paxos::{Ballot, Coordinator, Promise, classic_size};
+use rapid_paxos::{Accept, Ballot, Coordinator, Promise, classic_size};
 use std::alloc::{AllocError, Global};
 
 /// How many calls a sequence has after the first ballot is begun.
@@ -31,7 +31,10 @@ struct PromiseList {
 impl PromiseList {
     /// Begins the next ballot of the coordinator at position 0.
     fn begin(&mut self, alloc: Global, above: Ballot) -> Option<Ballot> {
-        let last = self.begun.map_or(0, |ballot| ballot.round());
+        let last = match self.begun {
+            Some(ballot) => ballot.round(),
+            None => 0,
+        };
         let round = above.round().max(last).saturating_add(1).max(2);
         self.begun = Ballot::classic(round, 0);
         self.promises = Vec::new(alloc);
@@ -98,9 +101,18 @@ fn reported(
     cuts: &Cuts,
     vote: Option<Vote>,
 ) -> Result<Option<(Ballot, Cut)>, AllocError> {
-    match vote {
-        Some((ballot, number)) => Ok(Some((ballot, cuts.of(number).try_copy(alloc)?))),
-        None => Ok(None),
+    let Some((ballot, number)) = vote else {
+        return Ok(None);
+    };
+    let cut = cuts.of(number).try_copy(alloc)?;
+    Ok(Some((ballot, cut)))
+}
+
+/// The ballot of a request, and the number of its cut.
+fn asked(accept: &Option<Accept>) -> Option<Vote> {
+    match accept {
+        Some(accept) => Some((accept.ballot, number_of(&accept.cut))),
+        None => None,
     }
 }
 
@@ -132,8 +144,12 @@ fn hear(
         None
     };
     let accept = coordinator.hear_promise(position, &promise, own)?;
-    let answer = accept.map(|accept| (accept.ballot, number_of(&accept.cut)));
-    if answer != expected.map(|number| (ballot, number)) {
+    let answer = asked(&accept);
+    let expected = match expected {
+        Some(number) => Some((ballot, number)),
+        None => None,
+    };
+    if answer != expected {
         bail!("coordinator among {size}: {answer:?} and not {expected:?}");
     }
     Ok(answer.is_some())

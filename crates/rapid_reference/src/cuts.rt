@@ -4,10 +4,10 @@ use rapid_config::Cut;
 use rapid_endpoint::{Endpoint, Process, ProcessId};
 use std::alloc::Global;
 
-/// A cut of one process, by the number of the process: 6 or 7.
+/// A process, by its number. A cut of one process too, by the number of the process: 6 or 7.
 pub type Number = u16;
 
-/// Both numbers, which ascend as their cuts do.
+/// The numbers of both cuts, which ascend as their cuts do.
 pub const NUMBERS: [Number; 2] = [6, 7];
 
 /// The cuts of both numbers.
@@ -17,14 +17,16 @@ pub struct Cuts {
     seven: Cut,
 }
 
-/// The cut of the process with this number: the identifier n, and the endpoint 127.0.0.1:n.
+/// The process with this number: the identifier n, and the endpoint 127.0.0.1:n.
+pub fn process(n: Number) -> Process {
+    let id = ProcessId::new(u128::from(n).to_be_bytes());
+    Process::new(id, Endpoint::new([127, 0, 0, 1], n))
+}
+
+/// The cut of the process with this number.
 fn cut(alloc: Global, n: Number) -> Result<Cut> {
-    let [high, low] = n.to_be_bytes();
-    let mut id = [0; 16];
-    id[14] = high;
-    id[15] = low;
     let mut processes = Vec::new(alloc);
-    processes.push(Process::new(ProcessId::new(id), Endpoint::new([127, 0, 0, 1], n)))?;
+    processes.push(process(n))?;
     Ok(Cut::new(processes)?)
 }
 
@@ -39,6 +41,14 @@ impl Cuts {
     /// The cut of the number 6 or 7.
     pub fn of(&self, number: Number) -> &Cut {
         if number == 6 { &self.six } else { &self.seven }
+    }
+}
+
+/// The number of a cut's first process, where there is a cut.
+pub fn number_in(cut: &Option<Cut>) -> Option<Number> {
+    match cut {
+        Some(cut) => Some(number_of(cut)),
+        None => None,
     }
 }
 

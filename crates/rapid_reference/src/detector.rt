@@ -1,9 +1,10 @@
 // The cut detector as a list of reports, which repeated passes close.
+use crate::cuts::{Number, process};
 use anyhow::{Result, bail};
 use rapid_alerts::{Alert, Kind};
 use rapid_config::{ConfigId, Cut, Params};
 use rapid_cut::Detector;
-use rapid_endpoint::{Endpoint, Process, ProcessId};
+use rapid_endpoint::Process;
 use rapid_rings::Table;
 use std::alloc::{AllocError, Global};
 
@@ -13,10 +14,7 @@ const LENGTH: usize = 4;
 /// How many sequences there are: each alert is one of nine, and ends its batch or does not.
 const SEQUENCES: usize = 104_976;
 
-/// A process, by its number: 1 to 3 are members, 4 is a joiner.
-type Number = u16;
-
-/// A report on a process, for a ring.
+/// A report on a process, for a ring. The processes 1 to 3 are members, 4 is a joiner.
 type Report = (Number, u8);
 
 /// Who observes whom on each of two rings: ring, observer, subject.
@@ -30,15 +28,6 @@ const EDGES: [(u8, Number, Number); 8] = [
     (1, 2, 3),
     (1, 2, 4),
 ];
-
-/// The process with this number: the identifier n, and the endpoint 127.0.0.1:n.
-pub fn process(n: Number) -> Process {
-    let [high, low] = n.to_be_bytes();
-    let mut id = [0; 16];
-    id[14] = high;
-    id[15] = low;
-    Process::new(ProcessId::new(id), Endpoint::new([127, 0, 0, 1], n))
-}
 
 /// The numbers of these processes.
 fn numbers(alloc: Global, processes: &[Process]) -> Result<Vec<Number>, AllocError> {
@@ -117,13 +106,19 @@ impl ReportList {
     }
 }
 
+/// Adds the edges.
+fn add_edges(table: &mut Table) -> Result<()> {
+    for edge in EDGES.iter() {
+        table.add(edge.0, process(edge.1), process(edge.2))?;
+    }
+    Ok(())
+}
+
 /// The table of the edges, with these marks.
 fn table(alloc: Global, high: u8, low: u8) -> Result<Table> {
     let mut table = Table::new(alloc, Params::new(2, high, low)?);
     table.joiner(process(4))?;
-    for edge in EDGES.iter() {
-        table.add(edge.0, process(edge.1), process(edge.2))?;
-    }
+    add_edges(&mut table)?;
     Ok(table)
 }
 
@@ -205,6 +200,20 @@ fn batch(
     Ok(answer.is_some())
 }
 
+/// Adds the alert with this number, and the report that it makes.
+fn put(
+    alerts: &mut Vec<Alert>,
+    reports: &mut Vec<Report>,
+    number: usize,
+) -> Result<(), AllocError> {
+    let (alert, report) = alert(number);
+    alerts.push(alert)?;
+    if let Some(report) = report {
+        reports.push(report)?;
+    }
+    Ok(())
+}
+
 /// Tries one sequence, and answers how many cuts there were in it.
 fn try_one(alloc: Global, high: u8, low: u8, sequence: usize) -> Result<usize> {
     let mut detector = Detector::new(alloc, table(alloc, high, low)?);
@@ -214,19 +223,24 @@ fn try_one(alloc: Global, high: u8, low: u8, sequence: usize) -> Result<usize> {
         reports: Vec::new(alloc),
         closed: false,
     };
+    take(alloc, &mut detector, &mut list, sequence)
+}
+
+/// Both take a sequence; how many cuts there were in it.
+fn take(
+    alloc: Global,
+    detector: &mut Detector<Table>,
+    list: &mut ReportList,
+    sequence: usize,
+) -> Result<usize> {
     let mut rest = sequence;
     let mut cuts: usize = 0;
     let mut alerts = Vec::new(alloc);
     let mut reports = Vec::new(alloc);
     for _ in 0..LENGTH {
-        let (alert, report) = alert(rest % 9);
-        alerts.push(alert)?;
-        if let Some(report) = report {
-            reports.push(report)?;
-        }
+        put(&mut alerts, &mut reports, rest % 9)?;
         if rest / 9 % 2 == 0 {
-            let (alerts_now, reports_now) = (alerts.as_slice(), reports.as_slice());
-            let has_cut = batch(alloc, &mut detector, &mut list, alerts_now, reports_now)?;
+            let has_cut = batch(alloc, detector, list, &alerts, &reports)?;
             cuts = cuts.saturating_add(usize::from(has_cut));
             alerts.clear();
             reports.clear();

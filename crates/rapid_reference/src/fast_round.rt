@@ -1,7 +1,7 @@
 // The fast round as a list of votes.
 ghost use Rattle.std.specs.Prelude.{◌≤◌};
 
-use crate::cuts::{Cuts, NUMBERS, Number, number_of};
+use crate::cuts::{Cuts, NUMBERS, Number, number_in};
 use anyhow::{Result, bail};
 use rapid_fast::{FastRound, HearError, fast_size};
 use std::alloc::Global;
@@ -50,9 +50,10 @@ fn try_one(alloc: Global, cuts: &Cuts, size: usize, sequence: usize) -> Result<u
         } else {
             Err(HearError::NotMember)
         };
-        let decided = round
-            .hear(position, cuts.of(number))
-            .map(|cut| cut.map(|cut| number_of(&cut)));
+        let decided = match round.hear(position, cuts.of(number)) {
+            Ok(cut) => Ok(number_in(&cut)),
+            Err(error) => Err(error),
+        };
         if decided != expected {
             bail!("fast round of {size}, sequence {sequence}: {decided:?} and not {expected:?}");
         }

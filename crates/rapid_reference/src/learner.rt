@@ -1,7 +1,7 @@
 // The learner as a list of notices.
 ghost use Rattle.std.specs.Prelude.{◌≤◌};
 
-use crate::cuts::{Cuts, NUMBERS, Number, number_of};
+use crate::cuts::{Cuts, NUMBERS, Number, number_in};
 use anyhow::{Context, Result, bail};
 use rapid_paxos::{Ballot, Learner, classic_size};
 use std::alloc::Global;
@@ -63,8 +63,7 @@ fn try_one(
         let ballot = ballots[rest / 8 % 2];
         rest /= 16;
         if position < size {
-            let cut = learner.hear(position, ballot, cuts.of(number))?;
-            let answer = cut.map(|cut| number_of(&cut));
+            let answer = number_in(&learner.hear(position, ballot, cuts.of(number))?);
             let expected = list.hear(classic_size(size), position, ballot, number)?;
             if answer != expected {
                 bail!("learner among {size}, sequence {sequence}: {answer:?} and not {expected:?}");
