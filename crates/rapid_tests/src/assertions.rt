@@ -3,6 +3,8 @@
 use crate::founding::process;
 use crate::network::Network;
 use crate::said::{Said, To, said_by, whom};
+use rapid_config::ConfigId;
+use rapid_endpoint::Process;
 use rapid_node::{Event, Node, NodeFault, Outputs, Phase};
 use std::process::Abort;
 use std::test::Fail;
@@ -15,35 +17,40 @@ pub fn assert_sent_after(
     expected: &[(u16, To, Said)],
 ) {
     for (sent, expected) in network.sent().iter().skip(before).zip(expected) {
-        assert_eq!(rt; sent, expected);
+        assert!(rt; sent == expected);
     }
-    assert_eq!(rt; network.sent().len().wrapping_sub(before), expected.len());
-}
-
-/// Checks all that the nodes sent, in order: who, to whom, and what.
-pub fn assert_sent(rt: &impl Abort, network: &Network, expected: &[(u16, To, Said)]) {
-    assert_sent_after(rt, network, 0, expected);
+    assert!(rt; network.sent().len().wrapping_sub(before) == expected.len());
 }
 
 /// Checks which node installed a configuration of which height, in order, beside the founding one.
 pub fn assert_installs(rt: &impl Abort, network: &Network, expected: &[(u16, u64)]) {
-    assert!(rt; network.installs() == expected, "{:?}", network.installs());
+    assert!(rt; network.installs() == expected);
 }
 
 /// Checks that a node shows the configuration of this height and these members, and that it
 /// installed that last.
 pub fn assert_shows(rt: &impl Abort, node: &Node, height: u64, members: &[u16]) {
     let shown = node.configuration().expect(rt, "a configuration");
-    let last = node.installed().last().expect(rt, "a stamp");
-    assert_eq!(rt;
-        (shown.height(), shown.members().len()),
-        (height, members.len())
-    );
-    assert_eq!(rt; (last.height(), last.members()), (height, members.len()));
-    assert!(rt; last.id() == shown.id());
-    for (member, number) in shown.members().iter().zip(members) {
-        assert!(rt; *member == process(*number), "{number}");
+    assert!(rt; shown.height() == height);
+    assert_members(rt, shown.members(), members);
+    assert_last(rt, node, shown.id(), height, members.len());
+}
+
+/// Checks that these are the processes with these numbers.
+fn assert_members(rt: &impl Abort, shown: &[Process], members: &[u16]) {
+    assert!(rt; shown.len() == members.len());
+    for (member, number) in shown.iter().zip(members) {
+        assert!(rt; *member == process(*number));
     }
+}
+
+/// Checks that the last configuration that a node installed has this identifier, this height and so
+/// many members.
+fn assert_last(rt: &impl Abort, node: &Node, id: ConfigId, height: u64, members: usize) {
+    let last = node.installed().last().expect(rt, "a stamp");
+    assert!(rt; last.height() == height);
+    assert!(rt; last.members() == members);
+    assert!(rt; last.id() == id);
 }
 
 /// Checks that a node is a member of the configuration of this height and these members.
@@ -68,27 +75,32 @@ pub fn assert_views(
 
 /// Checks the phase of a node.
 pub fn assert_phase(rt: &impl Abort, node: &Node, phase: Phase) {
-    assert!(rt; node.phase() == phase, "{:?}", node.phase());
+    assert!(rt; node.phase() == phase);
 }
 
 /// Tells a node of an event, and answers what it sends.
-pub fn told(node: &mut Node, event: &Event) -> Result<Outputs, NodeFault> {
+pub fn told_of(node: &mut Node, event: &Event) -> Result<Outputs, NodeFault> {
     node.step(event)
+}
+
+/// Tells a node of an event that is not needed any more, and answers what it sends.
+pub fn told(node: &mut Node, event: Event) -> Result<Outputs, NodeFault> {
+    told_of(node, &event)
 }
 
 /// Checks that a node has halted, and says so at an event.
 pub fn assert_halted(rt: &impl Abort, node: &mut Node, event: &Event) {
     assert_phase(rt, node, Phase::Halted);
-    assert_eq!(rt; told(node, event).err(), Some(NodeFault::Halted));
+    assert!(rt; told_of(node, event).err() == Some(NodeFault::Halted));
 }
 
 /// Checks what a node sent in a step, in order: to whom, and what.
 pub fn assert_outputs(rt: &impl Abort, outputs: &Outputs, expected: &[(To, Said)]) {
     for (output, expected) in outputs.iter().zip(expected) {
         let sent = (whom(output.to()), said_by(output.message().body()));
-        assert_eq!(rt; sent, *expected);
+        assert!(rt; sent == *expected);
     }
-    assert_eq!(rt; outputs.len(), expected.len());
+    assert!(rt; outputs.len() == expected.len());
 }
 
 /// Tells a node of an event and checks what it sends, in order: to whom, and what.
@@ -98,7 +110,7 @@ pub fn assert_answers(
     event: &Event,
     expected: &[(To, Said)],
 ) -> Result<(), Fail> {
-    let outputs = told(node, event)?;
+    let outputs = told_of(node, event)?;
     for output in &outputs {
         assert!(rt; output.message().sender() == node.process());
     }

@@ -1,10 +1,8 @@
 // Two joiners get two fast votes of five each, and recovery lets one of them in.
 
-use crate::assertions::{assert_installs, assert_sent, assert_views};
-use crate::network::{Action, Network};
+use crate::network::Action;
+use crate::plays::{Line, plays};
 use crate::said::{Said, To};
-use std::alloc::Global;
-use std::process::Abort;
 use std::test::Fail;
 
 /// Five founders: two vote for one joiner and two for another, no vote is heard, and the first
@@ -50,51 +48,55 @@ const SENT: [(u16, To, Said); 14] = [
     (5, To::Others, Said::Accepted((2, 0), 6)),
 ];
 
-/// The network when all have accepted.
-fn accepted(rt: &impl Abort, alloc: Global) -> Result<Network, Fail> {
-    let mut network = Network::found(rt, alloc, (1, 1, 1), &[1, 2, 3, 4, 5])?;
-    network.run(rt, &BALLOT_BEGINS)?;
-    network.run(rt, &ALL_ACCEPT)?;
-    Ok(network)
-}
-
-/// The network when all notices of votes, the packets from 31 to 50, were heard.
-fn decided(rt: &impl Abort, alloc: Global) -> Result<Network, Fail> {
-    let mut network = accepted(rt, alloc)?;
-    for packet in 31..51 {
-        network.run(rt, &[Action::Deliver(packet)])?;
-    }
-    Ok(network)
-}
+/// The founders.
+const FIVE: [u16; 5] = [1, 2, 3, 4, 5];
 
 /// The first member asks for the cut that two of the three members promised for; who has accepted
 /// sends no fast vote.
+const ASKED: [Line; 4] = [
+    Line::Does(&BALLOT_BEGINS),
+    Line::Does(&ALL_ACCEPT),
+    Line::SentAfter(0, &SENT),
+    Line::Installs(&[]),
+];
+
 #[test]
 fn recovery_asks_for_the_cut_that_may_be_chosen(rt: HostRuntime) -> Result<(), Fail> {
-    let network = accepted(&rt, rt.alloc())?;
-    assert_sent(&rt, &network, &SENT);
-    assert_installs(&rt, &network, &[]);
-    Ok(())
+    plays(&rt, rt.alloc(), (1, 1, 1), &FIVE, &ASKED)
 }
+
+/// All notices of votes, the packets from 31 to 50, are heard.
+const NOTICES: [Action; 1] = [Action::DeliverAll(31, 51)];
+
+/// All let the first joiner in.
+const LET_IN: [Line; 5] = [
+    Line::Does(&BALLOT_BEGINS),
+    Line::Does(&ALL_ACCEPT),
+    Line::Does(&NOTICES),
+    Line::Installs(&[(3, 1), (4, 1), (5, 1), (1, 1), (2, 1)]),
+    Line::Views(&FIVE, 1, &[1, 2, 3, 4, 5, 6]),
+];
 
 #[test]
 fn all_let_the_same_joiner_in_once(rt: HostRuntime) -> Result<(), Fail> {
-    let network = decided(&rt, rt.alloc())?;
-    let installs = [(3, 1), (4, 1), (5, 1), (1, 1), (2, 1)];
-    assert_installs(&rt, &network, &installs);
-    assert_views(&rt, &network, &[1, 2, 3, 4, 5], 1, &[1, 2, 3, 4, 5, 6]);
-    Ok(())
+    plays(&rt, rt.alloc(), (1, 1, 1), &FIVE, &LET_IN)
 }
 
 /// What comes for the configuration that was left is answered with the decision: ten notices that
 /// came late, and then a vote.
+const LATE: [Line; 9] = [
+    Line::Does(&BALLOT_BEGINS),
+    Line::Does(&ALL_ACCEPT),
+    Line::Does(&NOTICES),
+    Line::SentCount(24),
+    Line::Packets(60),
+    Line::Does(&[Action::Deliver(9)]),
+    Line::SentCount(25),
+    Line::Packets(61),
+    Line::SentAfter(24, &[(1, To::Node(3), Said::Decision(6))]),
+];
+
 #[test]
 fn who_is_late_is_told_the_decision(rt: HostRuntime) -> Result<(), Fail> {
-    let mut network = decided(&rt, rt.alloc())?;
-    assert_eq!(rt; (network.sent().len(), network.packets()), (24, 60));
-    network.run(&rt, &[Action::Deliver(9)])?;
-    assert_eq!(rt; (network.sent().len(), network.packets()), (25, 61));
-    let last = network.sent().last();
-    assert!(rt; last == Some(&(1, To::Node(3), Said::Decision(6))));
-    Ok(())
+    plays(&rt, rt.alloc(), (1, 1, 1), &FIVE, &LATE)
 }

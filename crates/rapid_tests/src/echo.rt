@@ -1,20 +1,9 @@
 // An unstable process is echoed by all that observe it.
 
-use crate::assertions::{assert_installs, assert_phase, assert_sent, assert_shows, assert_views};
-use crate::network::{Action, Network};
+use crate::network::Action;
+use crate::plays::{Line, plays};
 use crate::said::{Said, To};
-use rapid_node::Phase;
 use std::test::Fail;
-
-/// What the first of two members sends in 41 ticks, after one of three edges to the other went
-/// down.
-const SENT: [(u16, To, Said); 5] = [
-    (1, To::Others, Said::Batch(1)),
-    (1, To::Others, Said::Batch(1)),
-    (1, To::Others, Said::Batch(1)),
-    (1, To::Others, Said::Batch(2)),
-    (1, To::Others, Said::Vote(2)),
-];
 
 /// The edge goes down on ring 0 alone.
 const DOWN: Action = Action::Down {
@@ -23,28 +12,49 @@ const DOWN: Action = Action::Down {
     subject: 2,
 };
 
-/// The process is unstable at the ticks 2 to 41, so nothing but the first alert goes out until the
-/// last of these.
+/// The first of two members ticks 41 times, after one of three edges to the other went down. The
+/// process is unstable at the ticks 2 to 41, so nothing but the first alert goes out until the last
+/// of these.
+const ECHOED: [Line; 14] = [
+    Line::Does(&[DOWN]),
+    Line::Does(&[Action::Tick(1, 1)]),
+    Line::Packets(1),
+    Line::Does(&[Action::Tick(1, 18)]),
+    Line::Packets(1),
+    Line::Does(&[Action::Tick(1, 1)]),
+    Line::Packets(2),
+    Line::Does(&[Action::Tick(1, 19)]),
+    Line::Packets(2),
+    Line::Does(&[Action::Tick(1, 1)]),
+    Line::Packets(3),
+    Line::Does(&[Action::Tick(1, 1)]),
+    Line::Packets(5),
+    Line::SentAfter(
+        0,
+        &[
+            (1, To::Others, Said::Batch(1)),
+            (1, To::Others, Said::Batch(1)),
+            (1, To::Others, Said::Batch(1)),
+            (1, To::Others, Said::Batch(2)),
+            (1, To::Others, Said::Vote(2)),
+        ],
+    ),
+];
+
 #[test]
 fn an_unstable_process_is_echoed_at_the_tick_41(rt: HostRuntime) -> Result<(), Fail> {
-    let mut network = Network::found(&rt, rt.alloc(), (3, 3, 1), &[1, 2])?;
-    network.run(&rt, &[DOWN])?;
-    for (count, packets) in [(1, 1), (18, 1), (1, 2), (19, 2), (1, 3), (1, 5)] {
-        network.run(&rt, &[Action::Tick(1, count)])?;
-        assert_eq!(rt; network.packets(), packets);
-    }
-    assert_sent(&rt, &network, &SENT);
-    Ok(())
+    plays(&rt, rt.alloc(), (3, 3, 1), &[1, 2], &ECHOED)
 }
+
+/// The two hear what is sent in these ticks.
+const CUT_OUT: [Line; 4] = [
+    Line::Does(&[DOWN, Action::Tick(1, 41), Action::Flow]),
+    Line::Installs(&[(2, 1), (1, 1)]),
+    Line::Views(&[1], 1, &[1]),
+    Line::Removed(2, 1, &[1]),
+];
 
 #[test]
 fn an_echo_cuts_out(rt: HostRuntime) -> Result<(), Fail> {
-    let mut network = Network::found(&rt, rt.alloc(), (3, 3, 1), &[1, 2])?;
-    network.run(&rt, &[DOWN, Action::Tick(1, 41), Action::Flow])?;
-    assert_installs(&rt, &network, &[(2, 1), (1, 1)]);
-    assert_views(&rt, &network, &[1], 1, &[1]);
-    let other = network.node(2).expect(&rt, "a node");
-    assert_phase(&rt, other, Phase::Removed);
-    assert_shows(&rt, other, 1, &[1]);
-    Ok(())
+    plays(&rt, rt.alloc(), (3, 3, 1), &[1, 2], &CUT_OUT)
 }

@@ -79,8 +79,3 @@ pub fn decision(rt: &impl Abort, alloc: Global, node: &Node, number: u16) -> Res
     let body = Body::Decision(shown(rt, node), cut(alloc, number)?);
     Ok(Event::Receive(Message::new(process(number), body)?))
 }
-
-/// That the edge of a node to the process with this number went down on a ring.
-pub fn edge_down(rt: &impl Abort, node: &Node, ring: u8, number: u16) -> Event {
-    Event::EdgeDown(shown(rt, node), ring, process(number))
-}

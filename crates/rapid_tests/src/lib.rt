@@ -25,6 +25,8 @@ mod memory;
 #[cfg(test)]
 mod network;
 #[cfg(test)]
+mod plays;
+#[cfg(test)]
 mod probes;
 #[cfg(test)]
 mod recovery;
@@ -32,3 +34,5 @@ mod recovery;
 mod said;
 #[cfg(test)]
 mod shared;
+#[cfg(test)]
+mod steps;

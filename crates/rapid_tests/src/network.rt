@@ -2,7 +2,7 @@
 
 ghost use Rattle.std.specs.Prelude.{◌<◌, length, IfSome};
 
-use crate::assertions::told;
+use crate::assertions::told_of;
 use crate::founding::{decision, founder, founding, joiner, process};
 use crate::said::{Said, To, said_by, whom};
 use rapid_alerts::{Alert, Kind};
@@ -18,7 +18,7 @@ use std::test::Fail;
 const MOST: usize = 1000;
 
 /// A message on its way to an endpoint.
-#[derive(Debug, Drop)]
+#[derive(Drop)]
 struct Packet {
     to: Endpoint,
     message: Message,
@@ -27,7 +27,7 @@ struct Packet {
 
 /// What is done to a network. Nodes are named by the numbers of their processes, and packets are
 /// numbered from 1 in the order sent.
-#[derive(Clone, Copy, Debug)]
+#[derive(Clone, Copy)]
 pub enum Action {
     /// A process starts to join by a seed.
     Start { node: u16, seed: u16 },
@@ -41,6 +41,8 @@ pub enum Action {
     Lose(u16),
     /// A packet reaches its node.
     Deliver(usize),
+    /// The packets from the first number on, before the other, reach their nodes.
+    DeliverAll(usize, usize),
     /// A packet is lost.
     Drop(usize),
     /// All packets that wait reach their nodes, and so do those sent in turn.
@@ -52,7 +54,7 @@ pub enum Action {
 }
 
 /// Some nodes, and what they sent.
-#[derive(Debug, Drop)]
+#[derive(Drop)]
 pub struct Network {
     alloc: Global,
     founding: Configuration,
@@ -102,6 +104,17 @@ fn packet_to(alloc: Global, to: Endpoint, output: &Output) -> Result<Packet, Fai
     })
 }
 
+/// The observer of a process on ring 0.
+fn observer(
+    rt: &impl Abort,
+    alloc: Global,
+    configuration: &Configuration,
+    process: &Process,
+) -> Result<Process, Fail> {
+    let rings = Rings::new(alloc, configuration)?;
+    Ok(rings.observer(0, process).expect(rt, "an observer"))
+}
+
 /// The batch of the one alert of its observer that a process joins.
 pub fn joining(
     rt: &impl Abort,
@@ -109,8 +122,7 @@ pub fn joining(
     configuration: &Configuration,
     joiner: Process,
 ) -> Result<Message, Fail> {
-    let rings = Rings::new(alloc, configuration)?;
-    let observer = rings.observer(0, &joiner).expect(rt, "an observer");
+    let observer = observer(rt, alloc, configuration, &joiner)?;
     let alert = Alert {
         observer,
         subject: joiner,
@@ -189,7 +201,7 @@ impl Network {
         };
         let others = others(self.alloc, node)?;
         let before = node.installed().len();
-        let outputs = told(node, event)?;
+        let outputs = told_of(node, event)?;
         if let Some(stamp) = node.installed().get(before) {
             self.installs
                 .push((number(&node.process()), stamp.height()))?;
@@ -208,9 +220,14 @@ impl Network {
         }
     }
 
-    /// Tells the node with this number of an event.
-    fn tell_node(&mut self, number: u16, event: &Event) -> Result<(), Fail> {
-        self.tell(process(number).endpoint(), event)
+    /// An event reaches the node at an endpoint, if there is one.
+    fn reach(&mut self, to: Endpoint, event: Event) -> Result<(), Fail> {
+        self.tell(to, &event)
+    }
+
+    /// An event reaches the node with this number.
+    fn reach_node(&mut self, number: u16, event: Event) -> Result<(), Fail> {
+        self.reach(process(number).endpoint(), event)
     }
 
     /// A process starts to join.
@@ -229,15 +246,15 @@ impl Network {
     /// A node ticks so often.
     fn tick(&mut self, number: u16, count: usize) -> Result<(), Fail> {
         for _ in 0..count {
-            self.tell_node(number, &Event::Tick)?;
+            self.reach_node(number, Event::Tick)?;
         }
         Ok(())
     }
 
     /// An edge of a node went down, in the founding configuration.
     fn down(&mut self, node: u16, ring: u8, subject: u16) -> Result<(), Fail> {
-        let event = Event::EdgeDown(self.founding.id(), ring, process(subject));
-        self.tell_node(node, &event)
+        let id = self.founding.id();
+        self.reach_node(node, Event::EdgeDown(id, ring, process(subject)))
     }
 
     /// All edges to a process went down, in the founding configuration.
@@ -258,8 +275,16 @@ impl Network {
         };
         packet.is_settled = true;
         let to = packet.to;
-        let event = Event::Receive(packet.message.try_copy(self.alloc)?);
-        self.tell(to, &event)
+        let message = packet.message.try_copy(self.alloc)?;
+        self.reach(to, Event::Receive(message))
+    }
+
+    /// The packets from the first number on, before the other, reach their nodes.
+    fn hand_all_on(&mut self, first: usize, end: usize) -> Result<(), Fail> {
+        for number in first..end {
+            self.hand_on(number.wrapping_sub(1))?;
+        }
+        Ok(())
     }
 
     /// The packet with this number is lost.
@@ -283,16 +308,22 @@ impl Network {
         Ok(())
     }
 
-    /// A message reaches a node.
-    fn receive(&mut self, number: u16, message: Message) -> Result<(), Fail> {
-        self.tell_node(number, &Event::Receive(message))
+    /// The batch of the one alert of its observer that a process joins reaches a node.
+    fn join(&mut self, rt: &impl Abort, joiner: u16, number: u16) -> Result<(), Fail> {
+        let message = joining(rt, self.alloc, &self.founding, process(joiner))?;
+        self.reach_node(number, Event::Receive(message))
+    }
+
+    /// That the cut of a process is decided in the configuration of a node.
+    fn decision(&self, rt: &impl Abort, number: u16, subject: u16) -> Result<Event, Fail> {
+        let node = self.node(number).expect(rt, "a node");
+        decision(rt, self.alloc, node, subject)
     }
 
     /// A node is told of a decision in its configuration.
     fn decide(&mut self, rt: &impl Abort, number: u16, subject: u16) -> Result<(), Fail> {
-        let node = self.node(number).expect(rt, "a node");
-        let event = decision(rt, self.alloc, node, subject)?;
-        self.tell_node(number, &event)
+        let event = self.decision(rt, number, subject)?;
+        self.reach_node(number, event)
     }
 
     /// Does this to the network.
@@ -311,15 +342,13 @@ impl Network {
             } => self.down(node, ring, subject),
             Action::Lose(subject) => self.lose(subject),
             Action::Deliver(packet) => self.hand_on(packet.wrapping_sub(1)),
+            Action::DeliverAll(first, end) => self.hand_all_on(first, end),
             Action::Drop(packet) => {
                 self.lose_packet(packet);
                 Ok(())
             }
             Action::Flow => self.flow(),
-            Action::Joining { joiner, node } => {
-                let message = joining(rt, self.alloc, &self.founding, process(joiner))?;
-                self.receive(node, message)
-            }
+            Action::Joining { joiner, node } => self.join(rt, joiner, node),
             Action::Decide { node, subject } => self.decide(rt, node, subject),
         }
     }
