@@ -11,10 +11,10 @@ since a function calls another that is changed too, is tried again without the e
 refused already. An edit that this leaves undecided, or that changes more than bodies, is tried
 alone, as `rt` does it. That the crate is proved without any edit was seen before.
 
-In `rt ci` a check of edits takes over what the proof of the crate, in the same run, found proved, so
-that it proves no function that neither changes nor rests on one that does. For this the library of a
-crate with edits is built with its checked modules, and not with its statements alone; the crates
-above it, which load what they cite, are proved over either in the same time.
+In `rt ci` a check of edits takes over what the proof of the crate, in the same run, found proved,
+so that it proves no function that neither changes nor rests on one that does. For this the library
+of a crate with edits is built with its checked modules, and not with its statements alone; the
+crates above it, which load what they cite, are proved over either in the same time.
 
 All else is the toolchain's own rt, which is read as a module.
 """
@@ -188,8 +188,8 @@ def applied(edits, folder):
 
 
 def is_of(function, crate, verdict):
-    """Whether a verdict's name is that of a function, or of a closure within it. The prover names
-    the methods of a type by the module of the type, and puts the name of a trait behind the type's."""
+    """Whether a verdict's name is that of a function, or of a closure within it. The prover names the
+    methods of a type by the module of the type, and puts the name of a trait behind the type's."""
     module, owner, name, others = function
     modules = r"(?:\w+::)*" if owner else re.escape(f"{module}::" if module else "")
     barred = "".join(f"(?!{it})" for it in others)
