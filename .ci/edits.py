@@ -4,12 +4,16 @@
     .ci/edits.py NAME..     `rt must-fail NAME..`, with the edits tried so
 
 The command `rt` tries the edits of a crate one by one, and each time reads again all that the crate
-stands on. Here those that change bodies of different functions are tried in one check, and an edit
-counts as refused where the prover says that the very function which it changes is not proved, shows
-what is open in it, and names nothing else that is not proved as the reason. What is left then,
-since a function calls another that is changed too, is tried again without the edits that are
-refused already. An edit that this leaves undecided, or that changes more than bodies, is tried
-alone, as `rt` does it. That the crate is proved without any edit was seen before.
+stands on. Here an edit of one function's body is tried as a twin of that function (twins.py), all
+of a crate in one check, and counts as refused where the prover says that the twin is not proved,
+shows what is open in it, and names nothing else that is not proved as the reason. A twin with the
+body as it is stands beside them, the control: where it is not proved, none of them counts. What is
+left is tried in the place of the function, in checks of many that change different functions, and
+what that leaves undecided, since a function calls another that is changed too, again without those
+refused already. An edit that is still undecided, or that changes more than bodies, is tried alone,
+as `rt` does it. That the crate is proved without any edit was seen before.
+
+    .ci/edits.py --unchanged NAME..     tries all twins with the bodies as they are: each is proved
 
 In `rt ci` a check of edits takes over what the proof of the crate, in the same run, found proved,
 so that it proves no function that neither changes nor rests on one that does. For this the library
@@ -23,20 +27,18 @@ import json
 import os
 import re
 import shutil
+import subprocess
 import sys
 import tempfile
 from collections import namedtuple
 from pathlib import Path
 
 sys.dont_write_bytecode = True
+import source  # noqa: E402
 import toolchain  # noqa: E402
+import twins  # noqa: E402
 
 ALONE = ["--jobs", "1"]
-FUNCTION = re.compile(r"\bfn (\w+)")
-VISIBLE = re.compile(r"(?:#\[cfg\(test\)\]\s*)?(?:\bpub(?:\(\w+\))?\s*)?$")
-CLAUSE = re.compile(r"\b(?:requires|ensures|ghost)\b")
-IMPL = re.compile(r"^impl\b.*", re.M)
-TYPE = re.compile(r"\b(?:struct|enum|trait) (\w+)")
 VERDICT = re.compile(r"^fn (\S+): (proved|not proved|no proof|could not tell)(.*)$", re.M)
 RESTS_ON = re.compile(r"([^;]*), which (?:is|are) not proved")
 UNPROVED_GOAL = "`search` did not prove"
@@ -66,93 +68,11 @@ def pairs_of(text):
     return pairs
 
 
-def without_parameters(header):
-    """The first line of an impl without its type parameters."""
-    depth = 0
-    for at, letter in enumerate(header):
-        depth += (letter == "<") - (letter == ">" and header[at - 1] != "-")
-        if depth == 0 and at >= len("impl"):
-            return header[at:]
-    return header
-
-
-def type_at(text, at):
-    """The type of the impl that a place of a source file stands in, if it stands in one."""
-    before = [it for it in IMPL.finditer(text) if it.start() <= at]
-    if not before or re.search(r"^}", text[before[-1].start() : at], re.M):
-        return None
-    header = without_parameters(before[-1][0].partition("{")[0])
-    named = re.findall(r"\b[A-Z]\w*", header.rpartition(" for ")[2])
-    return named[0] if named else None
-
-
-def group_end(text, at):
-    """Where the group ends that a brace opens."""
-    depth = 0
-    for place in range(at, len(text)):
-        depth += (text[place] == "{") - (text[place] == "}")
-        if depth == 0:
-            return place + 1
-    return len(text)
-
-
-def body_of(text, at):
-    """Where the body of the function begins and ends whose head begins here; none where it has no
-    body. A group of braces before the body is that of a clause."""
-    depth, place, head = 0, at, at
-    while place < len(text):
-        letter = text[place]
-        depth += (letter in "([") - (letter in ")]")
-        if letter == ";" and depth == 0:
-            return None
-        if letter == "{":
-            end = group_end(text, place)
-            if not CLAUSE.search(text[head:place]):
-                return place, end
-            place = head = end
-        else:
-            place += 1
-    return None
-
-
-def taken_apart(file, text):
-    """The functions of a source file, each by its module, type and name with its head and its body,
-    and the text outside of them."""
-    parts = file[len("src/") : -len(".rt")].split("/")
-    module = "::".join(it for it in parts if it not in ("lib", "main", "mod"))
-    functions, outside, at = {}, "", 0
-    for found in FUNCTION.finditer(text):
-        body = body_of(text, found.start()) if found.start() >= at else None
-        if body is None:
-            continue
-        key = module, type_at(text, found.start()), found[1]
-        functions[key] = " ".join(text[found.start() : body[0]].split()), text[body[0] : body[1]]
-        outside, at = outside + VISIBLE.sub("", text[at : found.start()]), body[1]
-    return functions, " ".join((outside + text[at:]).split())
-
-
-def changed_bodies(file, old, new):
-    """The functions whose bodies differ in two texts of a source file, of which the second may have
-    functions more; none where something else differs."""
-    if not file.startswith("src/"):
-        return set()
-    (before, outside), (after, now) = taken_apart(file, old), taken_apart(file, new)
-    if outside != now or any(it not in after or after[it][0] != before[it][0] for it in before):
-        return set()
-    return {it for it in before if after[it] != before[it]}
-
-
 def named(keys, types):
     """Functions given by module, type and name, in a crate of these types."""
     for module, owner, name in keys:
         longer = (it for it in types if owner and it.startswith(owner) and it != owner)
         yield Function(module, owner, name, tuple(sorted(longer)))
-
-
-def types_of(folder):
-    """The names of the types and traits of a crate."""
-    texts = (it.read_text(encoding="utf-8") for it in folder.glob("src/**/*.rt"))
-    return {name for text in texts for name in TYPE.findall(text)}
 
 
 def read(path, folder):
@@ -162,11 +82,11 @@ def read(path, folder):
         old = edited = (folder / file).read_text(encoding="utf-8")
         for _, gone, come in (it for it in pairs if it[0] == file):
             edited = edited.replace(gone, come)
-        changed = changed_bodies(file, old, edited)
+        changed = source.changed_bodies(file, old, edited)
         if not changed:
             return Edit(path, pairs, frozenset())
         functions |= changed
-    return Edit(path, pairs, frozenset(named(functions, types_of(folder))))
+    return Edit(path, pairs, frozenset(named(functions, source.types_of(folder))))
 
 
 def applied(edits, folder):
@@ -188,8 +108,8 @@ def applied(edits, folder):
 
 
 def is_of(function, crate, verdict):
-    """Whether a verdict's name is that of a function, or of a closure within it. The prover names the
-    methods of a type by the module of the type, and puts the name of a trait behind the type's."""
+    """Whether a verdict's name is that of a function, or of a closure within it. The prover names
+    the methods of a type by the module of the type, and puts a trait's name behind the type's."""
     module, owner, name, others = function
     modules = r"(?:\w+::)*" if owner else re.escape(f"{module}::" if module else "")
     barred = "".join(f"(?!{it})" for it in others)
@@ -223,6 +143,56 @@ def first_error(verdict, crate, said):
     if told and not telling:
         return f": {told[0][:100]} {SAYS_LITTLE}"
     return f": {telling[0][:160]}" if telling else ""
+
+
+def checked(rt, crate, texts, flags, kept):
+    """Checks a copy of a crate with these texts in place of its own or beside them, over what kept
+    holds."""
+    with tempfile.TemporaryDirectory(prefix="rt-edit-") as room:
+        for part in rt.rtlib.PARTS:
+            if os.path.isdir(f"{crate.folder}/{part}"):
+                shutil.copytree(f"{crate.folder}/{part}", f"{room}/{part}")
+        for path, text in texts.items():
+            Path(room, path).parent.mkdir(parents=True, exist_ok=True)
+            Path(room, path).write_text(text, encoding="utf-8")
+        words = [rt.rtlib.RATTLE, "check", *crate.words(flags, keeps=False), "--incremental", kept]
+        how = {"cwd": room, "stdin": subprocess.DEVNULL, "stdout": subprocess.PIPE}
+        how |= {"stderr": subprocess.STDOUT, "text": True, "errors": "replace"}
+        return subprocess.run([*rt.rtlib.guarded(), *words], **how).stdout
+
+
+def unchanged(edit, name):
+    """An edit that changes nothing of the function."""
+    path = edit.path.with_name(f"{name}.edit")
+    return edit._replace(path=path, pairs=[(edit.pairs[0][0], "", "")])
+
+
+def twin_states(rt, crate, made, kept):
+    """What the prover says of twins: its verdict on each by its name, and all that it said."""
+    folder = Path(crate.folder)
+    only = [word for it in made for word in ("--only", it.name)]
+    said = checked(rt, crate, twins.texts_of(made, folder), [*ALONE, *only], kept)
+    states = {name.rpartition("::")[2]: state for name, state, _ in VERDICT.findall(said)}
+    return {it.name: states.get(it.name, "no verdict") for it in made}, said
+
+
+def tried_as_twins(rt, crate, edits, kept):
+    """The edits that are refused as twins, and what the prover says of each."""
+    folder, refused = Path(crate.folder), {}
+    made = [it for it in (twins.twin_of(edit, folder) for edit in edits) if it]
+    if len(made) < 2:
+        return {}
+    shortest = min(made, key=lambda it: len(it.inserted[0][1])).edit
+    control = twins.twin_of(unchanged(shortest, "control"), folder)
+    states, said = twin_states(rt, crate, [control, *made], kept)
+    if states[control.name] != "proved" or rt.rtlib.STALE.search(said):
+        return {}
+    for twin in made:
+        function = next(iter(twin.edit.functions))._replace(name=twin.name)
+        why = why_refused(twin.edit._replace(functions={function}), crate.name, said)
+        if why:
+            refused[twin.edit.path] = why
+    return refused
 
 
 def names_of(edits, crate, said):
@@ -263,7 +233,9 @@ def tried(rt, room, crate, paths, _flags):
     many = [it for it in (read(Path(it), Path(crate.folder)) for it in well) if it.functions]
     results, kept = [], room / crate.name
     kept.mkdir(exist_ok=True)
-    refused = tried_together(rt, crate, many, kept) if len(many) > 1 else {}
+    refused = tried_as_twins(rt, crate, many, kept)
+    left = [it for it in many if it.path not in refused]
+    refused |= tried_together(rt, crate, left, kept) if len(left) > 1 else {}
     for it in paths:
         label = f"must-fail {crate.name}/{os.path.basename(it)}"
         if Path(it) in refused:
@@ -272,6 +244,18 @@ def tried(rt, room, crate, paths, _flags):
             results.append(tried_alone(rt, crate, it, label, kept))
     shutil.rmtree(kept)
     return results
+
+
+def tried_unchanged(rt, room, crate, paths, _flags):
+    """Whether each twin of a crate is proved with the body of its function as it is."""
+    folder, kept = Path(crate.folder), room / crate.name
+    kept.mkdir(exist_ok=True)
+    edits = [it for it in (read(Path(it), folder) for it in paths) if it.functions]
+    same = [unchanged(it, f"same_{it.path.stem}") for it in edits]
+    made = [it for it in (twins.twin_of(edit, folder) for edit in same) if it]
+    states, _ = twin_states(rt, crate, made, kept) if made else ({}, "")
+    shutil.rmtree(kept)
+    return [(it == "proved", f"{crate.name} {name}: {it}") for name, it in states.items()]
 
 
 def tried_alone(rt, crate, edit, label, kept):
@@ -317,7 +301,9 @@ def keeping(rt, room, prove):
 def main(names):
     rt = toolchain.load()
     with tempfile.TemporaryDirectory(prefix="check-edits-") as room:
-        rt.must_fail_all = functools.partial(tried, rt, Path(room))
+        how = tried_unchanged if names[:1] == ["--unchanged"] else tried
+        names = names[how is tried_unchanged :]
+        rt.must_fail_all = functools.partial(how, rt, Path(room))
         rt.Crate.prove = keeping(rt, Path(room), rt.Crate.prove)
         return rt.main(["must-fail", *names] if names else ["ci"])
 
