@@ -8,10 +8,11 @@ stands on. Here an edit of one function's body is tried as a twin of that functi
 of a crate in one check, and counts as refused where the prover says that the twin is not proved,
 shows what is open in it, and names nothing else that is not proved as the reason. A twin with the
 body as it is stands beside them, the control: where it is not proved, none of them counts. What is
-left is tried in the place of the function, in checks of many that change different functions, and
-what that leaves undecided, since a function calls another that is changed too, again without those
-refused already. An edit that is still undecided, or that changes more than bodies, is tried alone,
-as `rt` does it. That the crate is proved without any edit was seen before.
+left is tried in the place of the function, in checks of many that change different functions, of
+the modules of these alone, and what that leaves undecided, since a function calls another that is
+changed too, again without those refused already. An edit that is still undecided, or that changes
+more than bodies, is tried alone, as `rt` does it. That the crate is proved without any edit was
+seen before.
 
     .ci/edits.py --unchanged NAME..     tries all twins with the bodies as they are: each is proved
 
@@ -196,14 +197,17 @@ def tried_as_twins(rt, crate, edits, kept):
 
 
 def names_of(edits, crate, said):
-    """The names under which the prover knows the functions that edits change."""
-    return {
-        verdict
+    """The names under which the prover knows the functions that edits change; before it has told
+    them, the modules of these functions, or nothing where one is the crate's own."""
+    told = {
+        verdict.partition("::")[2]
         for verdict, _, _ in VERDICT.findall(said)
         for edit in edits
         for it in edit.functions
         if is_of(it, crate, verdict) and "+" not in verdict and "::fn::" not in verdict
     }
+    modules = {it.module for edit in edits for it in edit.functions}
+    return told or (modules if all(modules) else set())
 
 
 def tried_together(rt, crate, edits, kept):
@@ -211,7 +215,7 @@ def tried_together(rt, crate, edits, kept):
     folder, left, refused, known = Path(crate.folder), list(edits), {}, ""
     while left:
         texts, done = applied(left, folder)
-        only = sorted(it.partition("::")[2] for it in names_of(left, crate.name, known))
+        only = sorted(names_of(left, crate.name, known))
         flags = [*ALONE, *(word for it in only for word in ("--only", it))]
         ran = rt.checked(crate, texts, flags, kept)
         known = known or ran.stdout
@@ -235,7 +239,7 @@ def tried(rt, room, crate, paths, _flags):
     kept.mkdir(exist_ok=True)
     refused = tried_as_twins(rt, crate, many, kept)
     left = [it for it in many if it.path not in refused]
-    refused |= tried_together(rt, crate, left, kept) if len(left) > 1 else {}
+    refused |= tried_together(rt, crate, left, kept)
     for it in paths:
         label = f"must-fail {crate.name}/{os.path.basename(it)}"
         if Path(it) in refused:

@@ -89,13 +89,15 @@ def module_of(file):
 
 
 def taken_apart(file, text):
-    """The functions of a source file, each by its module, type and name with its head and its body,
-    and the text outside of them."""
+    """The functions of a source file, by module, type and name, with the heads and the bodies of
+    all that have these (a type has a `from` for each type that it is made from), and the text
+    outside of them."""
     module = "::".join(module_of(file))
     functions, outside, at = {}, "", 0
     for it in functions_of(text):
-        head = " ".join(text[it.head : it.body].split())
-        functions[module, it.owner, it.name] = head, text[it.body : it.end]
+        head, key = " ".join(text[it.head : it.body].split()), (module, it.owner, it.name)
+        heads, bodies = functions.get(key, ((), ()))
+        functions[key] = (*heads, head), (*bodies, text[it.body : it.end])
         outside, at = outside + VISIBLE.sub("", text[at : it.head]), it.end
     return functions, " ".join((outside + text[at:]).split())
 
