@@ -40,6 +40,7 @@ import toolchain  # noqa: E402
 import twins  # noqa: E402
 
 ALONE = ["--jobs", "1"]
+MOST_MEMORY = 5_000_000_000  # of one check, in bytes
 VERDICT = re.compile(r"^fn (\S+): (proved|not proved|no proof|could not tell)(.*)$", re.M)
 RESTS_ON = re.compile(r"([^;]*), which (?:is|are) not proved")
 UNPROVED_GOAL = "`search` did not prove"
@@ -302,8 +303,15 @@ def keeping(rt, room, prove):
     return proved
 
 
+def lanes(rt):
+    """How many checks run at a time in `rt ci`, each in one job: one for each processor, as far as
+    memory goes. In two or three jobs a check takes 15 to 40 % more processor time."""
+    return max(1, min(rt.processors(), int(rt.free() / MOST_MEMORY)))
+
+
 def main(names):
     rt = toolchain.load()
+    os.environ.setdefault("RT_JOBS", str(lanes(rt)))
     with tempfile.TemporaryDirectory(prefix="check-edits-") as room:
         how = tried_unchanged if names[:1] == ["--unchanged"] else tried
         names = names[how is tried_unchanged :]

@@ -2,8 +2,8 @@
 # Prints the ten functions that take the most instructions, of the proved program and of the plain
 # one: instructions.sh WORD.., of steps, worlds, detect, worst, sim and cluster; with none, of all.
 # Of worst all instructions are counted, without the batch and with it. The counts are valgrind's,
-# and do not depend on what else the machine does. `rt run` has built rapidd, rapid_bench and
-# rapid_bench_worlds before.
+# and do not depend on what else the machine does. `rt run` has built rapidd and rapid_bench
+# before.
 set -e
 cd "$(dirname "${BASH_SOURCE[0]}")/.."
 proved=$PWD/crates/rapidd/out/rapidd
@@ -55,7 +55,7 @@ for word in "$@"; do
             ;;
         worlds)
             : >"$room/input"
-            most "$PWD/crates/rapid_bench_worlds/out/rapid_bench_worlds" world_200
+            most "$PWD/crates/rapid_bench/out/rapid_bench" world_200
             most "$room/plain" worlds 200 2
             ;;
         *)

@@ -31,7 +31,7 @@ beside() {
 # Worlds: each in a process of its own, so that the greatest memory is its own.
 worlds() {
     local worlds
-    worlds=$(program rapid_bench_worlds)
+    worlds=$(program rapid_bench)
     "$worlds" world_200 >"$room/proved"
     "$worlds" world_1000 >>"$room/proved"
     "$room/plain" worlds 200 2 >"$room/other"
@@ -62,8 +62,8 @@ for word in "$@"; do
     case $word in
         worlds) worlds ;;
         views | desks)
-            views=$(program rapid_bench_views)
-            "$views" "$word" >"$room/proved"
+            bench=$(program rapid_bench)
+            "$bench" "$word" >"$room/proved"
             "$room/plain" "$word" >"$room/other"
             beside "$room/other" "$room/proved"
             ;;

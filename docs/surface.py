@@ -19,8 +19,6 @@ LAWS = {"rapid_model", "rapid_agreement", "rapid_safety", "rapid_histories"}
 NO_LIBRARIES = {
     "rapidd",
     "rapid_bench",
-    "rapid_bench_views",
-    "rapid_bench_worlds",
     "rapid_reference",
     "rapid_sharded_map",
     "rapid_uses",

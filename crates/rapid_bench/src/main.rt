@@ -1,25 +1,34 @@
-//! Measures the calls that a member makes most. `bench/plain.rs` does the same work in plain Rust,
-//! and `bench/README.md` has the figures of both.
+//! Measures the calls that a member makes most, worlds of founders of which some crash, reads of the
+//! published view by one and by four threads, and steps of a desk beside those of its node.
+//! `bench/plain.rs` does the same work in plain Rust, and `bench/README.md` has the figures of both.
 #![tactic(auto)]
 
 mod cluster;
+mod desks;
 mod figure;
+mod founders;
 mod frames;
 mod from_bytes;
 mod members;
 mod memory;
 mod messages;
 mod meter;
+mod readers;
 mod rings_new;
 mod rings_next;
 mod steps;
+mod thousand;
+mod views;
 mod votes;
 mod work;
+mod worlds;
 
 use anyhow::{Result, bail};
 use std::alloc::Global;
 use std::env;
 use std::fs::Files;
+use std::sync::Wait;
+use std::thread::Threads;
 use std::time::Clock;
 
 /// What is printed where no word names a figure.
@@ -30,10 +39,15 @@ const USAGE: &str = "rapid_bench WORD.. prints figures, a line each: NAME, a spa
   from_bytes    nanoseconds of a configuration of 1,024 members, read from its bytes
   frames    nanoseconds of a thousand bytes of frames, written, and read in pieces
   steps     nanoseconds of a step of a node and of a copy of one, at 5, 100 and 1,024 members
-  step_bytes    bytes that are held after a step or a copy and were not before";
+  step_bytes    bytes that are held after a step or a copy and were not before
+  world_200, world_1000    so many founders of which two or ten crash, until all others have installed the next view:
+            nanoseconds an event, how many events, nanoseconds of the founding, and the most bytes that the process held
+  views     nanoseconds of a hundred reads of a stamp, and of the view of 1,000 processes, by 1 and by 4 threads
+            at a time; and of the same under a lock
+  desks     nanoseconds of a vote and a tick among 1,000 processes, at a node and at a desk";
 
 /// Prints the figures of a word.
-fn print_figures<R: Print + Clock + Files + Alloc>(
+fn print_figures<R: Print + Clock + Files + Alloc + Threads + Wait + Sync>(
     rt: &R,
     alloc: Global,
     word: &str,
@@ -43,17 +57,21 @@ fn print_figures<R: Print + Clock + Files + Alloc>(
         "memory" => memory::print(rt, alloc),
         "rings_new" => rings_new::print(rt, alloc),
         "rings_next" => rings_next::print(rt, alloc),
+        "views" => views::print(rt, alloc),
+        "desks" => desks::print(rt, alloc),
         other => print_more(rt, alloc, other),
     }
 }
 
-/// Prints the figures of a word, one of bytes or of nodes.
+/// Prints the figures of a word, one of bytes, of nodes or of worlds.
 fn print_more<R: Print + Clock + Files + Alloc>(rt: &R, alloc: Global, word: &str) -> Result<()> {
     match word {
         "from_bytes" => from_bytes::print(rt, alloc),
         "frames" => frames::print(rt, alloc),
         "steps" => steps::print(rt, alloc),
         "step_bytes" => steps::print_bytes(rt, alloc),
+        "world_200" => worlds::print(rt, alloc, word, 200, 2),
+        "world_1000" => worlds::print(rt, alloc, word, 1000, 10),
         other => bail!("no figure is called {other}"),
     }
 }

@@ -14,7 +14,7 @@ pub fn process(n: u16) -> Process {
 }
 
 /// The processes with these numbers.
-fn processes(alloc: Global, first: u16, last: u16) -> Result<Vec<Process>> {
+pub fn processes(alloc: Global, first: u16, last: u16) -> Result<Vec<Process>> {
     let mut all = Vec::new(alloc);
     for n in first..=last {
         all.push(process(n))?;
@@ -29,10 +29,15 @@ pub fn cut(alloc: Global, first: u16, last: u16) -> Result<Cut> {
 
 /// The founding configuration of so many members, with sixteen rings.
 pub fn configuration(alloc: Global, count: u16) -> Result<Configuration> {
+    configuration_on(alloc, 16, count)
+}
+
+/// The founding configuration of so many members, with so many rings.
+pub fn configuration_on(alloc: Global, rings: u8, count: u16) -> Result<Configuration> {
     let members = processes(alloc, 1, count)?;
     if members.is_empty() {
         bail!("there are no members");
     }
-    let params = Params::new(16, 9, 3)?;
+    let params = Params::new(rings, 9, 3)?;
     Ok(Configuration::seed(alloc, params, members.as_slice())?)
 }

@@ -1,5 +1,5 @@
-//! Tests of desks. The crate has nothing else, so that a desk is not proved a second time for its
-//! tests.
+//! Tests of desks, and of the published view alone. The crate has nothing else, so that neither is
+//! proved a second time for its tests.
 #![tactic(auto)]
 
 #[cfg(test)]
@@ -8,6 +8,8 @@ mod founding;
 mod journal;
 #[cfg(test)]
 mod memory;
+#[cfg(test)]
+mod published;
 #[cfg(test)]
 mod subscriptions;
 #[cfg(test)]

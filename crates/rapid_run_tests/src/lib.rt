@@ -1,5 +1,5 @@
-//! Tests of running nodes. The crate has nothing else, so that the functions below it are not
-//! proved a second time for their tests.
+//! Tests of running nodes, and of frames on their way. The crate has nothing else, so that the
+//! functions below it are not proved a second time for their tests.
 #![tactic(auto)]
 
 #[cfg(test)]
@@ -10,3 +10,5 @@ mod devices;
 mod memory;
 #[cfg(test)]
 mod rows;
+#[cfg(test)]
+mod transport;

@@ -1,7 +1,9 @@
-//! Tests of whole worlds. The crate has nothing else, so that a world is not proved a second time
-//! for its tests.
+//! Tests of whole worlds, and of clerks that drive one. The crate has nothing else, so that neither is
+//! proved a second time for its tests.
 #![tactic(auto)]
 
+#[cfg(test)]
+mod clerks;
 #[cfg(test)]
 mod joins;
 #[cfg(test)]

@@ -1,0 +1,29 @@
+// Founders of a world, and those of them that crash.
+use crate::members::{process, processes};
+use anyhow::{Result, bail};
+use rapid_config::{Configuration, Params};
+use rapid_endpoint::ProcessId;
+use rapid_world::World;
+use std::alloc::Global;
+
+/// The world of so many founders.
+pub fn found(alloc: Global, count: u16) -> Result<World> {
+    let founders = processes(alloc, 1, count)?;
+    if founders.is_empty() {
+        bail!("there are no founders");
+    }
+    let params = Params::new(10, 9, 3)?;
+    // that there is such a configuration is what a world wants of its founders
+    let _founding = Configuration::seed(alloc, params, founders.as_slice())?;
+    Ok(World::new(alloc, params, founders.as_slice())?)
+}
+
+/// Those that crash: as many as that, evenly spread over so many founders.
+pub fn crashed(alloc: Global, founders: u16, crashes: u16) -> Result<Vec<ProcessId>> {
+    let gap = founders / crashes.max(1);
+    let mut all = Vec::new(alloc);
+    for i in 0..crashes {
+        all.push(process(i.saturating_mul(gap).saturating_add(7)).id())?;
+    }
+    Ok(all)
+}

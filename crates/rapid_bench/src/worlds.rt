@@ -1,0 +1,179 @@
+// Some founders crash, and the others lose them.
+use crate::figure::nanoseconds_since;
+use crate::founders::{crashed, found};
+use anyhow::{Context, Result};
+use rapid_endpoint::ProcessId;
+use rapid_world::{World, WorldEvent};
+use std::alloc::Global;
+use std::fs;
+use std::fs::Files;
+use std::time::{Clock, Instant};
+
+/// How often each figure is taken; the best counts.
+const RUNS: u32 = 3;
+
+/// More packets than a world sends in as many events as it accepts, for so many members.
+const MOST_PACKETS: u64 = 2_000_000;
+
+/// The greatest memory that the process held, in bytes.
+fn peak<R: Files + Alloc>(rt: &R) -> Result<u64> {
+    let status = fs::read_to_string(rt, "/proc/self/status")?;
+    let kibibytes = status
+        .split_whitespace()
+        .skip_while(|word| *word != "VmHWM:")
+        .nth(1)
+        .context("/proc/self/status does not say what was held")?;
+    Ok(kibibytes.parse::<u64>()?.saturating_mul(1024))
+}
+
+/// Adds four failed probes of an observer on a ring.
+fn push_failed(observer: &ProcessId, ring: u8, events: &mut Vec<WorldEvent>) -> Result<()> {
+    for _ in 0..4 {
+        events.push(WorldEvent::Probe(*observer, ring, false))?;
+    }
+    Ok(())
+}
+
+/// Adds the four probes by which an observer loses whom it observes on a ring, if that crashed.
+fn push_probes(
+    world: &World,
+    observer: &ProcessId,
+    ring: u8,
+    crashed: &[ProcessId],
+    events: &mut Vec<WorldEvent>,
+) -> Result<()> {
+    let Some(subject) = world.observed(observer, ring)? else {
+        return Ok(());
+    };
+    if !crashed.contains(&subject.id()) {
+        return Ok(());
+    }
+    push_failed(observer, ring, events)
+}
+
+/// Adds the probes by which an observer loses all that crashed.
+fn push_losses(
+    world: &World,
+    observer: &ProcessId,
+    crashed: &[ProcessId],
+    events: &mut Vec<WorldEvent>,
+) -> Result<()> {
+    if crashed.contains(observer) {
+        return Ok(());
+    }
+    for ring in 0..world.founding().params().k() {
+        push_probes(world, observer, ring, crashed, events)?;
+    }
+    Ok(())
+}
+
+/// All that happens before packets are delivered: some crash, the others lose them, and tick.
+fn script(alloc: Global, world: &World, crashed: &[ProcessId]) -> Result<Vec<WorldEvent>> {
+    let running = world.running()?;
+    let mut events = Vec::new(alloc);
+    for observer in running.as_slice() {
+        push_losses(world, observer, crashed, &mut events)?;
+    }
+    push_crashes(crashed, &mut events)?;
+    push_ticks(running.as_slice(), crashed, &mut events)?;
+    Ok(events)
+}
+
+/// Adds the crashes.
+fn push_crashes(crashed: &[ProcessId], events: &mut Vec<WorldEvent>) -> Result<()> {
+    for id in crashed {
+        events.push(WorldEvent::Crash(*id))?;
+    }
+    Ok(())
+}
+
+/// Adds a tick of each that did not crash.
+fn push_ticks(
+    running: &[ProcessId],
+    crashed: &[ProcessId],
+    events: &mut Vec<WorldEvent>,
+) -> Result<()> {
+    for id in running {
+        if !crashed.contains(id) {
+            events.push(WorldEvent::Tick(*id))?;
+        }
+    }
+    Ok(())
+}
+
+/// These events happen; how many nodes installed in them.
+fn do_all(world: &mut World, events: &[WorldEvent]) -> Result<usize> {
+    let mut installed: usize = 0;
+    for event in events {
+        installed = installed.saturating_add(world.step(event)?.len());
+    }
+    Ok(installed)
+}
+
+/// Delivers packets in order, until so many nodes have installed.
+fn deliver_all(world: &mut World, nodes: usize) -> Result<()> {
+    let mut left = nodes;
+    for before in 0..MOST_PACKETS {
+        if left == 0 {
+            return Ok(());
+        }
+        if world.can_deliver(before + 1) {
+            let reports = world.step(&WorldEvent::Deliver(before + 1))?;
+            left = left.saturating_sub(reports.len());
+        }
+    }
+    Ok(())
+}
+
+/// These events happen, and then packets are delivered until so many nodes have installed.
+fn run(world: &mut World, events: &[WorldEvent], nodes: usize) -> Result<()> {
+    let installed = do_all(world, events)?;
+    deliver_all(world, nodes.saturating_sub(installed))
+}
+
+/// What one run took.
+#[derive(Clone, Copy)]
+struct Taken {
+    founding: u64,
+    running: u64,
+    events: usize,
+}
+
+/// Takes the figures once.
+fn take<R: Clock>(rt: &R, alloc: Global, founders: u16, crashes: u16) -> Result<Taken> {
+    let crashed = crashed(alloc, founders, crashes)?;
+    let start = Instant::now(rt)?;
+    let mut world = found(alloc, founders)?;
+    let founding = nanoseconds_since(rt, start)?;
+    let events = script(alloc, &world, crashed.as_slice())?;
+    let nodes = usize::from(founders.saturating_sub(crashes));
+    let start = Instant::now(rt)?;
+    run(&mut world, events.as_slice(), nodes)?;
+    Ok(Taken {
+        founding,
+        running: nanoseconds_since(rt, start)?,
+        events: world.accepted(),
+    })
+}
+
+/// Prints the figures of so many founders of which so many crash.
+pub fn print<R: Print + Clock + Files + Alloc>(
+    rt: &R,
+    alloc: Global,
+    name: &str,
+    founders: u16,
+    crashes: u16,
+) -> Result<()> {
+    let mut least = take(rt, alloc, founders, crashes)?;
+    for _ in 1..RUNS {
+        let taken = take(rt, alloc, founders, crashes)?;
+        least.founding = least.founding.min(taken.founding);
+        least.running = least.running.min(taken.running);
+    }
+    let events = least.events.max(1) as u64;
+    println!(rt; "{name}_event {}", least.running / events)?;
+    println!(rt; "{name}_events {events}")?;
+    println!(rt; "{name}_founding {}", least.founding)?;
+    println!(rt; "{name}_peak {}", peak(rt)?)?;
+    Ok(())
+}

@@ -1,4 +1,0 @@
-use Rattle.rapid_clerks_tests.proofs.crews.taken.Given as goal
-
-abbrev pub ghosts-taken_in : goal.ghosts-taken_in
-ghosts-taken_in g a = record { name = a.blank.name; parts = a.blank.parts }

@@ -1,0 +1,152 @@
+// A peer that reads nothing.
+
+use crate::transport::peers::{Tally, none_asked, post_all, wait_for};
+use bytes::Bytes;
+use rapid_endpoint::Endpoint;
+use rapid_transport::{Peers, TransportError};
+use std::alloc::{AllocError, Global};
+use std::net::{Ipv4Addr, Net, SocketAddr, SocketAddrV4, TcpListener, TcpStream};
+use std::process::Abort;
+use std::sync::Wait;
+use std::test::Fail;
+use std::time::{Clock, Duration, Instant};
+use std::{io, thread};
+
+/// How many bytes a frame of the flood has.
+const LARGE: usize = 60_000;
+
+/// How many frames the flood has, far more than fit into the buffers of a connection.
+const FLOOD: u64 = 1_000;
+
+/// How long the frames to the other peer may take in all, in milliseconds.
+const SOON: u64 = 800;
+
+/// How long is waited until a peer is no longer left alone, in milliseconds.
+const AFTER_THE_PAUSE: u64 = 1_200;
+
+/// Listens at this port, and takes no connection in by itself.
+fn deaf_listener<R>(rt: &R, port: u16) -> io::Result<TcpListener>
+where
+    R: Net<Listener = TcpListener, Stream = TcpStream>,
+{
+    let address = SocketAddrV4::new(Ipv4Addr::new(127, 0, 0, 1), port);
+    let listener = TcpListener::bind(rt, SocketAddr::V4(address))?;
+    listener.set_nonblocking(true)?;
+    Ok(listener)
+}
+
+/// A frame of the flood.
+fn large(alloc: Global) -> Result<Bytes, AllocError> {
+    let mut bytes = Vec::new(alloc);
+    bytes.resize(LARGE, 0)?;
+    Bytes::copy_from_slice(alloc, bytes.as_slice())
+}
+
+/// Posts a frame to this endpoint so many times.
+fn flood<R: Wait>(
+    rt: &R,
+    peers: &Peers,
+    to: Endpoint,
+    frame: &Bytes,
+    count: u64,
+) -> Result<(), TransportError> {
+    for _ in 0..count {
+        peers.post(rt, to, frame.clone()?)?;
+    }
+    Ok(())
+}
+
+/// Floods a peer that reads nothing, and posts a hundred frames to the peers themselves, with more
+/// for the other one before each of them.
+fn post_to_both<R: Wait>(
+    rt: &R,
+    alloc: Global,
+    peers: &Peers,
+    at: Endpoint,
+    deaf: Endpoint,
+) -> Result<(), TransportError> {
+    let frame = large(alloc)?;
+    flood(rt, peers, deaf, &frame, FLOOD)?;
+    for _ in 0..100 {
+        flood(rt, peers, deaf, &frame, 1)?;
+        post_all(rt, alloc, peers, at, 1)?;
+    }
+    Ok(())
+}
+
+/// Posts to both, and says whether the frames to the peers themselves came soon.
+fn come_soon<R: Wait + Clock>(
+    rt: &R,
+    alloc: Global,
+    peers: &Peers,
+    at: Endpoint,
+    deaf: Endpoint,
+    tally: &Tally,
+) -> bool {
+    let Ok(begun) = Instant::now(rt) else {
+        return false;
+    };
+    let posted = post_to_both(rt, alloc, peers, at, deaf).is_ok();
+    let came = wait_for(rt, tally, 100);
+    match begun.elapsed(rt) {
+        Ok(spent) => posted && came && spent < Duration::from_millis(SOON),
+        Err(_) => false,
+    }
+}
+
+/// Waits until so many connections came, for some seconds at most; whether they did.
+fn connects<R: Clock>(rt: &R, listener: &TcpListener, count: u32) -> bool {
+    let mut left = count;
+    for _ in 0..1_000 {
+        if left == 0 {
+            return true;
+        }
+        match listener.accept() {
+            Ok(_) => left -= 1,
+            Err(_) => thread::sleep(rt, Duration::from_millis(5)),
+        }
+    }
+    false
+}
+
+/// Whether frames to the peers themselves come soon while another peer reads nothing, frames to
+/// that one are lost, and it is connected to again when it was left alone for a while. Stops the
+/// peers.
+fn is_patient<R>(
+    rt: &R,
+    alloc: Global,
+    peers: &Peers,
+    at: Endpoint,
+    deaf: Endpoint,
+    listener: &TcpListener,
+    tally: &Tally,
+) -> (bool, u64, bool)
+where
+    R: Net<Listener = TcpListener, Stream = TcpStream> + Wait + Clock,
+{
+    let soon = come_soon(rt, alloc, peers, at, deaf, tally);
+    let losses = peers.losses(rt);
+    thread::sleep(rt, Duration::from_millis(AFTER_THE_PAUSE));
+    let posted = post_all(rt, alloc, peers, deaf, 1).is_ok();
+    let again = posted && connects(rt, listener, 2);
+    peers.stop(rt);
+    (soon, losses, again)
+}
+
+#[test]
+fn a_peer_that_reads_nothing_delays_no_other(rt: HostRuntime) -> Result<(), Fail> {
+    // both ports have the same sender
+    let at = Endpoint::new([127, 0, 0, 1], 7_465);
+    let deaf = Endpoint::new([127, 0, 0, 1], 7_469);
+    let listener = deaf_listener(&rt, 7_469)?;
+    let (peers, ends) = Peers::listen(&rt, rt.alloc(), at)?;
+    let tally = none_asked();
+    let (ran, (soon, losses, again)) = thread::join(
+        &rt,
+        || peers.run(&rt, rt.alloc(), ends, &tally),
+        || is_patient(&rt, rt.alloc(), &peers, at, deaf, &listener, &tally),
+    );
+    assert_eq!(rt; (ran.is_ok(), soon, again), (true, true, true));
+    assert!(rt; 0 < losses && losses <= FLOOD + 100, "lost {losses}");
+    Ok(())
+}

@@ -1,0 +1,3 @@
+// Tests of clusters that threads drive.
+
+mod clusters;

@@ -1,0 +1,4 @@
+// Tests of `sim` over readers and writers.
+
+mod faults;
+mod worked;

@@ -1,0 +1,109 @@
+// Faults of the input and the output of `sim`, and want of memory.
+
+use crate::sim::worked::joined;
+use rapid_sim::run_sim;
+use rapid_text::RunFault;
+use std::io;
+use std::io::{ErrorKind, Read, Write};
+use std::test::Fail;
+
+/// A reader that gives its bytes, five at a time, and then fails.
+#[derive(Drop)]
+struct Faulty<'a> {
+    input: &'a [u8],
+}
+
+impl Read for Faulty<'_> {
+    fn read(&mut self, buf: &mut [u8]) -> io::Result<usize> {
+        if self.input.is_empty() {
+            return Err(io::Error::from(ErrorKind::Other));
+        }
+        let count = self.input.len().min(buf.len()).min(5);
+        let (front, rest) = self.input.split_at(count);
+        buf[..count].copy_from_slice(front);
+        self.input = rest;
+        Ok(count)
+    }
+}
+
+/// A writer that has room for so many bytes, and takes none beyond.
+#[derive(Drop)]
+struct Fixed<'a> {
+    bytes: &'a mut [u8],
+    length: usize,
+}
+
+impl Write for Fixed<'_> {
+    fn write(&mut self, buf: &[u8]) -> io::Result<usize> {
+        if self.length > self.bytes.len() {
+            return Ok(0);
+        }
+        let room = self.bytes.len() - self.length;
+        let count = room.min(buf.len());
+        let end = self.length + count;
+        self.bytes[self.length..end].copy_from_slice(&buf[..count]);
+        self.length = end;
+        Ok(count)
+    }
+
+    fn flush(&mut self) -> io::Result<()> {
+        Ok(())
+    }
+}
+
+const VIEWS: &[u8] = b"node 1 height 0 members 1 2\nnode 2 height 0 members 1 2\n";
+
+#[test]
+fn ends_by_name_where_a_read_fails(rt: HostRuntime) {
+    let mut reader = Faulty {
+        input: b"params 3 3 1\nfound 1 2\npack",
+    };
+    let mut output = Vec::new(rt.alloc());
+    let ran = run_sim(rt.alloc(), &mut reader, &mut output);
+    assert_eq!(rt; ran, Err(RunFault::Read));
+    // the line that did not end is not answered
+    assert_eq!(rt; output.as_slice(), VIEWS);
+}
+
+#[test]
+fn ends_by_name_where_a_write_fails(rt: HostRuntime) -> Result<(), Fail> {
+    let input = joined(rt.alloc(), "params 3 3 1 / found 1 2")?;
+    let mut bytes = [0u8; 40];
+    let mut writer = Fixed {
+        bytes: &mut bytes,
+        length: 0,
+    };
+    let ran = run_sim(rt.alloc(), &mut input.as_slice(), &mut writer);
+    assert_eq!(rt; ran, Err(RunFault::Write));
+    assert!(rt; VIEWS.starts_with(bytes.as_slice()));
+    Ok(())
+}
+
+/// Three founders of whom one crashes: two votes are no fast quorum, and recovery decides.
+const RECOVERED: &[u8] =
+    b"params 3 3 1\nfound 1 2 3\ncrash 3\nlose 3\ntick 1\ntick 2\nflow\ntick 1 20\nflow\n";
+
+const RECOVERED_VIEWS: &[u8] = b"node 1 height 0 members 1 2 3\nnode 2 height 0 members 1 2 3\n\
+      node 3 height 0 members 1 2 3\nnode 2 height 1 members 1 2\nnode 1 height 1 members 1 2\n";
+
+/// Want of memory, wherever it is met, ends a run by name, or is counted: then an event was refused
+/// for it, or a node halted. Where it is not met the output is whole.
+#[test]
+fn ends_by_name_or_counts_want_of_memory(rt: HostRuntime) {
+    let mut output = [0u8; 512];
+    let mut writer = Fixed {
+        bytes: &mut output,
+        length: 0,
+    };
+    let mut input = RECOVERED;
+    let ran = run_sim(rt.alloc(), &mut input, &mut writer);
+    let length = writer.length;
+    assert!(rt; length <= output.len());
+    match ran {
+        Ok(0) => assert_eq!(rt; &output[..length], RECOVERED_VIEWS),
+        Ok(_) => assert_ne!(rt; &output[..length], RECOVERED_VIEWS),
+        Err(fault) => {
+            assert_eq!(rt; fault, RunFault::OutOfMemory);
+        }
+    }
+}

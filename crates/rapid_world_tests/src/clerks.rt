@@ -1,0 +1,6 @@
+// Tests of clerks.
+
+mod books;
+mod crews;
+mod gates;
+mod jobs;

@@ -1,0 +1,88 @@
+// Clerks in threads of their own.
+
+ghost use Rattle.std.specs.Prelude.{◌≡◌, ◌≤◌, ◌<◌};
+
+use crate::clerks::books::{alone, joins};
+use crate::clerks::gates::{Door, Meeting};
+use rapid_clerks::{Gate, run_clerks};
+use std::alloc::Global;
+use std::marker::Brand;
+use std::sync::ledger::{Blank, Ledger};
+use std::sync::{Mutex, Wait};
+use std::test::*;
+use std::thread::Threads;
+
+/// How many turns each clerk of this ledger takes in a world of process 1, where so many turns each
+/// are there to be taken.
+fn taken_in<L: Ledger + Send + Sync, G: Gate + Sync, R: Threads + Wait + Sync>(
+    rt: &R,
+    alloc: Global,
+    blank: Blank,
+    gate: &G,
+    workers: usize,
+    turns: usize,
+) -> Result<Vec<u64>, Fail>
+    requires name { blank.name ≡ L.name }
+    requires parts { blank.parts ≡ L.parts }
+    requires room { 33 ≤ blank.parts }
+    requires few { workers ≤ 32 }
+{
+    let (book, mut share) = alone::<L>(alloc, blank)?;
+    let book = Mutex::new(book);
+    Ok(run_clerks(rt, alloc, &book, gate, &mut share, workers, turns)?)
+}
+
+/// How many turns each clerk takes in a world of process 1.
+fn taken<G: Gate + Sync, R: Threads + Wait + Sync>(
+    rt: &R,
+    alloc: Global,
+    gate: &G,
+    workers: usize,
+    turns: usize,
+) -> Result<Vec<u64>, Fail>
+    requires { workers ≤ 32 }
+{
+    taken_in::<Brand, G, R>(rt, alloc, Blank::new(33), gate, workers, turns)
+}
+
+#[test]
+fn two_clerks_meet(rt: HostRuntime) -> Result<(), Fail> {
+    let counts = taken(&rt, rt.alloc(), &Meeting::new(), 2, 10)?;
+    assert_eq!(rt; counts.as_slice(), [10, 10].as_slice());
+    Ok(())
+}
+
+/// No clerk goes on where no further event is accepted.
+#[test]
+fn a_full_world_stops_a_clerk(rt: HostRuntime) -> Result<(), Fail> {
+    let door = Door::until(u64::MAX);
+    let counts = taken(&rt, rt.alloc(), &door, 1, 1_000_003)?;
+    assert_eq!(rt; counts.as_slice(), [1_000_000].as_slice());
+    assert_eq!(rt; door.came(), 1_000_001);
+    Ok(())
+}
+
+/// Whether as many events are stored as were done, after one and the turns of two clerks.
+fn adds_up<L: Ledger + Send + Sync, R: Threads + Wait + Sync>(
+    rt: &R,
+    alloc: Global,
+    blank: Blank,
+) -> Result<bool, Fail>
+    requires name { blank.name ≡ L.name }
+    requires parts { blank.parts ≡ L.parts }
+    requires room { 33 ≤ blank.parts }
+{
+    let (mut book, mut share) = alone::<L>(alloc, blank)?;
+    let _reports = book.step(&mut share, &joins())?;
+    let book = Mutex::new(book);
+    let counts = run_clerks(rt, alloc, &book, &Door::until(5), &mut share, 2, 6)?;
+    let stored = book.into_inner().stored(&mut share) as u64;
+    let done: u64 = counts.iter().fold(1, |sum, count| sum.wrapping_add(*count));
+    Ok(stored == done)
+}
+
+#[test]
+fn what_clerks_did_is_stored_with_want_of_memory(rt: HostRuntime) -> Result<(), Fail> {
+    assert!(rt; adds_up::<Brand, HostRuntime>(&rt, rt.alloc(), Blank::new(33))?);
+    Ok(())
+}
