@@ -306,6 +306,7 @@ impl<T: ObserverTable> Detector<T> {
     }
 
     /// An equal detector over a table that says the same, as another share of one table does.
+    #[inline(never)]
     pub fn try_copy(&self, table: T) -> Result<Detector<T>, AllocError>
     where
         T: Drop,

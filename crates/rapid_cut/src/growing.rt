@@ -84,6 +84,7 @@ impl GrowingReports {
     }
 
     /// The same reports, as kept.
+    #[inline(never)]
     pub fn try_copy(&self, alloc: Global) -> Result<GrowingReports, AllocError>
         ensures reports { IfOk result (λ copy. copy.reports ≡ self.now.reports) }
         ensures kept { IfOk result (λ copy. before copy ≡ copy.reports) }

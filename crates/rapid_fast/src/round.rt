@@ -96,6 +96,7 @@ impl FastRound {
     ///
     /// `NotMember` where the position isn't below the number of members; `OutOfMemory`. Both leave
     /// the round as it was.
+    #[inline(always)]
     pub fn hear(&mut self, position: usize, cut: &Cut) -> Result<Option<Cut>, HearError>
         ensures decided { IfOk result (λ d. d ≡ fast_decision self.old.round position cut.now) }
         ensures heard { OnOk result (self.new ≡ after_vote self.old position cut.now) }
@@ -112,6 +113,7 @@ impl FastRound {
     }
 
     /// Takes the vote of a member.
+    #[inline(always)]
     fn take(&mut self, position: usize, cut: &Cut) -> Result<Option<Cut>, AllocError>
         requires { position < self.old.round.size }
         ensures decided { IfOk result (λ d. d ≡ fast_decision self.old.round position cut.now) }

@@ -47,6 +47,7 @@ impl VoteCounts {
 
     /// Counts one more vote for a cut; the cut, where there are then just so many. Want of memory
     /// leaves the counters as they were.
+    #[inline(always)]
     pub(crate) fn add(&mut self, cut: &Cut, enough: usize) -> Result<Option<Cut>, AllocError>
         requires room { count_of self.old cut.now ≤ 1024 }
         ensures ok { OnOk result (self.new ≡ one_more self.old cut.now) }

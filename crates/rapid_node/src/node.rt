@@ -263,6 +263,7 @@ impl Node {
 
     /// It is this member.
     #[tactic(auto, using(crate::proofs::Showing::halted_shows))]
+    #[inline(always)]
     fn be_member(&mut self, member: Box<MemberState>)
         requires me { member.value.me ≡ self.old.me }
         requires shown { self.old.phase ≡ model.Halted (Some member.value.config) }
@@ -321,6 +322,7 @@ impl Node {
 
     /// What the node is after its member's work: that member, or what the decided cut makes of it.
     #[tactic(auto, unfolding(rapid_model::specs::NodeStep::settle))]
+    #[inline(always)]
     fn settle(
         &mut self,
         views: &mut Views,
@@ -349,6 +351,7 @@ impl Node {
 
     /// A tick of a member.
     #[tactic(auto, using(crate::proofs::Settling::settles, crate::proofs::Settling::settles_not))]
+    #[inline(always)]
     fn member_tick(
         &mut self,
         views: &mut Views,
@@ -367,6 +370,7 @@ impl Node {
 
     /// A message at a member.
     #[tactic(auto, using(crate::proofs::Settling::settles, crate::proofs::Settling::settles_not))]
+    #[inline(always)]
     fn member_receive(
         &mut self,
         views: &mut Views,
@@ -532,6 +536,7 @@ impl Node {
 
     /// One step, after which what goes out stands after what stood there before.
     #[tactic(auto, using(crate::proofs::Settling::said_nothing, crate::proofs::Showing::shows), unfolding(rapid_model::specs::NodeStep::node_step))]
+    #[inline(always)]
     fn step_into(
         &mut self,
         views: &mut Views,
@@ -595,6 +600,7 @@ impl Node {
     /// # Errors
     ///
     /// Those of [`Node::step`].
+    #[inline(always)]
     pub fn step_in(&mut self, views: &mut Views, event: &Event) -> Result<Outputs, NodeFault>
         ensures step { IfOk result (λ sent. HasOutcome self.old.me (step.node_step self.old (event_of event.now)) self.new sent.items) }
         ensures fault { IfErr result (IsFault self.old (event_of event.now) self.new) }

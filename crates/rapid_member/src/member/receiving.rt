@@ -36,6 +36,7 @@ impl MemberState {
 
     /// Takes a message that is about the configuration.
     #[tactic(auto, using(crate::proofs::Batches::batch_alerts_are), unfolding(rapid_model::specs::Receive::take))]
+    #[inline(always)]
     fn take(
         &mut self,
         out: &mut Vec<Output>,
@@ -95,6 +96,7 @@ impl MemberState {
 
     /// Takes a message that is about the configuration, and answers one about a configuration that
     /// was left with the cut decided there.
+    #[inline(always)]
     fn take_or_catch_up(
         &mut self,
         out: &mut Vec<Output>,
@@ -176,6 +178,7 @@ impl MemberState {
     /// A message at a member, where these are the decisions of its node, and the cut that was
     /// decided, if any. On an error the member is of no further use, but for who it is and where,
     /// and nothing that was added to the outputs is to be sent.
+    #[inline(always)]
     pub fn receive(
         &mut self,
         out: &mut Vec<Output>,
@@ -193,6 +196,7 @@ impl MemberState {
 
     /// What a process that can say this says to a member.
     #[tactic(auto, unfolding(rapid_model::specs::Receive::receive_as_member))]
+    #[inline(always)]
     fn receive_from(
         &mut self,
         out: &mut Vec<Output>,

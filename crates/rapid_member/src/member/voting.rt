@@ -41,6 +41,7 @@ impl MemberState {
     }
 
     /// A vote was sent or heard.
+    #[inline(always)]
     fn see_vote(&mut self)
         ensures { self.new ≡ member.vote_seen self.old }
     {
@@ -50,6 +51,7 @@ impl MemberState {
     }
 
     /// Takes a fast vote of the member at a place.
+    #[inline(always)]
     pub(super) fn take_vote(&mut self, place: usize, cut: &Cut) -> Result<Option<Cut>, AllocError>
         requires { place < length self.old.config.members }
         ensures state { OnOk result (self.new ≡ (member.take_vote self.old place cut.now).state) }
