@@ -30,10 +30,10 @@ beside() {
 
 # Worlds: each in a process of its own, so that the greatest memory is its own.
 worlds() {
-    local worlds
-    worlds=$(program rapid_bench)
-    "$worlds" world_200 >"$room/proved"
-    "$worlds" world_1000 >>"$room/proved"
+    local bench
+    bench=$(program rapid_bench)
+    "$bench" world_200 >"$room/proved"
+    "$bench" world_1000 >>"$room/proved"
     "$room/plain" worlds 200 2 >"$room/other"
     "$room/plain" worlds 1000 10 >>"$room/other"
     beside "$room/other" "$room/proved"
