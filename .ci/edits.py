@@ -35,6 +35,7 @@ from collections import namedtuple
 from pathlib import Path
 
 sys.dont_write_bytecode = True
+import lanes  # noqa: E402
 import source  # noqa: E402
 import toolchain  # noqa: E402
 import twins  # noqa: E402
@@ -303,7 +304,7 @@ def keeping(rt, room, prove):
     return proved
 
 
-def lanes(rt):
+def number_of_lanes(rt):
     """How many checks run at a time in `rt ci`, each in one job: one for each processor, as far as
     memory goes. In two or three jobs a check takes 15 to 40 % more processor time."""
     return max(1, min(rt.processors(), int(rt.free() / MOST_MEMORY)))
@@ -311,7 +312,7 @@ def lanes(rt):
 
 def main(names):
     rt = toolchain.load()
-    os.environ.setdefault("RT_JOBS", str(lanes(rt)))
+    rt.in_lanes = functools.partial(lanes.in_lanes, number_of_lanes(rt), 0.85 * rt.free())
     with tempfile.TemporaryDirectory(prefix="check-edits-") as room:
         how = tried_unchanged if names[:1] == ["--unchanged"] else tried
         names = names[how is tried_unchanged :]
