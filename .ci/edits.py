@@ -21,7 +21,7 @@ so that it proves no function that neither changes nor rests on one that does. F
 of a crate with edits is built with its checked modules, and not with its statements alone; the
 crates above it, which load what they cite, are proved over either in the same time.
 
-All else is the toolchain's own rt, which is read as a module.
+Tasks run in the order of lanes.py. All else is the toolchain's own rt, which is read as a module.
 """
 import functools
 import json
