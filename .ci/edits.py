@@ -42,6 +42,7 @@ import twins  # noqa: E402
 
 ALONE = ["--jobs", "1"]
 MOST_MEMORY = 5_000_000_000  # of one check, in bytes
+TAKEN = 0.85  # of the free memory, by all checks together
 VERDICT = re.compile(r"^fn (\S+): (proved|not proved|no proof|could not tell)(.*)$", re.M)
 RESTS_ON = re.compile(r"([^;]*), which (?:is|are) not proved")
 UNPROVED_GOAL = "`search` did not prove"
@@ -312,7 +313,7 @@ def number_of_lanes(rt):
 
 def main(names):
     rt = toolchain.load()
-    rt.in_lanes = functools.partial(lanes.in_lanes, number_of_lanes(rt), 0.85 * rt.free())
+    rt.in_lanes = functools.partial(lanes.in_lanes, number_of_lanes(rt), TAKEN * rt.free())
     with tempfile.TemporaryDirectory(prefix="check-edits-") as room:
         how = tried_unchanged if names[:1] == ["--unchanged"] else tried
         names = names[how is tried_unchanged :]

@@ -10,7 +10,7 @@ import os
 import threading
 from concurrent.futures import FIRST_COMPLETED, ThreadPoolExecutor, wait
 
-EXTRA = 2  # so many proofs begin beside as many tasks as there are processors
+EXTRA = 2  # so many proofs begin beside a task in each lane
 GIVES_WAY = 10  # the niceness of what nothing waits for
 READING = 30  # to read so many lines below takes as long as to prove one
 
@@ -39,10 +39,10 @@ def give_way():
 
 
 def in_lanes(lanes, memory, tasks):
-    """Runs tasks, of which those that nothing waits for take at most so many lanes, and gives what
-    each gave. Beside a task in each lane a proof begins only where the memory holds all."""
+    """Runs tasks, as many at a time as there are lanes, and gives what each gave. A proof that other
+    crates wait for begins beside a task in each lane where the memory, in bytes, holds all."""
     behind = chains(tasks, costs(tasks))
-    first = {it for key in tasks for it in tasks[key][0] if it[0] != key[0]}
+    awaited = {it for key in tasks for it in tasks[key][0] if it[0] != key[0]}
     left, running, given = sorted(tasks, key=lambda it: -behind[it]), {}, {}
     how = {"max_workers": lanes, "initializer": give_way}
     with ThreadPoolExecutor(lanes + EXTRA) as proofs, ThreadPoolExecutor(**how) as others:
@@ -50,10 +50,10 @@ def in_lanes(lanes, memory, tasks):
             for key in [it for it in left if all(below in given for below in tasks[it][0])]:
                 _, _, needs, call = tasks[key]
                 held = sum(tasks[it][2] for it in running.values())
-                is_beside = key in first and len(running) < lanes + EXTRA and held + needs <= memory
-                if len(running) < lanes or is_beside:
+                has_room = len(running) < lanes + EXTRA and held + needs <= memory
+                if len(running) < lanes or key in awaited and has_room:
                     left.remove(key)
-                    pool = proofs if key in first else others
+                    pool = proofs if key in awaited else others
                     running[pool.submit(call, given, 1)] = key
             for it in wait(running, return_when=FIRST_COMPLETED).done:
                 given[running.pop(it)] = it.result()
