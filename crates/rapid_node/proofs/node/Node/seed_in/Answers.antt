@@ -1,0 +1,5 @@
+use Rattle.std.proofs.Common.{rules}
+use Rattle.rapid_node.proofs.node.Node.seed_in.Goals as goal
+
+pub returns : goal.returns
+returns c = search rules
