@@ -1,104 +1,125 @@
-"""Makes twins of functions: an edit of a function's body is tried beside it, as a copy of it under
-its own contract and with its own proofs, whose body is the one that the edit gives it.
+"""Makes twins: a function's copy under another name, under the same contract and with the same
+proofs, whose body is the one that a mutant gives it.
 
-Nothing else of the crate changes, so nothing else is proved anew, and all edits of a crate are
-tried in one check, those of one function and those of functions that call one another among them. A
-twin cannot stand for a function that a trait asks for, for one in a cycle of calls, or for several
-that change together.
-"""
+Nothing else of the crate changes, so all mutants of a crate are tried by one check of the twins
+alone. A mutant has no twin if it changes more than one body, if the function is one that a trait asks
+for or stands in a cycle of calls, or if another proof names what the function's goals are made of."""
 import re
 from collections import namedtuple
-from pathlib import Path
 
-import source
+HEAD = re.compile(r"^( *)(?:pub(?:\(\w+\))? )?(?:const )?fn (\w+)")
+BLOCK = re.compile(r"^(?:pub(?:\(\w+\))? )?(impl|trait)\b(.*)")
+ABOVE = re.compile(r" *(?:///|#\[)")
+CYCLE = re.compile(r" *#\[cycle\b")
+INSIDE = r"\.(?:Goals|Given|Lts|Code|Answers|Invariants)\b"
 
-ATTRIBUTES = re.compile(r"(?:^[ \t]*(?:#\[|///)[^\n]*\n)*\Z", re.M)
-CYCLE = re.compile(r"#\[cycle\b")
-# What only a function's own proofs may name of it: what its goals are made of.
-INSIDE = r"(?:Goals|Given|Lts|Code|Answers|Invariants)\b"
-
-# An edit; the name of the twin; the file, and what comes in it where; the folder of the function's
-# proofs, and these by their paths in it.
-Twin = namedtuple("Twin", "edit name file inserted folder proofs")
-
-
-def attributes_of(text, at):
-    """The attributes of the function whose line begins here."""
-    lines = ATTRIBUTES.search(text[:at])[0].splitlines(keepends=True)
-    return "".join(it for it in lines if "#[" in it)
+# A function in the layout of rt fmt: the numbers of its first line, with its attributes, of the line
+# of its `fn`, of the line where its body begins, and of its last; its name; the block that it is in.
+Function = namedtuple("Function", "first head body last name block")
+# A mutant that is tried as a twin: its file, the twin's name and text, the number of the line that
+# it comes behind, and the folder of the function's proofs.
+Twin = namedtuple("Twin", "file name text behind folder")
 
 
-def folder_of_proofs(folder, module, span):
-    """The folder of a function's own proofs, there or not; none where it is not sure."""
-    if not span.owner:
-        return Path("proofs", *module, span.name)
-    found = [it for it in (folder / "proofs").rglob(span.name) if it.parent.name == span.owner]
+def pairs_of(mutant):
+    """The file that each pair of a mutant changes, the text that goes and the text that comes."""
+    pairs, file, old = [], "", ""
+    for line in mutant.read_text().split("\n"):
+        if line.startswith("file: "):
+            file = line[6:].strip()
+        elif line.startswith("old: "):
+            old = line[5:]
+        elif line.startswith("new:"):
+            pairs.append((file, old, line[4:].removeprefix(" ")))
+    return pairs
+
+
+def functions_of(lines):
+    """The functions of a source file that have a body, in order."""
+    found, block, at = [], "", 0
+    while at < len(lines):
+        line, head = lines[at], HEAD.match(lines[at])
+        block = line if BLOCK.match(line) else "" if line == "}" else block
+        if head:
+            ends = (number for number in range(at, len(lines)) if lines[number] == f"{head[1]}}}")
+            last = next(ends, at)
+            opens = {f"{head[1]}{{"} if f"{head[1]}{{" in lines[at:last] else {line}
+            body = next((number for number in range(at, last) if lines[number] in opens), last)
+            first = at
+            while first and ABOVE.match(lines[first - 1]):
+                first -= 1
+            if body < last:
+                found.append(Function(first, at, body, last, head[2], block))
+                at = last
+        at += 1
+    return found
+
+
+def type_of(block):
+    """The type of an impl's first line, none for no impl; false for that of a trait."""
+    found = BLOCK.match(block)
+    if not found:
+        return None
+    words = re.sub(r"^<(?:[^<>]|<[^<>]*>)*>", "", found[2])
+    named = re.search(r"\b[A-Z]\w*", words)
+    return False if found[1] == "trait" or " for " in words or not named else named[0]
+
+
+def folder_of(crate, file, function, owner):
+    """The folder of a function's proofs, there or not; none if that is not sure."""
+    module = [it for it in file.removeprefix("src/").removesuffix(".rt").split("/") if it not in ("lib", "main")]
+    found = [it for it in (crate / "proofs").rglob(function.name) if owner and it.parent.name == owner]
     if len(found) > 1:
         return None
-    return found[0].relative_to(folder) if found else Path("proofs", *module, span.owner, span.name)
+    own = crate.joinpath("proofs", *module, *[owner] * bool(owner), function.name)
+    return found[0] if found else own
 
 
-def is_named_outside(folder, own):
-    """Whether a proof of another function names what a function's goals are made of."""
-    inside = re.compile(re.escape(".".join(own.parts)) + r"\." + INSIDE)
-    files = (it for it in (folder / "proofs").rglob("*.antt") if folder / own not in it.parents)
-    return any(inside.search(it.read_text(encoding="utf-8")) for it in files)
+def is_named_elsewhere(crate, folder):
+    inside = re.compile(re.escape(".".join(folder.relative_to(crate).parts)) + INSIDE)
+    others = (it for it in (crate / "proofs").rglob("*.antt") if folder not in it.parents)
+    return any(inside.search(it.read_text()) for it in others)
 
 
-def by_name(text):
-    """The functions of a source file by the type of the impl that they stand in, and their name."""
-    return {(it.owner, it.name): it for it in source.functions_of(text)}
-
-
-def copied(text, span, name, edited, body):
-    """A function's text under another name, with its attributes and the body that it has in
-    another text."""
-    begins = text.rfind("\n", 0, span.head) + 1
-    words = source.VISIBLE_WORD.sub("", text[begins : span.head])
-    head = edited[body.head : body.end].replace(f"fn {span.name}", f"fn {name}", 1)
-    return f"\n{attributes_of(text, begins)}{words}{head}"
-
-
-def twin_of(edit, folder):
-    """The twin by which an edit can be tried, if it can."""
-    if len(edit.functions) != 1 or len({file for file, _, _ in edit.pairs}) != 1:
+def twin_of(crate, stem, pairs):
+    """The twin by which a mutant of a crate can be tried, if it can."""
+    file = pairs[0][0]
+    if not file.startswith("src/") or any(it[0] != file for it in pairs):
         return None
-    function, file = next(iter(edit.functions)), edit.pairs[0][0]
-    old = new = (folder / file).read_text(encoding="utf-8")
-    for _, gone, come in edit.pairs:
-        new = new.replace(gone, come)
-    before, after, key = by_name(old), by_name(new), (function.owner, function.name)
-    alike = [it for it in source.functions_of(old) if (it.owner, it.name) == key]
-    span = before[key]
-    own = folder_of_proofs(folder, source.module_of(file), span)
-    if len(alike) > 1 or span.is_of_trait or own is None or is_named_outside(folder, own):
+    text = (crate / file).read_text()
+    functions = functions_of(text.split("\n"))
+    for _, old, new in pairs:
+        place = text[: text.find(old)].count("\n")
+        functions = [it for it in functions if it.body < place < it.last]
+        text = text.replace(old, new)
+    if len(functions) != 1:
         return None
-    name = f"{span.name}_edit_{re.sub(r'[^A-Za-z0-9_]', '_', edit.path.stem)}"
-    text = copied(old, span, name, new, after[key])
-    if CYCLE.search(text):
+    function, lines = functions[0], text.split("\n")
+    alike = [it for it in functions_of(lines) if (it.name, it.block) == (function.name, function.block)]
+    owner = type_of(function.block)
+    folder = owner is not False and folder_of(crate, file, function, owner)
+    is_in_cycle = any(CYCLE.match(it) for it in lines[function.first : function.head])
+    if len(alike) != 1 or not folder or is_in_cycle or is_named_elsewhere(crate, folder):
         return None
-    inserted = [(span.end, text)]
-    for other in (it for of, it in after.items() if of not in before):
-        if re.search(rf"\b{other.name}\b", text):
-            place = span.end if other.owner else len(old)
-            inserted.append((place, f"\n{new[other.head : other.end]}\n"))
-    proofs = {it.relative_to(folder / own): it for it in (folder / own).rglob("*.antt")}
-    return Twin(edit, name, file, inserted, own, proofs)
+    name = f"{function.name}_mutant_{re.sub(r'[^A-Za-z0-9_]', '_', stem)}"
+    own = [it for it in lines[function.first : function.last + 1] if not it.lstrip().startswith("///")]
+    head = next(number for number, it in enumerate(own) if HEAD.match(it))
+    own[head] = re.sub(r"\bpub(?:\(\w+\))? ", "", own[head]).replace(f"fn {function.name}", f"fn {name}", 1)
+    return Twin(file, name, "\n".join(["", *own]), function.last, folder)
 
 
-def texts_of(twins, folder):
-    """The files of a crate with twins in it that differ from its own, or that it has not."""
-    texts, inserted = {}, {}
+def write(crate, twins):
+    """Writes twins, and their proofs, into a crate."""
+    for file in {it.file for it in twins}:
+        lines = (crate / file).read_text().split("\n")
+        for twin in sorted((it for it in twins if it.file == file), key=lambda it: -it.behind):
+            lines.insert(twin.behind + 1, twin.text)
+        (crate / file).unlink()
+        (crate / file).write_text("\n".join(lines))
     for twin in twins:
-        inserted.setdefault(twin.file, []).extend(twin.inserted)
-        old = ".".join([*twin.folder.parts, ""])
-        new = ".".join([*twin.folder.parent.parts, twin.name, ""])
-        for path, proof in twin.proofs.items():
-            text = proof.read_text(encoding="utf-8").replace(f".{old}", f".{new}")
-            texts[str(twin.folder.parent / twin.name / path)] = text
-    for file, pieces in inserted.items():
-        text = (folder / file).read_text(encoding="utf-8")
-        for at, piece in sorted(pieces, key=lambda it: -it[0]):
-            text = text[:at] + piece + text[at:]
-        texts[file] = text
-    return texts
+        folder = twin.folder.parent / twin.name
+        old, new = (".".join([*it.relative_to(crate).parts, ""]) for it in (twin.folder, folder))
+        for proof in list(twin.folder.rglob("*.antt")):
+            target = folder / proof.relative_to(twin.folder)
+            target.parent.mkdir(parents=True, exist_ok=True)
+            target.write_text(proof.read_text().replace(f".{old}", f".{new}"))
