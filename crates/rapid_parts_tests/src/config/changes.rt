@@ -66,7 +66,7 @@ fn changes(
 fn cuts_change_the_members(rt: HostRuntime) -> Result<(), Fail> {
     let two = founded(rt.alloc(), (3, 3, 1), 2)?;
     for change in &CHANGES {
-        assert!(rt; changes(rt.alloc(), &two, change)?);
+        assert!(rt; changes(rt.alloc(), &two, change)?, "at {change:?}");
     }
     Ok(())
 }

@@ -67,7 +67,10 @@ fn refusal(alloc: Global, numbers: &[(u16, u16)]) -> Result<Option<ConfigError>,
 #[test]
 fn founders_are_refused_by_name(rt: HostRuntime) -> Result<(), Fail> {
     for (numbers, expected) in &FOUNDERS {
-        assert!(rt; refusal(rt.alloc(), numbers)? == Some(*expected));
+        assert!(rt;
+            refusal(rt.alloc(), numbers)? == Some(*expected),
+            "at {numbers:?}"
+        );
     }
     assert!(rt; founded(rt.alloc(), (3, 3, 1), 1025).err() == Some(ConfigError::TooMany));
     Ok(())
@@ -92,7 +95,10 @@ const PLACES: [(u16, u16, Option<usize>); 7] = [
 fn members_have_their_places(rt: HostRuntime) -> Result<(), Fail> {
     let configuration = founded(rt.alloc(), (10, 9, 3), 9)?;
     for (number, port, place) in &PLACES {
-        assert!(rt; has_place(&configuration, &at(*number, *port), *place));
+        assert!(rt;
+            has_place(&configuration, &at(*number, *port), *place),
+            "at {number}, {port}"
+        );
     }
     Ok(())
 }
@@ -164,7 +170,7 @@ fn is_founded(
 #[test]
 fn foundings_have_their_identifiers(rt: HostRuntime) -> Result<(), Fail> {
     for founding in &FOUNDINGS {
-        assert!(rt; is_founded(rt.alloc(), founding)?);
+        assert!(rt; is_founded(rt.alloc(), founding)?, "at {founding:?}");
     }
     Ok(())
 }

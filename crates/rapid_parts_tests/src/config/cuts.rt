@@ -27,7 +27,7 @@ const PARAMS: [(u8, u8, u8, bool); 8] = [
 #[test]
 fn parameters(rt: HostRuntime) {
     for (k, h, l, is_good) in &PARAMS {
-        assert!(rt; are_taken(*k, *h, *l) == *is_good);
+        assert!(rt; are_taken(*k, *h, *l) == *is_good, "at {k}, {h}, {l}");
     }
     assert!(rt; Params::new(17, 1, 1).err() == Some(ConfigError::BadParams));
 }
@@ -72,7 +72,7 @@ const ASCENDING: [(&[(u16, u16)], &[(u16, u16)]); 3] = [
 #[test]
 fn cuts_are_in_order(rt: HostRuntime) -> Result<(), Fail> {
     for (low, high) in &ASCENDING {
-        assert!(rt; ascend(rt.alloc(), low, high)?);
+        assert!(rt; ascend(rt.alloc(), low, high)?, "at {low:?} and {high:?}");
     }
     Ok(())
 }
@@ -88,7 +88,10 @@ const CUTS: [(&[(u16, u16)], Option<ConfigError>); 4] = [
 #[test]
 fn cuts_are_refused_by_name(rt: HostRuntime) {
     for (numbers, expected) in &CUTS {
-        assert!(rt; cut(rt.alloc(), numbers).err() == *expected);
+        assert!(rt;
+            cut(rt.alloc(), numbers).err() == *expected,
+            "at {numbers:?}"
+        );
     }
 }
 
@@ -120,6 +123,6 @@ const CODES: [(ConfigError, u8); 10] = [
 #[test]
 fn refusals_have_their_numbers(rt: HostRuntime) {
     for (error, code) in &CODES {
-        assert!(rt; error.code() == *code);
+        assert!(rt; error.code() == *code, "at {error:?}");
     }
 }

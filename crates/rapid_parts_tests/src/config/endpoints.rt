@@ -24,7 +24,7 @@ const ENDPOINTS: [(&str, [u8; 4], u16); 5] = [
 #[test]
 fn endpoints_are_read_and_printed(rt: HostRuntime) -> Result<(), Fail> {
     for row in &ENDPOINTS {
-        assert!(rt; is_endpoint(rt.alloc(), row)?);
+        assert!(rt; is_endpoint(rt.alloc(), row)?, "at {row:?}");
     }
     let endpoint = Endpoint::parse("127.0.0.1:7000")?;
     assert!(rt; endpoint.to_bytes() == [0x7f, 0, 0, 1, 0x1b, 0x58]);
@@ -32,14 +32,14 @@ fn endpoints_are_read_and_printed(rt: HostRuntime) -> Result<(), Fail> {
     Ok(())
 }
 
-/// Whether all texts are refused as endpoints for this reason.
-fn are_refused(texts: &[&str], error: ParseError) -> bool {
+/// Sees that all texts are refused as endpoints for this reason.
+fn are_refused(texts: &[&str], error: ParseError) -> Result<(), Fail> {
     for text in texts {
         if Endpoint::parse(text) != Err(error) {
-            return false;
+            return Err(Fail::new(format_args!("not refused so: {text:?}")));
         }
     }
-    true
+    Ok(())
 }
 
 const OTHER_HOSTS: [&str; 8] = [
@@ -84,10 +84,10 @@ const OTHER_PORTS: [&str; 12] = [
 ];
 
 #[test]
-fn other_texts_are_refused_by_name(rt: HostRuntime) {
-    assert!(rt; are_refused(&OTHER_HOSTS, ParseError::NotFourParts));
-    assert!(rt; are_refused(&OTHER_PARTS, ParseError::PartRange));
-    assert!(rt; are_refused(&OTHER_PORTS, ParseError::BadPort));
+fn other_texts_are_refused_by_name() -> Result<(), Fail> {
+    are_refused(&OTHER_HOSTS, ParseError::NotFourParts)?;
+    are_refused(&OTHER_PARTS, ParseError::PartRange)?;
+    are_refused(&OTHER_PORTS, ParseError::BadPort)
 }
 
 const ASCENDING: [u8; 16] = [
@@ -112,7 +112,7 @@ const IDENTIFIERS: [&str; 5] = [
 #[test]
 fn identifiers_are_read_in_each_form(rt: HostRuntime) -> Result<(), Fail> {
     for text in &IDENTIFIERS {
-        assert!(rt; is_identifier(rt.alloc(), text)?);
+        assert!(rt; is_identifier(rt.alloc(), text)?, "at {text:?}");
     }
     Ok(())
 }
@@ -132,7 +132,10 @@ const OTHER_IDENTIFIERS: [&str; 9] = [
 #[test]
 fn other_texts_are_no_identifiers(rt: HostRuntime) {
     for text in &OTHER_IDENTIFIERS {
-        assert!(rt; ProcessId::parse(text) == Err(ParseError::BadIdentifier));
+        assert!(rt;
+            ProcessId::parse(text) == Err(ParseError::BadIdentifier),
+            "at {text:?}"
+        );
     }
 }
 
@@ -208,7 +211,10 @@ fn of((id, address, port): &Parts) -> Process {
 #[test]
 fn processes_are_ordered_by_identifier_first(rt: HostRuntime) {
     for (low, high, order) in &ORDERS {
-        assert!(rt; are_ordered(&of(low), &of(high), *order));
+        assert!(rt;
+            are_ordered(&of(low), &of(high), *order),
+            "at {low:?} and {high:?}"
+        );
     }
 }
 
@@ -240,6 +246,6 @@ const CODES: [(ParseError, u8); 4] = [
 #[test]
 fn errors_have_numbers(rt: HostRuntime) {
     for (error, code) in &CODES {
-        assert!(rt; error.code() == *code);
+        assert!(rt; error.code() == *code, "at {error:?}");
     }
 }

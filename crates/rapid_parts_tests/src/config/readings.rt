@@ -33,7 +33,10 @@ fn refusal(alloc: Global, bytes: &[u8]) -> Option<ConfigError> {
 #[test]
 fn each_beginning_is_too_short(rt: HostRuntime) {
     for length in 0..ONE.len() {
-        assert!(rt; refusal(rt.alloc(), &ONE[..length]) == Some(ConfigError::Truncated));
+        assert!(rt;
+            refusal(rt.alloc(), &ONE[..length]) == Some(ConfigError::Truncated),
+            "of {length} bytes"
+        );
     }
 }
 
@@ -94,7 +97,7 @@ fn is_answered(
 fn bytes_are_refused_by_name(rt: HostRuntime) -> Result<(), Fail> {
     let bytes = founded(rt.alloc(), (3, 3, 1), 2)?.to_bytes(rt.alloc())?;
     for case in &REFUSED {
-        assert!(rt; is_answered(rt.alloc(), &bytes, case)?);
+        assert!(rt; is_answered(rt.alloc(), &bytes, case)?, "at {case:?}");
     }
     Ok(())
 }

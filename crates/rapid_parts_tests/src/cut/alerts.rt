@@ -6,7 +6,7 @@ use crate::cut::tables::{Start, table};
 use crate::numbered::process;
 use rapid_alerts::{Alert, Batch, BatchError, Kind, Outbox, RaiseError, Raising};
 use rapid_config::{ConfigId, Params};
-use rapid_rings::{Table, TableError};
+use rapid_rings::Table;
 use std::alloc::{AllocError, Global};
 use std::test::Fail;
 
@@ -48,7 +48,7 @@ fn flushes_all(outbox: &mut Outbox<Table>) -> Result<bool, AllocError> {
 }
 
 /// A call of an outbox, and what it answers.
-#[derive(Clone, Copy)]
+#[derive(Clone, Copy, Debug)]
 enum Call {
     /// An alert of a kind, on a ring, of an observer, on a subject.
     Raise(Kind, u8, u16, u16, Result<Raising, RaiseError>),
@@ -143,23 +143,23 @@ fn answers(outbox: &mut Outbox<Table>, call: &Call) -> Result<bool, AllocError> 
     }
 }
 
-/// Whether all calls answer as they have to, in order.
-fn all_answer(outbox: &mut Outbox<Table>, calls: &[Call]) -> Result<bool, AllocError> {
+/// Sees that all calls answer as they have to, in order.
+fn all_answer(outbox: &mut Outbox<Table>, calls: &[Call]) -> Result<(), Fail> {
     for call in calls {
         if !answers(outbox, call)? {
-            return Ok(false);
+            return Err(Fail::new(format_args!("answered otherwise: {call:?}")));
         }
     }
-    Ok(true)
+    Ok(())
 }
 
 /// Process 1 observes process 5 on both of two rings.
 const EDGES: Start = Start::Edges(2, 2, 1, &[(0, 1, 5), (1, 1, 5)]);
 
-/// Whether all calls of an outbox of process 1 over a table answer as they have to, in order.
-fn runs(alloc: Global, start: &Start, calls: &[Call]) -> Result<bool, TableError> {
+/// Sees that all calls of an outbox of process 1 over a table answer as they have to, in order.
+fn runs(alloc: Global, start: &Start, calls: &[Call]) -> Result<(), Fail> {
     let mut outbox = Outbox::new(alloc, table(alloc, start)?, process(1));
-    Ok(all_answer(&mut outbox, calls)?)
+    all_answer(&mut outbox, calls)
 }
 
 const CALLS: [Call; 12] = [
@@ -178,8 +178,8 @@ const CALLS: [Call; 12] = [
 ];
 
 #[test]
-fn an_alert_is_raised_once_and_goes_out_again_after_resend(rt: HostRuntime) {
-    assert!(rt; matches!(runs(rt.alloc(), &EDGES, &CALLS), Ok(true)));
+fn an_alert_is_raised_once_and_goes_out_again_after_resend(rt: HostRuntime) -> Result<(), Fail> {
+    runs(rt.alloc(), &EDGES, &CALLS)
 }
 
 const ONE_RAISED: [Call; 2] = [
@@ -188,8 +188,8 @@ const ONE_RAISED: [Call; 2] = [
 ];
 
 #[test]
-fn a_batch_has_the_alert_that_was_raised(rt: HostRuntime) {
-    assert!(rt; matches!(runs(rt.alloc(), &EDGES, &ONE_RAISED), Ok(true)));
+fn a_batch_has_the_alert_that_was_raised(rt: HostRuntime) -> Result<(), Fail> {
+    runs(rt.alloc(), &EDGES, &ONE_RAISED)
 }
 
 /// After 512 joiners one more is refused, and a known one or a member is not.
@@ -202,8 +202,8 @@ const FULL: [Call; 5] = [
 ];
 
 #[test]
-fn a_513th_joiner_is_refused(rt: HostRuntime) {
-    assert!(rt; matches!(runs(rt.alloc(), &Start::Joiners(513), &FULL), Ok(true)));
+fn a_513th_joiner_is_refused(rt: HostRuntime) -> Result<(), Fail> {
+    runs(rt.alloc(), &Start::Joiners(513), &FULL)
 }
 
 const FLUSHES: [Call; 4] = [
@@ -214,8 +214,8 @@ const FLUSHES: [Call; 4] = [
 ];
 
 #[test]
-fn a_batch_has_at_most_2048_alerts(rt: HostRuntime) {
-    assert!(rt; matches!(runs(rt.alloc(), &Start::Members(129), &FLUSHES), Ok(true)));
+fn a_batch_has_at_most_2048_alerts(rt: HostRuntime) -> Result<(), Fail> {
+    runs(rt.alloc(), &Start::Members(129), &FLUSHES)
 }
 
 const AGAIN: [Call; 2] = [Call::RaiseAgain(Kind::Join, 0, 1, 2), Call::FlushAgain(1)];
@@ -223,8 +223,7 @@ const AGAIN: [Call; 2] = [Call::RaiseAgain(Kind::Join, 0, 1, 2), Call::FlushAgai
 /// Where some growth is refused the outbox is as it was, and the next call works.
 #[test]
 fn want_of_memory_leaves_the_outbox_as_it_was(rt: HostRuntime) -> Result<(), Fail> {
-    assert!(rt; runs(rt.alloc(), &Start::Joiners(1), &AGAIN)?);
-    Ok(())
+    runs(rt.alloc(), &Start::Joiners(1), &AGAIN)
 }
 
 /// Whether a copy of an outbox over an equal table has raised nothing.
@@ -274,17 +273,15 @@ const REFUSALS: [(usize, u16, Option<BatchError>); 6] = [
     (2048, 2, Some(BatchError::TooManyAlerts)),
 ];
 
-/// Whether batches are refused for these reasons.
-fn are_refused(
-    alloc: Global,
-    rows: &[(usize, u16, Option<BatchError>)],
-) -> Result<bool, AllocError> {
-    for (many, observer, expected) in rows {
-        if refusal(alloc, *many, *observer)? != *expected {
-            return Ok(false);
+/// Sees that batches are refused for these reasons.
+fn are_refused(alloc: Global, rows: &[(usize, u16, Option<BatchError>)]) -> Result<(), Fail> {
+    for row in rows {
+        let (many, observer, expected) = *row;
+        if refusal(alloc, many, observer)? != expected {
+            return Err(Fail::new(format_args!("not refused so: {row:?}")));
         }
     }
-    Ok(true)
+    Ok(())
 }
 
 /// Why a batch of no alerts is refused.
@@ -293,9 +290,9 @@ fn refusal_of_none(alloc: Global) -> Option<BatchError> {
 }
 
 #[test]
-fn a_batch_is_refused_by_the_first_reason(rt: HostRuntime) {
-    assert!(rt; matches!(are_refused(rt.alloc(), &REFUSALS), Ok(true)));
+fn a_batch_is_refused_by_the_first_reason(rt: HostRuntime) -> Result<(), Fail> {
     assert!(rt; refusal_of_none(rt.alloc()) == Some(BatchError::EmptyBatch));
+    are_refused(rt.alloc(), &REFUSALS)
 }
 
 /// Whether a copy of a batch of two alerts has two.
@@ -328,9 +325,9 @@ const BATCHES: [(BatchError, u8); 4] = [
 #[test]
 fn refusals_have_their_numbers(rt: HostRuntime) {
     for (error, code) in &RAISING {
-        assert!(rt; error.code() == *code);
+        assert!(rt; error.code() == *code, "at {error:?}");
     }
     for (error, code) in &BATCHES {
-        assert!(rt; error.code() == *code);
+        assert!(rt; error.code() == *code, "at {error:?}");
     }
 }

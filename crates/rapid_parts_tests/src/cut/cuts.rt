@@ -8,12 +8,12 @@ use crate::numbered::{are_numbered, process};
 use rapid_alerts::{Alert, Kind};
 use rapid_config::{ConfigId, Cut, Params};
 use rapid_cut::Detector;
-use rapid_rings::{Table, TableError};
+use rapid_rings::Table;
 use std::alloc::{AllocError, Global};
 use std::test::Fail;
 
 /// A call of a detector, and what it answers.
-#[derive(Clone, Copy)]
+#[derive(Clone, Copy, Debug)]
 enum Call<'a> {
     /// A batch that removes, the numbers of its cut, none where it has no cut, and how many alerts
     /// are skipped.
@@ -141,24 +141,20 @@ fn answers(alloc: Global, detector: &mut Detector<Table>, call: &Call) -> Result
     }
 }
 
-/// Whether all calls answer as they have to, in order.
-fn all_answer(
-    alloc: Global,
-    detector: &mut Detector<Table>,
-    calls: &[Call],
-) -> Result<bool, AllocError> {
+/// Sees that all calls answer as they have to, in order.
+fn all_answer(alloc: Global, detector: &mut Detector<Table>, calls: &[Call]) -> Result<(), Fail> {
     for call in calls {
         if !answers(alloc, detector, call)? {
-            return Ok(false);
+            return Err(Fail::new(format_args!("answered otherwise: {call:?}")));
         }
     }
-    Ok(true)
+    Ok(())
 }
 
-/// Whether all calls of a detector over a table answer as they have to, in order.
-fn runs(alloc: Global, start: &Start, calls: &[Call]) -> Result<bool, TableError> {
+/// Sees that all calls of a detector over a table answer as they have to, in order.
+fn runs(alloc: Global, start: &Start, calls: &[Call]) -> Result<(), Fail> {
     let mut detector = Detector::new(alloc, table(alloc, start)?);
-    Ok(all_answer(alloc, &mut detector, calls)?)
+    all_answer(alloc, &mut detector, calls)
 }
 
 const FIVE: Start = Start::Edges(4, 3, 2, &[(0, 1, 5), (1, 2, 5), (2, 3, 5), (3, 4, 5)]);
@@ -176,8 +172,8 @@ const REPEATS: [Call; 8] = [
 ];
 
 #[test]
-fn repeats_count_once_and_earlier_batches_count(rt: HostRuntime) {
-    assert!(rt; matches!(runs(rt.alloc(), &FIVE, &REPEATS), Ok(true)));
+fn repeats_count_once_and_earlier_batches_count(rt: HostRuntime) -> Result<(), Fail> {
+    runs(rt.alloc(), &FIVE, &REPEATS)
 }
 
 const BY_FIVE: [Edge; 8] = [
@@ -203,8 +199,8 @@ const IMPLIES: [Call; 5] = [
 ];
 
 #[test]
-fn rings_of_a_reported_observer_are_implied(rt: HostRuntime) {
-    assert!(rt; matches!(runs(rt.alloc(), &OBSERVED_BY_FIVE, &IMPLIES), Ok(true)));
+fn rings_of_a_reported_observer_are_implied(rt: HostRuntime) -> Result<(), Fail> {
+    runs(rt.alloc(), &OBSERVED_BY_FIVE, &IMPLIES)
 }
 
 /// An alert of another observer, on no ring, of the wrong kind and of another configuration.
@@ -216,8 +212,8 @@ const SKIPS: [Call; 4] = [
 ];
 
 #[test]
-fn what_is_ill_formed_is_skipped(rt: HostRuntime) {
-    assert!(rt; matches!(runs(rt.alloc(), &FIVE, &SKIPS), Ok(true)));
+fn what_is_ill_formed_is_skipped(rt: HostRuntime) -> Result<(), Fail> {
+    runs(rt.alloc(), &FIVE, &SKIPS)
 }
 
 /// Joiners with K = H = 2 and L = 1.
@@ -231,8 +227,8 @@ const JOIN_513: [Call; 4] = [
 ];
 
 #[test]
-fn a_513th_joiner_is_skipped(rt: HostRuntime) {
-    assert!(rt; matches!(runs(rt.alloc(), &JOINERS, &JOIN_513), Ok(true)));
+fn a_513th_joiner_is_skipped(rt: HostRuntime) -> Result<(), Fail> {
+    runs(rt.alloc(), &JOINERS, &JOIN_513)
 }
 
 const JOIN_512: [Call; 3] = [
@@ -242,8 +238,8 @@ const JOIN_512: [Call; 3] = [
 ];
 
 #[test]
-fn a_known_joiner_is_taken_when_512_are_there(rt: HostRuntime) {
-    assert!(rt; matches!(runs(rt.alloc(), &JOINERS, &JOIN_512), Ok(true)));
+fn a_known_joiner_is_taken_when_512_are_there(rt: HostRuntime) -> Result<(), Fail> {
+    runs(rt.alloc(), &JOINERS, &JOIN_512)
 }
 
 /// Two batches, the first with an alert that is skipped, bring the cut of process 5.
@@ -257,8 +253,7 @@ const BRINGS: [Call; 3] = [
 /// the same cut.
 #[test]
 fn want_of_memory_leaves_the_detector_as_it_was(rt: HostRuntime) -> Result<(), Fail> {
-    assert!(rt; runs(rt.alloc(), &FIVE, &BRINGS)?);
-    Ok(())
+    runs(rt.alloc(), &FIVE, &BRINGS)
 }
 
 /// Whether a copy of a detector over an equal table skipped nothing.

@@ -167,7 +167,7 @@ fn three_wait(host: &mut Host, next: &Configuration) -> Result<bool, AllocError>
 }
 
 /// A call of a host, and what it answers.
-#[derive(Clone, Copy)]
+#[derive(Clone, Copy, Debug)]
 pub enum Call<'a> {
     /// The joiners from 2 on, so many of them, ask for ring 0, and each makes the host raise.
     Ask(u16),
@@ -241,29 +241,24 @@ fn answers_call(
     }
 }
 
-/// Whether all calls of a host answer as they have to, in order.
-fn all_answer(
-    alloc: Global,
-    host: &mut Host,
-    own: ConfigId,
-    calls: &[Call],
-) -> Result<bool, ConfigError> {
+/// Sees that all calls of a host answer as they have to, in order.
+fn all_answer(alloc: Global, host: &mut Host, own: ConfigId, calls: &[Call]) -> Result<(), Fail> {
     for call in calls {
         if !answers_call(alloc, host, own, call)? {
-            return Ok(false);
+            return Err(Fail::new(format_args!("answered otherwise: {call:?}")));
         }
     }
-    Ok(true)
+    Ok(())
 }
 
-/// Whether all calls of the host that is this process, in the configuration of these members,
+/// Sees that all calls of the host that is this process, in the configuration of these members,
 /// answer as they have to, in order.
 pub fn runs(
     alloc: Global,
     names: &[Name],
     (number, port): Name,
     calls: &[Call],
-) -> Result<bool, ConfigError> {
+) -> Result<(), Fail> {
     let configuration = founded(alloc, THREE, names)?;
     let mut host = Host::new(alloc, &configuration, &at(number, port))?;
     all_answer(alloc, &mut host, configuration.id(), calls)
@@ -292,8 +287,8 @@ const ALONE: [Call; 3] = [
 ];
 
 #[test]
-fn questions_and_requests(rt: HostRuntime) {
-    assert!(rt; matches!(runs(rt.alloc(), &ONE, (1, 1), &ALONE), Ok(true)));
+fn questions_and_requests(rt: HostRuntime) -> Result<(), Fail> {
+    runs(rt.alloc(), &ONE, (1, 1), &ALONE)
 }
 
 const QUESTIONS_WHEN_FULL: [Question; 5] = [
@@ -320,8 +315,8 @@ const FULL: [Call; 3] = [
 ];
 
 #[test]
-fn questions_and_requests_at_a_full_host(rt: HostRuntime) {
-    assert!(rt; matches!(runs(rt.alloc(), &ONE, (1, 1), &FULL), Ok(true)));
+fn questions_and_requests_at_a_full_host(rt: HostRuntime) -> Result<(), Fail> {
+    runs(rt.alloc(), &ONE, (1, 1), &FULL)
 }
 
 const QUESTIONS_OF_HOLDERS: [Question; 16] = [
@@ -350,8 +345,8 @@ const OF_HOLDERS: [Call; 1] = [Call::Questions(&QUESTIONS_OF_HOLDERS)];
 /// Members whose endpoints do not ascend: each identifier and each endpoint of one of them is held,
 /// and no other.
 #[test]
-fn first_questions_of_what_members_hold(rt: HostRuntime) {
-    assert!(rt; matches!(runs(rt.alloc(), &HOLDERS, (30, 50), &OF_HOLDERS), Ok(true)));
+fn first_questions_of_what_members_hold(rt: HostRuntime) -> Result<(), Fail> {
+    runs(rt.alloc(), &HOLDERS, (30, 50), &OF_HOLDERS)
 }
 
 const NOT_OBSERVED: [Request; 3] = [(5, 5, true, 0, 0), (5, 5, true, 1, 0), (5, 5, true, 2, 0)];
@@ -359,8 +354,8 @@ const NOT_OBSERVED: [Request; 3] = [(5, 5, true, 0, 0), (5, 5, true, 1, 0), (5, 
 const STRANGER: [Call; 1] = [Call::Requests(&NOT_OBSERVED)];
 
 #[test]
-fn a_host_that_does_not_observe_keeps_still(rt: HostRuntime) {
-    assert!(rt; matches!(runs(rt.alloc(), &TWO, (9, 9), &STRANGER), Ok(true)));
+fn a_host_that_does_not_observe_keeps_still(rt: HostRuntime) -> Result<(), Fail> {
+    runs(rt.alloc(), &TWO, (9, 9), &STRANGER)
 }
 
 const WAITED: [Waited; 3] = [(2, 3), (3, 5), (4, 3)];
@@ -375,8 +370,8 @@ const WAITING: [Call; 4] = [
 ];
 
 #[test]
-fn those_who_waited_are_answered_once(rt: HostRuntime) {
-    assert!(rt; matches!(runs(rt.alloc(), &ONE, (1, 1), &WAITING), Ok(true)));
+fn those_who_waited_are_answered_once(rt: HostRuntime) -> Result<(), Fail> {
+    runs(rt.alloc(), &ONE, (1, 1), &WAITING)
 }
 
 // The observers were computed by Python's hashlib, from the rule that none is between.
@@ -384,8 +379,8 @@ fn those_who_waited_are_answered_once(rt: HostRuntime) {
 const OBSERVERS: [Call; 1] = [Call::Observers([4, 1, 3])];
 
 #[test]
-fn a_joiner_asks_its_observers_by_ring(rt: HostRuntime) {
-    assert!(rt; matches!(runs(rt.alloc(), &FIVE, (1, 1), &OBSERVERS), Ok(true)));
+fn a_joiner_asks_its_observers_by_ring(rt: HostRuntime) -> Result<(), Fail> {
+    runs(rt.alloc(), &FIVE, (1, 1), &OBSERVERS)
 }
 
 /// Whether it is a question to the seed at this port.
@@ -435,19 +430,20 @@ const REPLIES: [(u16, u16, Reply, bool); 5] = [
     (6, 6, Reply::TooManyJoiners, false),
 ];
 
-/// Whether the joiner 6 asks its seed anew at the replies that say so, and at no other.
-fn all_begin_anew(alloc: Global, replies: &[(u16, u16, Reply, bool)]) -> Result<bool, AllocError> {
+/// Sees that the joiner 6 asks its seed anew at the replies that say so, and at no other.
+fn all_begin_anew(alloc: Global, replies: &[(u16, u16, Reply, bool)]) -> Result<(), Fail> {
     for (id, port, reply, expected) in replies {
         if begins_anew(alloc, &at(*id, *port), reply)? != *expected {
-            return Ok(false);
+            let code = reply.code();
+            return Err(Fail::new(format_args!("at the reply {code} to {id} at port {port}")));
         }
     }
-    Ok(true)
+    Ok(())
 }
 
 #[test]
-fn other_replies(rt: HostRuntime) {
-    assert!(rt; matches!(all_begin_anew(rt.alloc(), &REPLIES), Ok(true)));
+fn other_replies(rt: HostRuntime) -> Result<(), Fail> {
+    all_begin_anew(rt.alloc(), &REPLIES)
 }
 
 /// Whether a copy of observers has the same, and makes a reply with the number of `Safe`.
@@ -471,6 +467,5 @@ fn observers_are_shared(rt: HostRuntime) {
 /// again.
 #[test]
 fn want_of_memory_leaves_the_host_as_it_was(rt: HostRuntime) -> Result<(), Fail> {
-    assert!(rt; runs(rt.alloc(), &ONE, (1, 1), &[Call::ThreeWait(&ONE)])?);
-    Ok(())
+    runs(rt.alloc(), &ONE, (1, 1), &[Call::ThreeWait(&ONE)])
 }

@@ -51,7 +51,10 @@ fn new_runs(alloc: Global, rows: &[Run]) -> Result<bool, AllocError> {
 #[test]
 fn four_failures_of_ten_bring_an_edge_down(rt: HostRuntime) {
     for rows in &WINDOWS {
-        assert!(rt; matches!(new_runs(rt.alloc(), rows), Ok(true)));
+        assert!(rt;
+            matches!(new_runs(rt.alloc(), rows), Ok(true)),
+            "in the runs {rows:?}"
+        );
     }
 }
 
@@ -96,7 +99,7 @@ fn copy_probes(alloc: Global, monitors: &Monitors, rows: &[Probe]) -> Result<boo
 }
 
 /// What monitors do.
-#[derive(Clone, Copy)]
+#[derive(Clone, Copy, Debug)]
 enum Step<'a> {
     /// Probes, in order.
     Probe(&'a [Probe]),
@@ -129,20 +132,20 @@ fn monitors_of(alloc: Global, me: u16, again: bool) -> Result<Monitors, ConfigEr
     Ok(made(alloc, &rings, me, again)?)
 }
 
-/// Whether all steps of monitors have their verdicts, in order.
-fn all_step(alloc: Global, monitors: &mut Monitors, all: &[Step]) -> Result<bool, AllocError> {
+/// Sees that all steps of monitors have their verdicts, in order.
+fn all_step(alloc: Global, monitors: &mut Monitors, all: &[Step]) -> Result<(), Fail> {
     for step in all {
         if !steps(alloc, monitors, step)? {
-            return Ok(false);
+            return Err(Fail::new(format_args!("another verdict: {step:?}")));
         }
     }
-    Ok(true)
+    Ok(())
 }
 
-/// Whether all steps of the monitors of a process among two members have their verdicts, in order.
-fn monitors_run(alloc: Global, me: u16, again: bool, all: &[Step]) -> Result<bool, ConfigError> {
+/// Sees that all steps of the monitors of a process among two members have their verdicts, in order.
+fn monitors_run(alloc: Global, me: u16, again: bool, all: &[Step]) -> Result<(), Fail> {
     let mut monitors = monitors_of(alloc, me, again)?;
-    Ok(all_step(alloc, &mut monitors, all)?)
+    all_step(alloc, &mut monitors, all)
 }
 
 const THREE_FAIL: [Probe; 3] = [
@@ -167,15 +170,15 @@ const BY_RING: [Step; 3] = [
 ];
 
 #[test]
-fn the_edges_of_a_member_are_probed_by_ring(rt: HostRuntime) {
-    assert!(rt; matches!(monitors_run(rt.alloc(), 1, false, &BY_RING), Ok(true)));
+fn the_edges_of_a_member_are_probed_by_ring(rt: HostRuntime) -> Result<(), Fail> {
+    monitors_run(rt.alloc(), 1, false, &BY_RING)
 }
 
 const NO_EDGE: [Step; 1] = [Step::Probe(&[(0, true, None)])];
 
 #[test]
-fn a_stranger_probes_nothing(rt: HostRuntime) {
-    assert!(rt; matches!(monitors_run(rt.alloc(), 9, false, &NO_EDGE), Ok(true)));
+fn a_stranger_probes_nothing(rt: HostRuntime) -> Result<(), Fail> {
+    monitors_run(rt.alloc(), 9, false, &NO_EDGE)
 }
 
 const AS_THEY_WERE: [Step; 3] = [
@@ -187,6 +190,5 @@ const AS_THEY_WERE: [Step; 3] = [
 /// Where some growth is refused the next call works, and what was copied is as it was.
 #[test]
 fn want_of_memory_leaves_the_monitors_as_they_were(rt: HostRuntime) -> Result<(), Fail> {
-    assert!(rt; monitors_run(rt.alloc(), 1, true, &AS_THEY_WERE)?);
-    Ok(())
+    monitors_run(rt.alloc(), 1, true, &AS_THEY_WERE)
 }

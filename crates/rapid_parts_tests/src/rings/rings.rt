@@ -5,6 +5,7 @@ use rapid_config::{ConfigError, Configuration};
 use rapid_endpoint::Process;
 use rapid_rings::{ObserverTable, Rings};
 use std::alloc::{AllocError, Global};
+use std::test::Fail;
 
 /// The rings of these members, who ascend.
 pub fn rings_of(alloc: Global, marks: Marks, names: &[Name]) -> Result<Rings, ConfigError> {
@@ -26,7 +27,7 @@ fn are_edges(rings: &Rings, edges: &[Edge]) -> bool {
 }
 
 /// A call of rings, and what it answers.
-#[derive(Clone, Copy)]
+#[derive(Clone, Copy, Debug)]
 pub enum Call<'a> {
     /// Who observes whom.
     Edges(&'a [Edge]),
@@ -116,23 +117,18 @@ fn answers(alloc: Global, rings: &Rings, call: &Call) -> Result<bool, ConfigErro
     }
 }
 
-/// Whether all calls of rings answer as they have to.
-fn all_answer(alloc: Global, rings: &Rings, calls: &[Call]) -> Result<bool, ConfigError> {
+/// Sees that all calls of rings answer as they have to.
+fn all_answer(alloc: Global, rings: &Rings, calls: &[Call]) -> Result<(), Fail> {
     for call in calls {
         if !answers(alloc, rings, call)? {
-            return Ok(false);
+            return Err(Fail::new(format_args!("answered otherwise: {call:?}")));
         }
     }
-    Ok(true)
+    Ok(())
 }
 
-/// Whether all calls of the rings of these members answer as they have to.
-pub fn runs(
-    alloc: Global,
-    marks: Marks,
-    names: &[Name],
-    calls: &[Call],
-) -> Result<bool, ConfigError> {
+/// Sees that all calls of the rings of these members answer as they have to.
+pub fn runs(alloc: Global, marks: Marks, names: &[Name], calls: &[Call]) -> Result<(), Fail> {
     let rings = rings_of(alloc, marks, names)?;
     all_answer(alloc, &rings, calls)
 }
@@ -154,13 +150,8 @@ pub const OF_TWO: [Edge; 8] = [
 ];
 
 #[test]
-fn two_members_observe_each_other(rt: HostRuntime) {
-    assert!(rt;
-        matches!(
-            runs(rt.alloc(), THREE, &TWO, &[Call::Edges(&OF_TWO)]),
-            Ok(true)
-        )
-    );
+fn two_members_observe_each_other(rt: HostRuntime) -> Result<(), Fail> {
+    runs(rt.alloc(), THREE, &TWO, &[Call::Edges(&OF_TWO)])
 }
 
 const OF_ONE: [Edge; 6] = [
@@ -173,13 +164,8 @@ const OF_ONE: [Edge; 6] = [
 ];
 
 #[test]
-fn a_member_alone_is_not_observed(rt: HostRuntime) {
-    assert!(rt;
-        matches!(
-            runs(rt.alloc(), THREE, &[(1, 1)], &[Call::Edges(&OF_ONE)]),
-            Ok(true)
-        )
-    );
+fn a_member_alone_is_not_observed(rt: HostRuntime) -> Result<(), Fail> {
+    runs(rt.alloc(), THREE, &[(1, 1)], &[Call::Edges(&OF_ONE)])
 }
 
 // The observers of these tests were computed by Python's hashlib, from the rule that none is
@@ -217,13 +203,8 @@ const OF_FIVE: [Edge; 24] = [
 ];
 
 #[test]
-fn five_members_and_joiners_have_their_observers(rt: HostRuntime) {
-    assert!(rt;
-        matches!(
-            runs(rt.alloc(), THREE, &FIVE, &[Call::Edges(&OF_FIVE)]),
-            Ok(true)
-        )
-    );
+fn five_members_and_joiners_have_their_observers(rt: HostRuntime) -> Result<(), Fail> {
+    runs(rt.alloc(), THREE, &FIVE, &[Call::Edges(&OF_FIVE)])
 }
 
 const SUBJECTS: [Call; 2] = [
@@ -232,8 +213,8 @@ const SUBJECTS: [Call; 2] = [
 ];
 
 #[test]
-fn members_have_their_subjects(rt: HostRuntime) {
-    assert!(rt; matches!(runs(rt.alloc(), THREE, &FIVE, &SUBJECTS), Ok(true)));
+fn members_have_their_subjects(rt: HostRuntime) -> Result<(), Fail> {
+    runs(rt.alloc(), THREE, &FIVE, &SUBJECTS)
 }
 
 const BEFORE: [Name; 4] = [(1, 1), (3, 3), (4, 4), (6, 6)];
@@ -242,15 +223,15 @@ const NEXT: [Call; 1] = [Call::Next(&FIVE, &OF_FIVE)];
 
 /// The next rings keep keys of the last and tell of their configuration.
 #[test]
-fn the_next_rings_keep_the_keys(rt: HostRuntime) {
-    assert!(rt; matches!(runs(rt.alloc(), THREE, &BEFORE, &NEXT), Ok(true)));
+fn the_next_rings_keep_the_keys(rt: HostRuntime) -> Result<(), Fail> {
+    runs(rt.alloc(), THREE, &BEFORE, &NEXT)
 }
 
 const SEARCHES: [Call; 2] = [Call::Search(1, 4, true, 2), Call::Search(2, 6, false, 3)];
 
 #[test]
-fn one_search_tells_members_and_observers(rt: HostRuntime) {
-    assert!(rt; matches!(runs(rt.alloc(), THREE, &FIVE, &SEARCHES), Ok(true)));
+fn one_search_tells_members_and_observers(rt: HostRuntime) -> Result<(), Fail> {
+    runs(rt.alloc(), THREE, &FIVE, &SEARCHES)
 }
 
 const OF_SIXTEEN: [Name; 4] = [(1, 1), (2, 2), (300, 300), (65_535, 65_535)];
@@ -280,12 +261,11 @@ const SIXTEEN_RINGS: [Edge; 20] = [
 ];
 
 #[test]
-fn each_ring_has_an_order_of_its_own(rt: HostRuntime) {
-    let found = runs(
+fn each_ring_has_an_order_of_its_own(rt: HostRuntime) -> Result<(), Fail> {
+    runs(
         rt.alloc(),
         (16, 9, 3),
         &OF_SIXTEEN,
         &[Call::Edges(&SIXTEEN_RINGS)],
-    );
-    assert!(rt; matches!(found, Ok(true)));
+    )
 }

@@ -1,12 +1,13 @@
 // Tables of explicit edges.
 
 use crate::numbered::{Marks, is_numbered, process};
-use rapid_config::{ConfigError, ConfigId, Params};
+use rapid_config::{ConfigId, Params};
 use rapid_rings::{ObserverTable, Table, TableError};
 use std::alloc::Global;
+use std::test::Fail;
 
 /// A call of a table, and what it answers.
-#[derive(Clone, Copy)]
+#[derive(Clone, Copy, Debug)]
 pub enum Call {
     /// An edge: a ring, an observer and a subject.
     Add(u8, u16, u16, Result<(), TableError>),
@@ -76,20 +77,20 @@ fn answers(table: &mut Table, call: &Call) -> bool {
     }
 }
 
-/// Whether all calls answer as they have to, in order.
-fn all_answer(table: &mut Table, calls: &[Call]) -> bool {
+/// Sees that all calls answer as they have to, in order.
+fn all_answer(table: &mut Table, calls: &[Call]) -> Result<(), Fail> {
     for call in calls {
         if !answers(table, call) {
-            return false;
+            return Err(Fail::new(format_args!("answered otherwise: {call:?}")));
         }
     }
-    true
+    Ok(())
 }
 
-/// Whether all calls of a table answer as they have to, in order.
-pub fn runs(alloc: Global, (k, h, l): Marks, calls: &[Call]) -> Result<bool, ConfigError> {
+/// Sees that all calls of a table answer as they have to, in order.
+pub fn runs(alloc: Global, (k, h, l): Marks, calls: &[Call]) -> Result<(), Fail> {
     let mut table = Table::new(alloc, Params::new(k, h, l)?);
-    Ok(all_answer(&mut table, calls))
+    all_answer(&mut table, calls)
 }
 
 const FOUR: Marks = (4, 3, 2);
@@ -105,8 +106,8 @@ const EDGES: [Call; 7] = [
 ];
 
 #[test]
-fn an_edge_has_its_observer(rt: HostRuntime) {
-    assert!(rt; matches!(runs(rt.alloc(), FOUR, &EDGES), Ok(true)));
+fn an_edge_has_its_observer(rt: HostRuntime) -> Result<(), Fail> {
+    runs(rt.alloc(), FOUR, &EDGES)
 }
 
 const JOINERS: [Call; 7] = [
@@ -120,13 +121,13 @@ const JOINERS: [Call; 7] = [
 ];
 
 #[test]
-fn a_joiner_is_no_member_and_an_edge_is_refused_by_name(rt: HostRuntime) {
-    assert!(rt; matches!(runs(rt.alloc(), FOUR, &JOINERS), Ok(true)));
+fn a_joiner_is_no_member_and_an_edge_is_refused_by_name(rt: HostRuntime) -> Result<(), Fail> {
+    runs(rt.alloc(), FOUR, &JOINERS)
 }
 
 #[test]
-fn a_table_has_its_parameters_and_no_identifier(rt: HostRuntime) {
-    assert!(rt; matches!(runs(rt.alloc(), FOUR, &[Call::Bare(4)]), Ok(true)));
+fn a_table_has_its_parameters_and_no_identifier(rt: HostRuntime) -> Result<(), Fail> {
+    runs(rt.alloc(), FOUR, &[Call::Bare(4)])
 }
 
 const CODES: [(TableError, u8); 4] = [
@@ -139,7 +140,7 @@ const CODES: [(TableError, u8); 4] = [
 #[test]
 fn errors_have_numbers(rt: HostRuntime) {
     for (error, code) in &CODES {
-        assert!(rt; error.code() == *code);
+        assert!(rt; error.code() == *code, "at {error:?}");
     }
 }
 
@@ -159,8 +160,8 @@ const FULL: [Call; 9] = [
 ];
 
 #[test]
-fn a_1025th_member_is_not_observed(rt: HostRuntime) {
-    assert!(rt; matches!(runs(rt.alloc(), TWO, &FULL), Ok(true)));
+fn a_1025th_member_is_not_observed(rt: HostRuntime) -> Result<(), Fail> {
+    runs(rt.alloc(), TWO, &FULL)
 }
 
 const NO_LONGER_FULL: [Call; 6] = [
@@ -173,6 +174,6 @@ const NO_LONGER_FULL: [Call; 6] = [
 ];
 
 #[test]
-fn a_subject_that_becomes_a_joiner_counts_no_more(rt: HostRuntime) {
-    assert!(rt; matches!(runs(rt.alloc(), TWO, &NO_LONGER_FULL), Ok(true)));
+fn a_subject_that_becomes_a_joiner_counts_no_more(rt: HostRuntime) -> Result<(), Fail> {
+    runs(rt.alloc(), TWO, &NO_LONGER_FULL)
 }

@@ -9,7 +9,7 @@ use std::test::Fail;
 #[test]
 fn sizes(rt: HostRuntime) {
     for (n, size) in [(1, 1), (2, 2), (3, 3), (4, 4), (5, 4), (8, 7), (9, 7)] {
-        assert!(rt; n <= 1024 && fast_size(n) == size);
+        assert!(rt; n <= 1024 && fast_size(n) == size, "of {n}");
     }
 }
 
@@ -24,14 +24,14 @@ fn decides(alloc: Global, round: &mut FastRound, vote: &Vote) -> Result<bool, Fa
     Ok(is_cut(decided.as_ref(), wanted))
 }
 
-/// Whether all votes decide as they have to, in order.
-fn all_decide(alloc: Global, round: &mut FastRound, votes: &[Vote]) -> Result<bool, Fail> {
+/// Sees that all votes decide as they have to, in order.
+fn all_decide(alloc: Global, round: &mut FastRound, votes: &[Vote]) -> Result<(), Fail> {
     for vote in votes {
         if !decides(alloc, round, vote)? {
-            return Ok(false);
+            return Err(Fail::new(format_args!("decided otherwise: {vote:?}")));
         }
     }
-    Ok(true)
+    Ok(())
 }
 
 /// A second vote of a member is ignored, three of five are no fast quorum, and the cut is decided
@@ -50,8 +50,7 @@ const OF_FIVE: [Vote; 8] = [
 #[test]
 fn decides_at_the_fourth_of_five(rt: HostRuntime) -> Result<(), Fail> {
     let mut round = FastRound::new(rt.alloc(), 5, 2);
-    assert!(rt; all_decide(rt.alloc(), &mut round, &OF_FIVE)?);
-    Ok(())
+    all_decide(rt.alloc(), &mut round, &OF_FIVE)
 }
 
 /// Whether a vote decides at a copy of a round as it has to.

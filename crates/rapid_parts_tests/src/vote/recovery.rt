@@ -14,7 +14,7 @@ use std::test::Fail;
 #[test]
 fn sizes(rt: HostRuntime) {
     for (n, size) in [(1, 1), (2, 2), (3, 2), (4, 3), (5, 3), (8, 5), (9, 5)] {
-        assert!(rt; n <= 1024 && classic_size(n) == size);
+        assert!(rt; n <= 1024 && classic_size(n) == size, "of {n}");
     }
 }
 
@@ -107,7 +107,7 @@ const VALUES: [Case; 8] = [
 #[test]
 fn values(rt: HostRuntime) -> Result<(), Fail> {
     for case in &VALUES {
-        assert!(rt; asked(rt.alloc(), case)?);
+        assert!(rt; asked(rt.alloc(), case)?, "at {case:?}");
     }
     Ok(())
 }

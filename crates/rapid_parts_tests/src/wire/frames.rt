@@ -150,7 +150,7 @@ const GOOD: [Parts; 20] = [
 #[test]
 fn every_kind_goes_out_and_back_however_it_is_cut(rt: HostRuntime) -> Result<(), Fail> {
     for body in &GOOD {
-        assert!(rt; goes_out_and_back(rt.alloc(), body)?);
+        assert!(rt; goes_out_and_back(rt.alloc(), body)?, "at {body:?}");
     }
     Ok(())
 }
@@ -195,7 +195,7 @@ const BAD: [Parts; 20] = [
 #[test]
 fn bodies_that_spell_nothing_are_refused(rt: HostRuntime) -> Result<(), Fail> {
     for body in &BAD {
-        assert!(rt; is_bad(rt.alloc(), body)?);
+        assert!(rt; is_bad(rt.alloc(), body)?, "at {body:?}");
     }
     Ok(())
 }
@@ -233,8 +233,11 @@ const FAULTS: [(&[u8], WireFault); 8] = [
 #[test]
 fn faults_come_in_their_order(rt: HostRuntime) {
     for (bytes, expected) in &FAULTS {
-        assert!(rt; fault(rt.alloc(), bytes) == Some(*expected));
-        assert!(rt; is_fault_at_end(rt.alloc(), bytes, *expected));
+        assert!(rt; fault(rt.alloc(), bytes) == Some(*expected), "at {bytes:?}");
+        assert!(rt;
+            is_fault_at_end(rt.alloc(), bytes, *expected),
+            "at {bytes:?}"
+        );
     }
 }
 
@@ -249,7 +252,7 @@ const CODES: [(WireFault, u8); 5] = [
 #[test]
 fn faults_have_their_numbers(rt: HostRuntime) {
     for (fault, code) in &CODES {
-        assert!(rt; fault.code() == *code);
+        assert!(rt; fault.code() == *code, "at {fault:?}");
     }
 }
 
@@ -330,7 +333,7 @@ const GROWING: [Parts; 4] = [
 #[test]
 fn want_of_memory_leaves_the_feed_as_it_was(rt: HostRuntime) -> Result<(), Fail> {
     for body in &GROWING {
-        assert!(rt; survives(rt.alloc(), body)?);
+        assert!(rt; survives(rt.alloc(), body)?, "at {body:?}");
     }
     Ok(())
 }

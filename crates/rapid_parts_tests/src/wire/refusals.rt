@@ -37,7 +37,10 @@ const BATCHES: [(u16, u8, Option<MessageError>); 4] = [
 #[test]
 fn a_batch_has_its_senders_alerts_for_what_it_names(rt: HostRuntime) -> Result<(), Fail> {
     for (observer, config, expected) in &BATCHES {
-        assert!(rt; refusal(batch(rt.alloc(), *observer, *config)?) == *expected);
+        assert!(rt;
+            refusal(batch(rt.alloc(), *observer, *config)?) == *expected,
+            "at {observer}, {config}"
+        );
     }
     Ok(())
 }
@@ -111,6 +114,6 @@ const CODES: [(MessageError, u8); 4] = [
 #[test]
 fn refusals_have_their_numbers(rt: HostRuntime) {
     for (error, code) in &CODES {
-        assert!(rt; error.code() == *code);
+        assert!(rt; error.code() == *code, "at {error:?}");
     }
 }
