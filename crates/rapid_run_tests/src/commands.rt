@@ -92,13 +92,13 @@ fn answers_with_its_statuses(rt: HostRuntime) {
     assert!(rt; err.is_empty());
     for words in [["rapidd", "--help"], ["rapidd", "help"]] {
         let (status, out, err) = ran(&rt, rt.alloc(), &words, b"");
-        assert_eq!(rt; status, 0);
-        assert!(rt; !out.is_empty() && err.is_empty());
+        assert_eq!(rt; status, 0, "at {words:?}");
+        assert!(rt; !out.is_empty() && err.is_empty(), "at {words:?}");
     }
     for command in ["detect", "sim", "cluster", "node"] {
         let (status, out, err) = ran(&rt, rt.alloc(), &["rapidd", command, "--help"], b"");
-        assert_eq!(rt; status, 0);
-        assert!(rt; out.len() > 400 && err.is_empty());
+        assert_eq!(rt; status, 0, "at {command:?}");
+        assert!(rt; out.len() > 400 && err.is_empty(), "at {command:?}");
     }
     for words in [
         ["rapidd", "clusters"],
@@ -107,8 +107,8 @@ fn answers_with_its_statuses(rt: HostRuntime) {
         ["rapidd", "Detect"],
     ] {
         let (status, out, err) = ran(&rt, rt.alloc(), &words, b"batch\n");
-        assert_eq!(rt; status, 2);
-        assert!(rt; out.is_empty() && !err.is_empty());
+        assert_eq!(rt; status, 2, "at {words:?}");
+        assert!(rt; out.is_empty() && !err.is_empty(), "at {words:?}");
     }
     let (status, out, err) = ran(&rt, rt.alloc(), &["rapidd"], b"batch\n");
     assert_eq!(rt; status, 2);
@@ -148,8 +148,8 @@ fn a_cluster_has_its_ranges(rt: HostRuntime) {
         ["rapidd", "cluster", "--l", "10"],
     ] {
         let (status, out, err) = ran(&rt, rt.alloc(), &words, b"");
-        assert_eq!(rt; status, 2);
-        assert!(rt; out.is_empty() && !err.is_empty());
+        assert_eq!(rt; status, 2, "at {words:?}");
+        assert!(rt; out.is_empty() && !err.is_empty(), "at {words:?}");
     }
 }
 
@@ -184,8 +184,8 @@ fn a_node_has_its_ranges(rt: HostRuntime) {
         node_words("127.0.0.1:7432", "--join", "127.0.0.1:0"),
     ] {
         let (status, out, err) = ran(&rt, rt.alloc(), &words, b"");
-        assert_eq!(rt; status, 2);
-        assert!(rt; out.is_empty() && !err.is_empty());
+        assert_eq!(rt; status, 2, "at {words:?}");
+        assert!(rt; out.is_empty() && !err.is_empty(), "at {words:?}");
     }
 }
 
@@ -247,7 +247,7 @@ fn answers_1_where_the_output_fails(rt: HostRuntime) {
         } else {
             b"Dec"
         };
-        assert_eq!(rt; narrow.written.as_slice(), front);
+        assert_eq!(rt; narrow.written.as_slice(), front, "at {words:?}");
     }
 }
 

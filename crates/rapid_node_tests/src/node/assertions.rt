@@ -17,30 +17,30 @@ pub fn assert_sent_after(
     expected: &[(u16, To, Said)],
 ) {
     for (sent, expected) in network.sent().iter().skip(before).zip(expected) {
-        assert!(rt; sent == expected);
+        assert_eq!(rt; sent, expected);
     }
-    assert!(rt; network.sent().len().wrapping_sub(before) == expected.len());
+    assert_eq!(rt; network.sent().len().wrapping_sub(before), expected.len());
 }
 
 /// Checks which node installed a configuration of which height, in order, beside the founding one.
 pub fn assert_installs(rt: &impl Abort, network: &Network, expected: &[(u16, u64)]) {
-    assert!(rt; network.installs() == expected);
+    assert_eq!(rt; network.installs(), expected);
 }
 
 /// Checks that a node shows the configuration of this height and these members, and that it
 /// installed that last.
 pub fn assert_shows(rt: &impl Abort, node: &Node, height: u64, members: &[u16]) {
     let shown = node.configuration().expect(rt, "a configuration");
-    assert!(rt; shown.height() == height);
+    assert_eq!(rt; shown.height(), height);
     assert_members(rt, shown.members(), members);
     assert_last(rt, node, shown.id(), height, members.len());
 }
 
 /// Checks that these are the processes with these numbers.
 fn assert_members(rt: &impl Abort, shown: &[Process], members: &[u16]) {
-    assert!(rt; shown.len() == members.len());
+    assert_eq!(rt; shown.len(), members.len());
     for (member, number) in shown.iter().zip(members) {
-        assert!(rt; *member == process(*number));
+        assert!(rt; *member == process(*number), "at the member {number}");
     }
 }
 
@@ -48,8 +48,8 @@ fn assert_members(rt: &impl Abort, shown: &[Process], members: &[u16]) {
 /// many members.
 fn assert_last(rt: &impl Abort, node: &Node, id: ConfigId, height: u64, members: usize) {
     let last = node.installed().last().expect(rt, "a stamp");
-    assert!(rt; last.height() == height);
-    assert!(rt; last.members() == members);
+    assert_eq!(rt; last.height(), height);
+    assert_eq!(rt; last.members(), members);
     assert!(rt; last.id() == id);
 }
 
@@ -75,7 +75,7 @@ pub fn assert_views(
 
 /// Checks the phase of a node.
 pub fn assert_phase(rt: &impl Abort, node: &Node, phase: Phase) {
-    assert!(rt; node.phase() == phase);
+    assert_eq!(rt; node.phase(), phase);
 }
 
 /// Tells a node of an event, and answers what it sends.
@@ -98,9 +98,9 @@ pub fn assert_halted(rt: &impl Abort, node: &mut Node, event: &Event) {
 pub fn assert_outputs(rt: &impl Abort, outputs: &Outputs, expected: &[(To, Said)]) {
     for (output, expected) in outputs.iter().zip(expected) {
         let sent = (whom(output.to()), said_by(output.message().body()));
-        assert!(rt; sent == *expected);
+        assert_eq!(rt; sent, *expected);
     }
-    assert!(rt; outputs.len() == expected.len());
+    assert_eq!(rt; outputs.len(), expected.len());
 }
 
 /// Tells a node of an event and checks what it sends, in order: to whom, and what.

@@ -9,7 +9,7 @@ use rapid_paxos::Ballot;
 pub type Round = (u8, usize);
 
 /// What a message says. A cut of one process is the number of that process, and any other is 0.
-#[derive(Clone, Copy, PartialEq, Eq)]
+#[derive(Clone, Copy, Debug, PartialEq, Eq)]
 pub enum Said {
     /// So many alerts.
     Batch(usize),
@@ -46,7 +46,7 @@ pub enum Said {
 }
 
 /// To whom a message goes.
-#[derive(Clone, Copy, PartialEq, Eq)]
+#[derive(Clone, Copy, Debug, PartialEq, Eq)]
 pub enum To {
     /// The node at this port.
     Node(u16),

@@ -43,7 +43,7 @@ fn reads_lines_by_their_rules(rt: HostRuntime) -> Result<(), Fail> {
     for (input, wanted) in rows {
         let mut output = Vec::new(rt.alloc());
         run_detect(rt.alloc(), &mut &*input, &mut output)?;
-        assert_eq!(rt; output.as_slice(), wanted);
+        assert_eq!(rt; output.as_slice(), wanted, "at {input:?}");
     }
     Ok(())
 }
@@ -65,7 +65,7 @@ fn measures_lines(rt: HostRuntime) -> Result<(), Fail> {
         input.extend_from_slice(end)?;
         let mut output = Vec::new(rt.alloc());
         run_detect(rt.alloc(), &mut input.as_slice(), &mut output)?;
-        assert_eq!(rt; output.is_empty(), passed, "at {length}");
+        assert_eq!(rt; output.is_empty(), passed, "at {length}, {end:?}");
     }
     Ok(())
 }
