@@ -1,14 +1,10 @@
-//! Tests of running nodes, and of frames on their way. The crate has nothing else, so that the
-//! functions below it are not proved a second time for their tests.
+//! Tests of running nodes, of frames on their way, and of the command line. There is nothing else here,
+//! so that nothing below is proved a second time for its tests.
 #![tactic(auto)]
 
 #[cfg(test)]
-mod clusters;
+mod commands;
 #[cfg(test)]
-mod devices;
-#[cfg(test)]
-mod memory;
-#[cfg(test)]
-mod rows;
+mod running;
 #[cfg(test)]
 mod transport;

@@ -1,14 +1,17 @@
-//! Tests of whole worlds, and of clerks that drive one. The crate has nothing else, so that neither is
-//! proved a second time for its tests.
+//! Tests of whole worlds, of clerks that drive one, and of `detect`, `sim` and `cluster`, which read
+//! and print text. There is nothing else here, so that nothing below is proved a second time for its
+//! tests.
 #![tactic(auto)]
 
 #[cfg(test)]
 mod clerks;
 #[cfg(test)]
-mod joins;
+mod cluster;
 #[cfg(test)]
-mod memory;
+mod detect;
 #[cfg(test)]
-mod refusals;
+mod numbered;
 #[cfg(test)]
-mod worlds;
+mod sim;
+#[cfg(test)]
+mod world;

@@ -2,28 +2,13 @@
 
 ghost use Rattle.std.specs.Prelude.{◌≡◌, ◌≤◌, IfOk};
 
+use crate::numbered::{endpoint, process};
 use rapid_clerks::{ClusterBook, Job};
 use rapid_config::{Configuration, Params};
-use rapid_endpoint::{Endpoint, Process, ProcessId};
 use rapid_world::WorldEvent;
 use std::alloc::Global;
 use std::sync::ledger::{Blank, Ledger, Share};
 use std::test::Fail;
-
-/// The identifier with this number.
-pub(crate) fn id(number: u16) -> ProcessId {
-    ProcessId::new(u128::from(number).to_be_bytes())
-}
-
-/// The endpoint 127.0.0.1 with this port.
-pub(crate) fn endpoint(port: u16) -> Endpoint {
-    Endpoint::new([127, 0, 0, 1], port)
-}
-
-/// The process with this number.
-pub(crate) fn process(number: u16) -> Process {
-    Process::new(id(number), endpoint(number))
-}
 
 /// Process 2 starts to join by process 1.
 pub(crate) fn joins() -> Job {

@@ -52,16 +52,6 @@ fn two_clerks_meet(rt: HostRuntime) -> Result<(), Fail> {
     Ok(())
 }
 
-/// No clerk goes on where no further event is accepted.
-#[test]
-fn a_full_world_stops_a_clerk(rt: HostRuntime) -> Result<(), Fail> {
-    let door = Door::until(u64::MAX);
-    let counts = taken(&rt, rt.alloc(), &door, 1, 1_000_003)?;
-    assert_eq!(rt; counts.as_slice(), [1_000_000].as_slice());
-    assert_eq!(rt; door.came(), 1_000_001);
-    Ok(())
-}
-
 /// Whether as many events are stored as were done, after one and the turns of two clerks.
 fn adds_up<L: Ledger + Send + Sync, R: Threads + Wait + Sync>(
     rt: &R,

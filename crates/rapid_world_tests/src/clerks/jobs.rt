@@ -2,8 +2,9 @@
 
 ghost use Rattle.std.specs.Prelude.{◌≡◌, ◌≤◌};
 
-use crate::clerks::books::{alone, endpoint, id, joins, process};
+use crate::clerks::books::{alone, joins};
 use crate::clerks::gates::Door;
+use crate::numbered::{endpoint, id, process};
 use rapid_clerks::{Clerk, Job};
 use rapid_world::WorldEvent::{Crash, Deliver, Start, Tick};
 use std::alloc::Global;

@@ -1,0 +1,9 @@
+// Tests of desks, and of the published view alone.
+
+mod founding;
+mod journal;
+mod memory;
+mod published;
+mod subscriptions;
+mod threads;
+mod views;

@@ -1,0 +1,125 @@
+// Want of memory at a desk: each call says so by its name, and leaves what it says. The gate runs
+// these tests once for each allocation, with that one refused.
+
+use crate::desk::founding::{after, alone, confirmation, decision, founding, step};
+use crate::numbered::process;
+use rapid_desk::{Desk, DeskError, Subscription, Taken};
+use rapid_endpoint::Endpoint;
+use rapid_node::{Event, NodeFault};
+use rapid_view::ViewSeat;
+use std::alloc::{AllocError, Global};
+use std::process::Abort;
+use std::sync::Wait;
+use std::test::*;
+
+/// Hands an event to the desk. After want of memory at the desk it takes the event again; where the
+/// node halted in the step, or its view was not published, the node has halted.
+fn hand_over<R: Wait + Abort>(
+    rt: &R,
+    desk: &mut Desk<&R>,
+    event: Event,
+    again: Event,
+) -> Result<(), Fail> {
+    match step(desk, event) {
+        Ok(()) => Ok(()),
+        Err(DeskError::OutOfMemory) => {
+            step(desk, again)?;
+            Ok(())
+        }
+        Err(error) => {
+            assert!(rt;
+                matches!(
+                    error,
+                    DeskError::Node(NodeFault::OutOfMemory) | DeskError::Unpublished
+                )
+            );
+            let halted = step(desk, again);
+            assert!(rt; matches!(halted, Err(DeskError::Node(NodeFault::Halted))));
+            Err(AllocError)?
+        }
+    }
+}
+
+/// Whether the subscriber is told the heights from 1 on, each once, and at the latest after two
+/// that it lagged.
+fn is_told_in_order<R: Wait>(rt: &R, subscription: &mut Subscription) -> bool {
+    let mut last = 0u64;
+    for _ in 0..3 {
+        match subscription.take(rt) {
+            Taken::Change(view) => {
+                let height = view.stamp().height();
+                if height != last.wrapping_add(1) {
+                    return false;
+                }
+                last = height;
+            }
+            Taken::Lagged => return true,
+            Taken::Empty | Taken::Closed => return false,
+        }
+    }
+    false
+}
+
+/// Hands the decisions to let in three guests to the desk, whose seat sees each published view.
+fn let_three_in<R: Wait + Abort>(
+    rt: &R,
+    alloc: Global,
+    desk: &mut Desk<&R>,
+    seat: &mut ViewSeat,
+) -> Result<(), Fail> {
+    for number in [2, 3, 4u16] {
+        let id = seat.stamp().id();
+        hand_over(
+            rt,
+            desk,
+            decision(alloc, id, number)?,
+            decision(alloc, id, number)?,
+        )?;
+        assert_eq!(rt; seat.stamp().height(), u64::from(number) - 1);
+    }
+    Ok(())
+}
+
+/// The seat and the subscriber see the three guests come in.
+fn all_see_three<R: Wait + Abort>(
+    rt: &R,
+    alloc: Global,
+    desk: &mut Desk<&R>,
+    subscription: &mut Subscription,
+    seat: &mut ViewSeat,
+) -> Result<(), Fail> {
+    let_three_in(rt, alloc, desk, seat)?;
+    assert!(rt; is_told_in_order(rt, subscription));
+    assert!(rt; seat.members(rt)?.stamp().height() == 3);
+    Ok(())
+}
+
+#[test]
+fn want_of_memory_at_decisions(rt: HostRuntime) -> Result<(), Fail> {
+    let mut desk = alone(&rt, rt.alloc(), 1)?;
+    let mut subscription = desk.subscribe(2)?;
+    let mut seats = desk.take_seats().expect(&rt, "the seats");
+    let mut seat = seats.pop().expect(&rt, "one seat");
+    all_see_three(&rt, rt.alloc(), &mut *desk, &mut subscription, &mut seat)
+}
+
+/// The joiner has seats once it is let in.
+fn has_seats_once_in<R: Wait + Abort>(
+    rt: &R,
+    alloc: Global,
+    desk: &mut Desk<&R>,
+) -> Result<(), Fail> {
+    let configuration = after(alloc, &founding(alloc)?, 2)?;
+    let copy = configuration.try_copy(alloc)?;
+    hand_over(rt, desk, confirmation(configuration)?, confirmation(copy)?)?;
+    assert!(rt; desk.take_seats().is_some());
+    Ok(())
+}
+
+#[test]
+fn want_of_memory_at_a_first_view(rt: HostRuntime) -> Result<(), Fail> {
+    let seed = Endpoint::new([127, 0, 0, 1], 1);
+    let desk = Desk::joiner(&rt, rt.alloc(), process(2), seed, 1)?;
+    let mut desk = Box::new(rt.alloc(), desk)?;
+    has_seats_once_in(&rt, rt.alloc(), &mut *desk)
+}

@@ -1,0 +1,126 @@
+// What subscribers are told.
+
+use crate::desk::founding::{alone, decide, edge_down, founding, let_three_in, step};
+use rapid_desk::{Desk, DeskError, Subscription, Taken};
+use std::alloc::Global;
+use std::process::Abort;
+use std::sync::Wait;
+use std::test::*;
+
+/// What a subscriber was told: a change to this height, or why there is none.
+#[derive(Clone, Copy, Debug, PartialEq, Eq)]
+enum Told {
+    Change(u64),
+    Lagged,
+    Empty,
+    Closed,
+}
+
+/// What the subscriber is told next.
+fn next<R: Wait>(rt: &R, subscription: &mut Subscription) -> Told {
+    match subscription.take(rt) {
+        Taken::Change(view) => Told::Change(view.configuration().height()),
+        Taken::Lagged => Told::Lagged,
+        Taken::Empty => Told::Empty,
+        Taken::Closed => Told::Closed,
+    }
+}
+
+/// Whether the subscriber is told all this, in order.
+fn is_told<R: Wait>(rt: &R, subscription: &mut Subscription, all: &[Told]) -> bool {
+    for told in all {
+        if next(rt, subscription) != *told {
+            return false;
+        }
+    }
+    true
+}
+
+/// After three changes the subscriber, which has room for two, lags, also after the end.
+fn lags<R: Wait + Abort>(
+    rt: &R,
+    alloc: Global,
+    desk: &mut Desk<&R>,
+    subscription: &mut Subscription,
+) -> Result<(), Fail> {
+    let_three_in(alloc, desk)?;
+    let told = [Told::Change(1), Told::Change(2), Told::Lagged, Told::Lagged];
+    assert!(rt; is_told(rt, subscription, &told));
+    desk.close();
+    assert!(rt; next(rt, subscription) == Told::Lagged);
+    Ok(())
+}
+
+#[test]
+fn a_subscriber_lags_after_its_capacity(rt: HostRuntime) -> Result<(), Fail> {
+    let mut desk = alone(&rt, rt.alloc(), 1)?;
+    let mut subscription = desk.subscribe(2)?;
+    lags(&rt, rt.alloc(), &mut *desk, &mut subscription)
+}
+
+/// Hands the decision to let in process 2 to the desk of process 1 alone.
+fn let_one_in<R: Wait>(alloc: Global, desk: &mut Desk<&R>) -> Result<(), Fail> {
+    let first = founding(alloc)?;
+    decide(alloc, desk, first.id(), 2)
+}
+
+/// The subscriber is told nothing before a change, then the change and the end.
+fn takes_all<R: Wait + Abort>(
+    rt: &R,
+    alloc: Global,
+    desk: &mut Desk<&R>,
+    subscription: &mut Subscription,
+) -> Result<(), Fail> {
+    assert!(rt; next(rt, subscription) == Told::Empty);
+    step(desk, edge_down())?;
+    assert!(rt; next(rt, subscription) == Told::Empty);
+    let_one_in(alloc, desk)?;
+    desk.close();
+    let told = [Told::Change(1), Told::Closed, Told::Closed];
+    assert!(rt; is_told(rt, subscription, &told));
+    Ok(())
+}
+
+#[test]
+fn a_subscriber_takes_what_is_there_and_then_the_end(rt: HostRuntime) -> Result<(), Fail> {
+    let mut desk = alone(&rt, rt.alloc(), 1)?;
+    let mut subscription = desk.subscribe(1)?;
+    takes_all(&rt, rt.alloc(), &mut *desk, &mut subscription)
+}
+
+/// Makes a subscription of this capacity, and drops it.
+fn subscribe<R: Wait>(desk: &mut Desk<&R>, capacity: usize) -> Result<(), DeskError> {
+    desk.subscribe(capacity)?;
+    Ok(())
+}
+
+/// Whether the desk refuses a subscription of this capacity for its capacity.
+fn is_bad<R: Wait>(desk: &mut Desk<&R>, capacity: usize) -> bool {
+    matches!(subscribe(desk, capacity), Err(DeskError::BadCapacity))
+}
+
+/// Makes so many subscriptions of capacity 1.
+fn subscribe_often<R: Wait>(desk: &mut Desk<&R>, count: usize) -> Result<(), DeskError> {
+    for _ in 0..count {
+        subscribe(desk, 1)?;
+    }
+    Ok(())
+}
+
+/// The desk serves 64 subscribers, and others when these have ended.
+fn serves_so_many<R: Wait + Abort>(rt: &R, desk: &mut Desk<&R>) -> Result<(), Fail> {
+    assert!(rt; is_bad(desk, 0));
+    assert!(rt; is_bad(desk, 1_025));
+    subscribe_often(desk, 64)?;
+    assert!(rt; is_bad(desk, 0));
+    assert!(rt; matches!(subscribe(desk, 1_024), Err(DeskError::TooManySubscribers)));
+    desk.close();
+    subscribe(desk, 1_024)?;
+    Ok(())
+}
+
+#[test]
+fn a_desk_serves_so_many(rt: HostRuntime) -> Result<(), Fail> {
+    let mut desk = alone(&rt, rt.alloc(), 1)?;
+    serves_so_many(&rt, &mut *desk)
+}

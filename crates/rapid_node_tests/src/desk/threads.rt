@@ -1,0 +1,36 @@
+// A desk under a lock, in two threads.
+
+use crate::desk::founding::{alone, edge_down};
+use rapid_desk::{Desk, DeskError};
+use std::sync::{Mutex, Wait};
+use std::test::*;
+use std::thread::join;
+
+/// Half of the records that a journal has room for.
+const HALF: usize = 32_768;
+
+/// Hands an event to the desk under its lock.
+fn hand<R: Wait>(rt: &R, desk: &Mutex<Box<Desk<&R>>>) -> Result<(), DeskError> {
+    desk.lock(rt).step(edge_down())?;
+    Ok(())
+}
+
+/// Hands so many events to the desk, and says whether it took each.
+fn hand_over<R: Wait>(rt: &R, desk: &Mutex<Box<Desk<&R>>>) -> bool {
+    let mut all = true;
+    for _ in 0..HALF {
+        if hand(rt, desk).is_err() {
+            all = false;
+        }
+    }
+    all
+}
+
+#[test]
+fn two_threads_step_one_desk(rt: HostRuntime) -> Result<(), Fail> {
+    let desk = Mutex::new(alone(&rt, rt.alloc(), 1)?);
+    let (one, other) = join(&rt, || hand_over(&rt, &desk), || hand_over(&rt, &desk));
+    assert!(rt; one && other);
+    assert!(rt; matches!(hand(&rt, &desk), Err(DeskError::JournalFull)));
+    Ok(())
+}

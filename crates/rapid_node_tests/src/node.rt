@@ -1,0 +1,18 @@
+// Tests of whole nodes, which hand their messages on to each other.
+
+mod assertions;
+mod conflict;
+mod copies;
+mod crash;
+mod echo;
+mod edges;
+mod founding;
+mod join;
+mod memory;
+mod network;
+mod plays;
+mod probes;
+mod recovery;
+mod said;
+mod shared;
+mod steps;

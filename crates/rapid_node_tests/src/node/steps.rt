@@ -1,0 +1,250 @@
+// What happens to one node, in order, and what it answers.
+
+use crate::node::assertions::{
+    assert_answers, assert_halted, assert_outputs, assert_phase, assert_shows, told,
+};
+use crate::node::founding::{member, shown};
+use crate::node::network::joining;
+use crate::node::said::{Said, To};
+use crate::numbered::{cut, process};
+use rapid_config::ConfigId;
+use rapid_node::{Body, Event, Message, Node, NodeFault, Outputs, Phase};
+use std::alloc::Global;
+use std::process::Abort;
+use std::test::Fail;
+
+/// A configuration that is named.
+#[derive(Clone, Copy)]
+pub enum Which {
+    /// The one before any founding.
+    Zero,
+    /// The one that the node showed at first.
+    First,
+    /// The one that the node shows.
+    Shown,
+}
+
+/// What a node hears. It is in the configuration that the node shows, where none is said.
+#[derive(Clone, Copy)]
+pub enum Word {
+    /// A tick.
+    Tick,
+    /// Its edge on a ring to the process with this number went down in a configuration.
+    Down(Which, u8, u16),
+    /// The third process asks about a configuration.
+    Probe(Which),
+    /// The third process says that it got a probe about a configuration.
+    ProbeAck(Which),
+    /// The process with this number says that the cut of that process is decided.
+    Decision(u16),
+    /// The third process asks to be let in, on ring 0.
+    JoinRequest,
+    /// The batch of the one alert of its observer that the third process joins.
+    Joining,
+}
+
+/// What a node shows after a step that has memory.
+#[derive(Clone, Copy)]
+pub struct Outcome<'a> {
+    /// What it sent: to whom, and what.
+    pub sent: &'a [(To, Said)],
+    /// The height of its configuration.
+    pub height: u64,
+    /// The members of its configuration.
+    pub members: &'a [u16],
+}
+
+/// What happens to a node, or what is seen of it.
+#[derive(Clone, Copy)]
+pub enum Step<'a> {
+    /// It hears this and sends that: to whom, and what.
+    Hears(Word, &'a [(To, Said)]),
+    /// It hears this and sends that; the first message says that a probe came and names this
+    /// configuration, and the last one is the decision in that one, if one is said.
+    Acknowledges(Word, &'a [(To, Said)], Which, Option<Which>),
+    /// It shows the configuration of this height and these members.
+    Shows(u64, &'a [u16]),
+    /// It is in this phase.
+    Is(Phase),
+    /// It hears this, as one of these founders, and has the outcome, or halts for want of memory.
+    Tries(Word, &'a [u16], Outcome<'a>),
+}
+
+/// The identifier of a configuration, to a node that showed this one at first.
+fn identifier(rt: &impl Abort, node: &Node, first: ConfigId, which: Which) -> ConfigId {
+    match which {
+        Which::Zero => ConfigId::zero(),
+        Which::First => first,
+        Which::Shown => shown(rt, node),
+    }
+}
+
+/// A message of a process reaches a node.
+fn heard(number: u16, body: Body) -> Result<Event, Fail> {
+    Ok(Event::Receive(Message::new(process(number), body)?))
+}
+
+/// The batch of the one alert of its observer that the third process joins.
+fn batch(rt: &impl Abort, alloc: Global, node: &Node) -> Result<Event, Fail> {
+    let configuration = node.configuration().expect(rt, "a configuration");
+    Ok(Event::Receive(joining(rt, alloc, configuration, process(3))?))
+}
+
+/// The event of what a node hears, where it showed this configuration at first.
+fn event(
+    rt: &impl Abort,
+    alloc: Global,
+    node: &Node,
+    first: ConfigId,
+    word: Word,
+) -> Result<Event, Fail> {
+    match word {
+        Word::Tick => Ok(Event::Tick),
+        Word::Down(which, ring, number) => {
+            let id = identifier(rt, node, first, which);
+            Ok(Event::EdgeDown(id, ring, process(number)))
+        }
+        Word::Probe(which) => heard(3, Body::Probe(identifier(rt, node, first, which))),
+        Word::ProbeAck(which) => heard(3, Body::ProbeAck(identifier(rt, node, first, which))),
+        Word::Decision(number) => {
+            let cut = cut(alloc, number)?;
+            heard(number, Body::Decision(shown(rt, node), cut))
+        }
+        Word::JoinRequest => heard(3, Body::JoinRequest(shown(rt, node), 0)),
+        Word::Joining => batch(rt, alloc, node),
+    }
+}
+
+/// The configuration that the first message names, if it says that a probe came.
+fn acknowledged(outputs: &Outputs) -> Option<ConfigId> {
+    match outputs.first()?.message().body() {
+        Body::ProbeAck(id) => Some(*id),
+        _ => None,
+    }
+}
+
+/// The configuration that the last message names, if it is a decision.
+fn decided(outputs: &Outputs) -> Option<ConfigId> {
+    match outputs.last()?.message().body() {
+        Body::Decision(id, _) => Some(*id),
+        _ => None,
+    }
+}
+
+/// Tells a node of an event, checks what it sends, and answers the configurations that the first
+/// message acknowledges and the last one decides.
+fn named(
+    rt: &impl Abort,
+    node: &mut Node,
+    event: Event,
+    expected: &[(To, Said)],
+) -> Result<(Option<ConfigId>, Option<ConfigId>), Fail> {
+    let outputs = told(node, event)?;
+    assert_outputs(rt, &outputs, expected);
+    Ok((acknowledged(&outputs), decided(&outputs)))
+}
+
+/// Tells a node of an event and checks what it sends.
+fn answers(
+    rt: &impl Abort,
+    node: &mut Node,
+    event: Event,
+    expected: &[(To, Said)],
+) -> Result<(), Fail> {
+    assert_answers(rt, node, &event, expected)
+}
+
+/// Checks the step of a founder among so many founders at an event: it has the outcome, or, for
+/// want of memory, the node has halted and shows the founding configuration alone.
+fn tries(rt: &impl Abort, node: &mut Node, event: Event, founders: &[u16], outcome: Outcome) {
+    match told(node, event) {
+        Ok(outputs) => {
+            assert_phase(rt, node, Phase::Member);
+            assert_outputs(rt, &outputs, outcome.sent);
+            assert_shows(rt, node, outcome.height, outcome.members);
+        }
+        Err(fault) => {
+            assert!(rt; fault == NodeFault::OutOfMemory);
+            assert_shows(rt, node, 0, founders);
+            assert!(rt; node.installed().len() == 1);
+            assert_halted(rt, node, &Event::Tick);
+        }
+    }
+}
+
+/// Checks that a node acknowledges a configuration, and decides in another, if one is said.
+fn acknowledges(
+    rt: &impl Abort,
+    node: &mut Node,
+    first: ConfigId,
+    event: Event,
+    step: (&[(To, Said)], Which, Option<Which>),
+) -> Result<(), Fail> {
+    let (expected, own, other) = step;
+    let (acknowledged, decided) = named(rt, node, event, expected)?;
+    assert!(rt; acknowledged == Some(identifier(rt, node, first, own)));
+    match other {
+        Some(which) => assert!(rt; decided == Some(identifier(rt, node, first, which))),
+        None => assert!(rt; decided.is_none()),
+    }
+    Ok(())
+}
+
+/// Takes a node, which showed this configuration at first, through a step.
+fn take(
+    rt: &impl Abort,
+    alloc: Global,
+    node: &mut Node,
+    first: ConfigId,
+    step: &Step,
+) -> Result<(), Fail> {
+    match *step {
+        Step::Hears(word, expected) => {
+            let event = event(rt, alloc, &*node, first, word)?;
+            answers(rt, node, event, expected)
+        }
+        Step::Acknowledges(word, expected, own, other) => {
+            let event = event(rt, alloc, &*node, first, word)?;
+            acknowledges(rt, node, first, event, (expected, own, other))
+        }
+        Step::Shows(height, members) => {
+            assert_shows(rt, node, height, members);
+            Ok(())
+        }
+        Step::Is(phase) => {
+            assert_phase(rt, node, phase);
+            Ok(())
+        }
+        Step::Tries(word, founders, outcome) => {
+            let event = event(rt, alloc, &*node, first, word)?;
+            tries(rt, node, event, founders, outcome);
+            Ok(())
+        }
+    }
+}
+
+/// Takes a node through these steps, in order.
+pub fn take_all(
+    rt: &impl Abort,
+    alloc: Global,
+    node: &mut Node,
+    steps: &[Step],
+) -> Result<(), Fail> {
+    let first = shown(rt, &*node);
+    for step in steps {
+        take(rt, alloc, node, first, step)?;
+    }
+    Ok(())
+}
+
+/// Takes the first of these founders through these steps, in order.
+pub fn lives(
+    rt: &impl Abort,
+    alloc: Global,
+    params: (u8, u8, u8),
+    founders: &[u16],
+    steps: &[Step],
+) -> Result<(), Fail> {
+    let mut node = member(rt, alloc, params, founders, 1)?;
+    take_all(rt, alloc, &mut *node, steps)
+}

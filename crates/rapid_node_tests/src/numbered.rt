@@ -1,0 +1,20 @@
+// Processes by their numbers, and their cuts.
+
+use rapid_config::Cut;
+use rapid_endpoint::{Endpoint, Process, ProcessId};
+use std::alloc::Global;
+use std::test::Fail;
+
+/// The process with this number: its identifier in 16 bytes, and port of 127.0.0.1.
+pub fn process(number: u16) -> Process {
+    let [high, low] = number.to_be_bytes();
+    let mut id = [0; 16];
+    id[14] = high;
+    id[15] = low;
+    Process::new(ProcessId::new(id), Endpoint::new([127, 0, 0, 1], number))
+}
+
+/// The cut of the process with this number alone.
+pub fn cut(alloc: Global, number: u16) -> Result<Cut, Fail> {
+    Ok(Cut::new(Vec::from_array(alloc, [process(number)])?)?)
+}

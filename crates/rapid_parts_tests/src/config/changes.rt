@@ -1,0 +1,134 @@
+// What cuts make of configurations.
+
+use crate::config::configurations::founded;
+use crate::config::cuts::cut;
+use crate::config::hexadecimal::is_spelt;
+use crate::config::readings::changed;
+use crate::numbered::{are, process};
+use rapid_config::{ConfigError, Configuration, Cut};
+use std::alloc::Global;
+use std::test::Fail;
+
+#[test]
+fn two_founders_have_their_identifier(rt: HostRuntime) -> Result<(), Fail> {
+    let two = founded(rt.alloc(), (3, 3, 1), 2)?;
+    let digits = "7d3415fcc97888950a48f71ef429d7f0bacab640d712d864baadf0e6c270bda3";
+    assert!(rt; is_spelt(rt.alloc(), two.id(), digits)?);
+    Ok(())
+}
+
+// A cut of the configuration that 1 and 2 founded, the members after it, and the SHA-256 of their
+// configuration's bytes, computed elsewhere.
+type Change<'a> = (&'a [(u16, u16)], &'a [(u16, u16)], &'a str);
+
+const STAYS: &str = "06f8768676e88a66c211916ebb26d8559ca5407c3c7e096ce78aaf30967b7ab4";
+
+const CHANGES: [Change; 5] = [
+    (
+        &[(2, 2), (3, 3)],
+        &[(1, 1), (3, 3)],
+        "9b6a2cca63ae7db33c331a641df6f9a34b2942180d49ce371a6b4b6c4fc27b7d",
+    ),
+    // a joiner with an endpoint that is held stays out
+    (&[(9, 1)], &[(1, 1), (2, 2)], STAYS),
+    // the endpoint of a member that leaves is free
+    (
+        &[(2, 2), (9, 2)],
+        &[(1, 1), (9, 2)],
+        "9292bc0955d4adafd1dba8dfac82580ed4692c3ba9523925923d8bf8e1f33cb7",
+    ),
+    // a joiner with an identifier that is held stays out
+    (&[(1, 7)], &[(1, 1), (2, 2)], STAYS),
+    // the last may leave
+    (
+        &[(1, 1), (2, 2)],
+        &[],
+        "0e6e0efa61694ba4a53184504f90103bdf2f0d115772318319e3a41c08e4bada",
+    ),
+];
+
+/// Whether a configuration is the first after another, with these members.
+fn follows(next: &Configuration, last: &Configuration, members: &[(u16, u16)]) -> bool {
+    next.height() == 1 && next.previous() == last.id() && are(next.members(), members)
+}
+
+/// Whether a cut makes this of a configuration.
+fn changes(
+    alloc: Global,
+    configuration: &Configuration,
+    (numbers, members, digits): &Change,
+) -> Result<bool, Fail> {
+    let next = configuration.apply(alloc, &cut(alloc, numbers)?)?;
+    Ok(follows(&next, configuration, members) && is_spelt(alloc, next.id(), digits)?)
+}
+
+#[test]
+fn cuts_change_the_members(rt: HostRuntime) -> Result<(), Fail> {
+    let two = founded(rt.alloc(), (3, 3, 1), 2)?;
+    for change in &CHANGES {
+        assert!(rt; changes(rt.alloc(), &two, change)?, "at {change:?}");
+    }
+    Ok(())
+}
+
+#[test]
+fn a_second_change_stands_on_the_first(rt: HostRuntime) -> Result<(), Fail> {
+    let first = cut(rt.alloc(), &[(2, 2), (3, 3)])?;
+    let next = founded(rt.alloc(), (3, 3, 1), 2)?.apply(rt.alloc(), &first)?;
+    let none = next.apply(rt.alloc(), &cut(rt.alloc(), &[(1, 1), (3, 3)])?)?;
+    let digits = "3b18d48159ccb421a49f3e961b90a5d572902ae01fb9543a0fc3bfa40742034e";
+    assert!(rt; is_spelt(rt.alloc(), none.id(), digits)?);
+    Ok(())
+}
+
+/// Whether 1,024 members follow on as many by a cut, process 2000 at this place and 2001 nowhere.
+fn stays_full(
+    alloc: Global,
+    full: &Configuration,
+    cut: &Cut,
+    place: Option<usize>,
+) -> Result<bool, ConfigError> {
+    let next = full.apply(alloc, cut)?;
+    Ok(
+        next.members().len() == 1024
+            && next.position(&process(2000)) == place
+            && !next.is_member(&process(2001)),
+    )
+}
+
+/// Of 1,024 members none is followed by a joiner; where one leaves, the first of two joiners comes.
+#[test]
+fn joiners_come_where_there_is_room(rt: HostRuntime) -> Result<(), Fail> {
+    let full = founded(rt.alloc(), (10, 9, 3), 1024)?;
+    let joins = cut(rt.alloc(), &[(2000, 2000)])?;
+    assert!(rt; stays_full(rt.alloc(), &full, &joins, None)?);
+    let changes = cut(rt.alloc(), &[(5, 5), (2000, 2000), (2001, 2001)])?;
+    assert!(rt; stays_full(rt.alloc(), &full, &changes, Some(1023))?);
+    Ok(())
+}
+
+/// What the configuration of process 1 alone answers to a joiner, where its height ends with this
+/// byte after seven of 255.
+fn joined_at(alloc: Global, one: &[u8], last: u8) -> Result<Option<ConfigError>, Fail> {
+    let height = [
+        (36, 255),
+        (37, 255),
+        (38, 255),
+        (39, 255),
+        (40, 255),
+        (41, 255),
+        (42, 255),
+        (43, last),
+    ];
+    let bytes = changed(alloc, one, &height, one.len())?;
+    let configuration = Configuration::from_bytes(alloc, bytes.as_slice())?;
+    Ok(configuration.apply(alloc, &cut(alloc, &[(2, 2)])?).err())
+}
+
+#[test]
+fn the_last_height_has_no_next(rt: HostRuntime) -> Result<(), Fail> {
+    let bytes = founded(rt.alloc(), (3, 3, 1), 1)?.to_bytes(rt.alloc())?;
+    assert!(rt; joined_at(rt.alloc(), &bytes, 255)? == Some(ConfigError::HeightFull));
+    assert!(rt; joined_at(rt.alloc(), &bytes, 254)?.is_none());
+    Ok(())
+}

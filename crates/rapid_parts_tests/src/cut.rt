@@ -1,0 +1,5 @@
+// Tests of alerts and of the cut detector.
+
+mod alerts;
+mod cuts;
+mod tables;

@@ -1,0 +1,271 @@
+// The rings of configurations.
+
+use crate::numbered::{Marks, Name, THREE, founded, is_numbered, process};
+use rapid_config::{ConfigError, Configuration};
+use rapid_endpoint::Process;
+use rapid_rings::{ObserverTable, Rings};
+use std::alloc::{AllocError, Global};
+use std::test::Fail;
+
+/// The rings of these members, who ascend.
+pub fn rings_of(alloc: Global, marks: Marks, names: &[Name]) -> Result<Rings, ConfigError> {
+    let configuration = founded(alloc, marks, names)?;
+    Ok(Rings::new(alloc, &configuration)?)
+}
+
+/// A ring, an observer and a subject; 0 stands for nobody.
+pub type Edge = (u8, u16, u16);
+
+/// Whether each one observes the other on the ring.
+fn are_edges(rings: &Rings, edges: &[Edge]) -> bool {
+    for (ring, observer, subject) in edges {
+        if !is_numbered(rings.observer(*ring, &process(*subject)), *observer) {
+            return false;
+        }
+    }
+    true
+}
+
+/// A call of rings, and what it answers.
+#[derive(Clone, Copy, Debug)]
+pub enum Call<'a> {
+    /// Who observes whom.
+    Edges(&'a [Edge]),
+    /// The subjects of a process, each a ring and a number.
+    Subjects(u16, &'a [(u8, u16)]),
+    /// By one search, whether on a ring a process is a member, and its observer.
+    Search(u8, u16, bool, u16),
+    /// The rings of a configuration of these members that follows, and who observes whom there.
+    Next(&'a [Name], &'a [Edge]),
+}
+
+/// Whether it is the pair of a ring and the process with a number.
+fn is_pair((on, process): &(u8, Process), (ring, number): &(u8, u16)) -> bool {
+    *on == *ring && is_numbered(Some(*process), *number)
+}
+
+/// Whether these are the pairs of a ring and the process with a number.
+fn are_pairs(pairs: &[(u8, Process)], expected: &[(u8, u16)]) -> bool {
+    for (pair, row) in pairs.iter().zip(expected) {
+        if !is_pair(pair, row) {
+            return false;
+        }
+    }
+    pairs.len() == expected.len()
+}
+
+/// Whether a process has these subjects, each a ring and a number.
+fn has_subjects(
+    alloc: Global,
+    rings: &Rings,
+    observer: u16,
+    expected: &[(u8, u16)],
+) -> Result<bool, AllocError> {
+    let subjects = rings.subjects_of(alloc, &process(observer))?;
+    Ok(are_pairs(subjects.as_slice(), expected))
+}
+
+/// Whether rings of three tell their configuration, in which there is no process 6.
+fn tell(rings: &Rings, configuration: &Configuration) -> bool {
+    rings.params().k() == 3
+        && rings.id() == configuration.id()
+        && rings.is_member(&process(2))
+        && !rings.is_member(&process(6))
+}
+
+/// Whether on the next rings each one observes the other, process 1 has three subjects, and they
+/// tell of their configuration.
+fn are_next(
+    alloc: Global,
+    before: &Rings,
+    configuration: &Configuration,
+    edges: &[Edge],
+) -> Result<bool, AllocError> {
+    let rings = before.next(alloc, configuration)?;
+    let subjects = rings.subjects_of(alloc, &process(1))?.len();
+    Ok(subjects == 3 && are_edges(&rings, edges) && tell(&rings, configuration))
+}
+
+/// Whether the rings of these members follow.
+fn follow(
+    alloc: Global,
+    before: &Rings,
+    names: &[Name],
+    edges: &[Edge],
+) -> Result<bool, ConfigError> {
+    let configuration = founded(alloc, THREE, names)?;
+    Ok(are_next(alloc, before, &configuration, edges)?)
+}
+
+/// Whether one search of a process tells that it is a member or not, and its observer on a ring.
+fn is_found(rings: &Rings, ring: u8, subject: u16, is_member: bool, observer: u16) -> bool {
+    let (found, by) = rings.member_and_observer(ring, &process(subject));
+    found == is_member && is_numbered(by, observer)
+}
+
+/// Whether a call answers as it has to.
+fn answers(alloc: Global, rings: &Rings, call: &Call) -> Result<bool, ConfigError> {
+    match call {
+        Call::Edges(edges) => Ok(are_edges(rings, edges)),
+        Call::Subjects(observer, subjects) => {
+            Ok(has_subjects(alloc, rings, *observer, subjects)?)
+        }
+        Call::Search(ring, subject, is_member, observer) => {
+            Ok(is_found(rings, *ring, *subject, *is_member, *observer))
+        }
+        Call::Next(names, edges) => follow(alloc, rings, names, edges),
+    }
+}
+
+/// Sees that all calls of rings answer as they have to.
+fn all_answer(alloc: Global, rings: &Rings, calls: &[Call]) -> Result<(), Fail> {
+    for call in calls {
+        if !answers(alloc, rings, call)? {
+            return Err(Fail::new(format_args!("answered otherwise: {call:?}")));
+        }
+    }
+    Ok(())
+}
+
+/// Sees that all calls of the rings of these members answer as they have to.
+pub fn runs(alloc: Global, marks: Marks, names: &[Name], calls: &[Call]) -> Result<(), Fail> {
+    let rings = rings_of(alloc, marks, names)?;
+    all_answer(alloc, &rings, calls)
+}
+
+/// Two members.
+pub const TWO: [Name; 2] = [(1, 1), (2, 2)];
+
+/// Who observes whom of two members.
+pub const OF_TWO: [Edge; 8] = [
+    (0, 2, 1),
+    (1, 2, 1),
+    (2, 2, 1),
+    (0, 1, 2),
+    (1, 1, 2),
+    (2, 1, 2),
+    // no rings
+    (3, 0, 1),
+    (255, 0, 1),
+];
+
+#[test]
+fn two_members_observe_each_other(rt: HostRuntime) -> Result<(), Fail> {
+    runs(rt.alloc(), THREE, &TWO, &[Call::Edges(&OF_TWO)])
+}
+
+const OF_ONE: [Edge; 6] = [
+    (0, 0, 1),
+    (1, 0, 1),
+    (2, 0, 1),
+    (0, 1, 5),
+    (1, 1, 5),
+    (2, 1, 5),
+];
+
+#[test]
+fn a_member_alone_is_not_observed(rt: HostRuntime) -> Result<(), Fail> {
+    runs(rt.alloc(), THREE, &[(1, 1)], &[Call::Edges(&OF_ONE)])
+}
+
+// The observers of these tests were computed by Python's hashlib, from the rule that none is
+// between.
+
+/// Five members.
+pub const FIVE: [Name; 5] = [(1, 1), (2, 2), (3, 3), (4, 4), (5, 5)];
+
+const OF_FIVE: [Edge; 24] = [
+    (0, 3, 1),
+    (1, 5, 1),
+    (2, 2, 1),
+    (0, 1, 2),
+    (1, 1, 2),
+    (2, 5, 2),
+    (0, 4, 3),
+    (1, 4, 3),
+    (2, 1, 3),
+    (0, 5, 4),
+    (1, 2, 4),
+    (2, 3, 4),
+    (0, 2, 5),
+    (1, 3, 5),
+    (2, 4, 5),
+    // joiners
+    (0, 4, 6),
+    (1, 1, 6),
+    (2, 3, 6),
+    (0, 3, 7),
+    (1, 1, 7),
+    (2, 2, 7),
+    (0, 2, 40_000),
+    (1, 3, 40_000),
+    (2, 1, 40_000),
+];
+
+#[test]
+fn five_members_and_joiners_have_their_observers(rt: HostRuntime) -> Result<(), Fail> {
+    runs(rt.alloc(), THREE, &FIVE, &[Call::Edges(&OF_FIVE)])
+}
+
+const SUBJECTS: [Call; 2] = [
+    Call::Subjects(2, &[(0, 5), (1, 4), (2, 1)]),
+    Call::Subjects(6, &[]),
+];
+
+#[test]
+fn members_have_their_subjects(rt: HostRuntime) -> Result<(), Fail> {
+    runs(rt.alloc(), THREE, &FIVE, &SUBJECTS)
+}
+
+const BEFORE: [Name; 4] = [(1, 1), (3, 3), (4, 4), (6, 6)];
+
+const NEXT: [Call; 1] = [Call::Next(&FIVE, &OF_FIVE)];
+
+/// The next rings keep keys of the last and tell of their configuration.
+#[test]
+fn the_next_rings_keep_the_keys(rt: HostRuntime) -> Result<(), Fail> {
+    runs(rt.alloc(), THREE, &BEFORE, &NEXT)
+}
+
+const SEARCHES: [Call; 2] = [Call::Search(1, 4, true, 2), Call::Search(2, 6, false, 3)];
+
+#[test]
+fn one_search_tells_members_and_observers(rt: HostRuntime) -> Result<(), Fail> {
+    runs(rt.alloc(), THREE, &FIVE, &SEARCHES)
+}
+
+const OF_SIXTEEN: [Name; 4] = [(1, 1), (2, 2), (300, 300), (65_535, 65_535)];
+
+// Who observes 1, 2, 300 and 65,535 on five of sixteen rings, by the order of their keys.
+const SIXTEEN_RINGS: [Edge; 20] = [
+    (0, 65_535, 1),
+    (0, 1, 2),
+    (0, 2, 300),
+    (0, 300, 65_535),
+    (1, 65_535, 1),
+    (1, 1, 2),
+    (1, 2, 300),
+    (1, 300, 65_535),
+    (2, 2, 1),
+    (2, 65_535, 2),
+    (2, 1, 300),
+    (2, 300, 65_535),
+    (7, 300, 1),
+    (7, 65_535, 2),
+    (7, 2, 300),
+    (7, 1, 65_535),
+    (15, 300, 1),
+    (15, 1, 2),
+    (15, 65_535, 300),
+    (15, 2, 65_535),
+];
+
+#[test]
+fn each_ring_has_an_order_of_its_own(rt: HostRuntime) -> Result<(), Fail> {
+    runs(
+        rt.alloc(),
+        (16, 9, 3),
+        &OF_SIXTEEN,
+        &[Call::Edges(&SIXTEEN_RINGS)],
+    )
+}

@@ -1,0 +1,4 @@
+// Tests of messages and frames.
+
+mod frames;
+mod refusals;

@@ -1,0 +1,339 @@
+// Worked frames, and what is refused.
+
+use crate::numbered::process;
+use rapid_join::Reply;
+use rapid_member::{Body, Message};
+use rapid_wire::{Feed, WireFault, encode};
+use std::alloc::{AllocError, Global};
+use std::test::Fail;
+
+/// The frame in which the process with the number 2 asks to join.
+const PRE_JOIN: [u8; 28] = [
+    0, 0, 0, 0x18, 1, 8, 0, 0, 0, 0, 0, 0, 0, 0, 0, 0, 0, 0, 0, 0, 0, 2, 0x7f, 0, 0, 1, 0, 2,
+];
+
+/// The processes with the numbers 1, 2 and 3: the identifier n, and the endpoint 127.0.0.1:n.
+const ONE: [u8; 22] = [
+    0, 0, 0, 0, 0, 0, 0, 0, 0, 0, 0, 0, 0, 0, 0, 1, 0x7f, 0, 0, 1, 0, 1,
+];
+
+const TWO: [u8; 22] = [
+    0, 0, 0, 0, 0, 0, 0, 0, 0, 0, 0, 0, 0, 0, 0, 2, 0x7f, 0, 0, 1, 0, 2,
+];
+
+const THREE: [u8; 22] = [
+    0, 0, 0, 0, 0, 0, 0, 0, 0, 0, 0, 0, 0, 0, 0, 3, 0x7f, 0, 0, 1, 0, 3,
+];
+
+/// The frame in which the process with the number 1 tells the process with the number 2 that its
+/// endpoint is in use.
+const IN_USE: [u8; 51] = [
+    0, 0, 0, 0x2f, 1, 9, 0, 0, 0, 0, 0, 0, 0, 0, 0, 0, 0, 0, 0, 0, 0, 1, 0x7f, 0, 0, 1, 0, 1, 0, 0,
+    0, 0, 0, 0, 0, 0, 0, 0, 0, 0, 0, 0, 0, 2, 0x7f, 0, 0, 1, 0, 2, 2,
+];
+
+/// The identifier of a configuration.
+const ID: [u8; 32] = [7; 32];
+
+/// The bytes of a configuration in front of its members, with the parameters 3, 3 and 1, at height
+/// 0.
+const HEAD: [u8; 47] = [
+    0x52, 0x50, 0x43, 0x31, 0, 0, 0, 0, 0, 0, 0, 0, 0, 0, 0, 0, 0, 0, 0, 0, 0, 0, 0, 0, 0, 0, 0, 0,
+    0, 0, 0, 0, 0, 0, 0, 0, 0, 0, 0, 0, 0, 0, 0, 0, 3, 3, 1,
+];
+
+/// Puts these pieces behind the bytes.
+fn append(bytes: &mut Vec<u8>, pieces: &[&[u8]]) -> Result<(), AllocError> {
+    for piece in pieces {
+        bytes.extend_from_slice(piece)?;
+    }
+    Ok(())
+}
+
+/// A kind, and the parts of a body.
+type Parts<'a> = (u8, &'a [&'a [u8]]);
+
+/// The frame of a body from the process with the number 1.
+fn frame(alloc: Global, (kind, parts): &Parts) -> Result<Vec<u8>, Fail> {
+    let mut payload = Vec::new(alloc);
+    append(&mut payload, &[&[1, *kind], &ONE])?;
+    append(&mut payload, parts)?;
+    let length = u32::try_from(payload.len())?.to_be_bytes();
+    let mut frame = Vec::new(alloc);
+    append(&mut frame, &[&length, payload.as_slice()])?;
+    Ok(frame)
+}
+
+/// Whether the process with the number 2 asks to join.
+fn asks_to_join(message: &Message) -> bool {
+    message.sender() == process(2) && matches!(message.body(), Body::PreJoin)
+}
+
+/// Whether the process with the number 1 tells the process with the number 2 that its endpoint is
+/// in use.
+fn tells_in_use(message: &Message) -> bool {
+    match message.body() {
+        Body::Reply(joiner, Reply::EndpointInUse) => {
+            message.sender() == process(1) && *joiner == process(2)
+        }
+        _ => false,
+    }
+}
+
+/// The next message of a stream after a piece.
+fn fed(feed: &mut Feed, piece: &[u8]) -> Result<Option<Message>, WireFault> {
+    feed.feed(piece)?;
+    feed.next()
+}
+
+/// Whether a message is written as this frame.
+fn writes(alloc: Global, message: &Message, frame: &[u8]) -> Result<bool, AllocError> {
+    let written = encode(alloc, message)?;
+    Ok(written.as_slice() == frame)
+}
+
+/// Whether the bytes are one frame that is read, and written again as it was.
+fn returns(alloc: Global, feed: &mut Feed, bytes: &[u8]) -> Result<bool, WireFault> {
+    match fed(feed, bytes)? {
+        Some(message) => Ok(writes(alloc, &message, bytes)? && feed.next()?.is_none()),
+        None => Ok(false),
+    }
+}
+
+/// Whether a message comes of two pieces, but not of the first alone.
+fn comes_of_two(feed: &mut Feed, start: &[u8], end: &[u8]) -> Result<bool, WireFault> {
+    Ok(fed(feed, start)?.is_none() && fed(feed, end)?.is_some())
+}
+
+/// Whether a frame that is cut after any of its bytes is no message until its end comes.
+fn comes_whole(alloc: Global, bytes: &[u8]) -> Result<bool, WireFault> {
+    for length in 0..bytes.len() {
+        let (start, end) = bytes.split_at(length);
+        if !comes_of_two(&mut Feed::new(alloc), start, end)? {
+            return Ok(false);
+        }
+    }
+    Ok(true)
+}
+
+/// Whether a body goes out and back, however its frame is cut.
+fn goes_out_and_back(alloc: Global, body: &Parts) -> Result<bool, Fail> {
+    let bytes = frame(alloc, body)?;
+    Ok(returns(alloc, &mut Feed::new(alloc), &bytes)? && comes_whole(alloc, &bytes)?)
+}
+
+const BALLOT: &[u8] = &[2, 0, 5];
+
+const GOOD: [Parts; 20] = [
+    (1, &[&ID, &[0, 1], &[3, 1], &TWO]),
+    (1, &[&ID, &[0, 2], &[255, 2], &TWO, &[0, 1], &TWO]),
+    (2, &[&ID, &[0, 2], &TWO, &THREE]),
+    (3, &[&ID, BALLOT]),
+    (3, &[&ID, &[250, 3, 255]]),
+    (4, &[&ID, BALLOT, &[0]]),
+    (4, &[&ID, BALLOT, &[1, 1, 0, 0], &[0, 1], &TWO]),
+    (4, &[&ID, BALLOT, &[1], BALLOT, &[0, 1], &TWO]),
+    (5, &[&ID, BALLOT, &[0, 1], &TWO]),
+    (6, &[&ID, BALLOT, &[0, 1], &TWO]),
+    (7, &[&ID, &[0, 1], &TWO]),
+    (8, &[]),
+    (9, &[&TWO, &[1], &ID, &[2], &ONE, &ONE]),
+    (9, &[&TWO, &[2]]),
+    (9, &[&TWO, &[3]]),
+    (9, &[&TWO, &[4]]),
+    (10, &[&ID, &[9]]),
+    (11, &[&HEAD, &[0, 2], &ONE, &TWO]),
+    (12, &[&ID]),
+    (13, &[&ID]),
+];
+
+#[test]
+fn every_kind_goes_out_and_back_however_it_is_cut(rt: HostRuntime) -> Result<(), Fail> {
+    for body in &GOOD {
+        assert!(rt; goes_out_and_back(rt.alloc(), body)?, "at {body:?}");
+    }
+    Ok(())
+}
+
+/// The fault of the bytes, if it is answered again after a good frame came.
+fn fault(alloc: Global, bytes: &[u8]) -> Option<WireFault> {
+    let mut feed = Feed::new(alloc);
+    let first = fed(&mut feed, bytes).err();
+    let again = fed(&mut feed, &PRE_JOIN).err();
+    if first == again { first } else { None }
+}
+
+/// Whether a body spells nothing.
+fn is_bad(alloc: Global, body: &Parts) -> Result<bool, Fail> {
+    let bytes = frame(alloc, body)?;
+    Ok(fault(alloc, &bytes) == Some(WireFault::BadBody))
+}
+
+const BAD: [Parts; 20] = [
+    (1, &[&ID, &[0, 0]]),
+    (1, &[&ID, &[0, 1], &[3, 3], &TWO]),
+    (1, &[&ID, &[0, 2], &[3, 1], &TWO]),
+    (2, &[&ID, &[0, 0]]),
+    (2, &[&ID, &[0, 2], &THREE, &TWO]),
+    (2, &[&ID, &[0, 2], &TWO, &TWO]),
+    (2, &[&ID, &[0, 1], &TWO, &[0]]),
+    (3, &[&ID, &[1, 0, 0]]),
+    (3, &[&ID, &[251, 0, 0]]),
+    (3, &[&ID, &[2, 4, 0]]),
+    (4, &[&ID, BALLOT, &[2]]),
+    (4, &[&ID, BALLOT, &[1, 1, 0, 1], &[0, 1], &TWO]),
+    (5, &[&ID, BALLOT, &[0, 0]]),
+    (9, &[&TWO, &[5]]),
+    (9, &[&TWO, &[1], &ID, &[0]]),
+    (10, &[&ID]),
+    (11, &[&HEAD, &[0, 2], &TWO, &ONE]),
+    (11, &[&HEAD, &[0, 1], &ONE, &[0]]),
+    (12, &[&ID, &[0]]),
+    (13, &[]),
+];
+
+#[test]
+fn bodies_that_spell_nothing_are_refused(rt: HostRuntime) -> Result<(), Fail> {
+    for body in &BAD {
+        assert!(rt; is_bad(rt.alloc(), body)?, "at {body:?}");
+    }
+    Ok(())
+}
+
+/// Whether a fault is answered at the last of the bytes, of which each is a piece, and not before.
+fn is_fault_at_end(alloc: Global, bytes: &[u8], fault: WireFault) -> bool {
+    let mut feed = Feed::new(alloc);
+    let mut waits = 1usize;
+    for byte in bytes {
+        match fed(&mut feed, &[*byte]) {
+            Ok(_) => waits = waits.wrapping_add(1),
+            Err(found) => return found == fault && waits == bytes.len(),
+        }
+    }
+    false
+}
+
+const FAULTS: [(&[u8], WireFault); 8] = [
+    (&[0, 0, 0, 0], WireFault::BadBody),
+    (&[0, 0, 0, 1, 1], WireFault::BadBody),
+    (&[0, 0, 0, 2, 2, 8], WireFault::BadVersion),
+    (&[0, 0, 0, 2, 1, 0xff], WireFault::BadKind),
+    (&[0, 0, 0, 2, 1, 0], WireFault::BadKind),
+    (&[0, 0, 0, 2, 1, 8], WireFault::BadBody),
+    (
+        &[
+            0, 0, 0, 0x19, 1, 8, 0, 0, 0, 0, 0, 0, 0, 0, 0, 0, 0, 0, 0, 0, 0, 2, 0x7f, 0, 0, 1, 0,
+            2, 0,
+        ],
+        WireFault::BadBody,
+    ),
+    (&[0, 1, 0, 1], WireFault::TooLong),
+];
+
+#[test]
+fn faults_come_in_their_order(rt: HostRuntime) {
+    for (bytes, expected) in &FAULTS {
+        assert!(rt; fault(rt.alloc(), bytes) == Some(*expected), "at {bytes:?}");
+        assert!(rt;
+            is_fault_at_end(rt.alloc(), bytes, *expected),
+            "at {bytes:?}"
+        );
+    }
+}
+
+const CODES: [(WireFault, u8); 5] = [
+    (WireFault::TooLong, 1),
+    (WireFault::BadVersion, 2),
+    (WireFault::BadKind, 3),
+    (WireFault::BadBody, 4),
+    (WireFault::OutOfMemory, 99),
+];
+
+#[test]
+fn faults_have_their_numbers(rt: HostRuntime) {
+    for (fault, code) in &CODES {
+        assert!(rt; fault.code() == *code, "at {fault:?}");
+    }
+}
+
+/// Whether the question to join comes at the last of its bytes, of which each is a piece.
+fn comes_at_end(feed: &mut Feed, bytes: &[u8]) -> Result<bool, WireFault> {
+    let mut waits = 1usize;
+    for byte in bytes {
+        match fed(feed, &[*byte])? {
+            Some(message) => return Ok(asks_to_join(&message) && waits == bytes.len()),
+            None => waits = waits.wrapping_add(1),
+        }
+    }
+    Ok(false)
+}
+
+#[test]
+fn a_question_to_join_comes_byte_by_byte(rt: HostRuntime) -> Result<(), Fail> {
+    assert!(rt; comes_at_end(&mut Feed::new(rt.alloc()), &PRE_JOIN)?);
+    Ok(())
+}
+
+#[test]
+fn worked_messages_are_written(rt: HostRuntime) -> Result<(), Fail> {
+    let question = Message::new(process(2), Body::PreJoin)?;
+    assert!(rt; writes(rt.alloc(), &question, &PRE_JOIN)?);
+    let answer = Message::new(process(1), Body::Reply(process(2), Reply::EndpointInUse))?;
+    assert!(rt; writes(rt.alloc(), &answer, &IN_USE)?);
+    Ok(())
+}
+
+/// Whether two frames bring their messages, in order, and no other.
+fn brings_both(feed: &mut Feed) -> Result<bool, WireFault> {
+    feed.feed(&PRE_JOIN)?;
+    let first = fed(feed, &IN_USE)?;
+    let second = feed.next()?;
+    Ok(
+        first.as_ref().is_some_and(asks_to_join)
+            && second.as_ref().is_some_and(tells_in_use)
+            && feed.next()?.is_none(),
+    )
+}
+
+#[test]
+fn worked_frames_are_read_in_the_order_of_their_bytes(rt: HostRuntime) -> Result<(), Fail> {
+    assert!(rt; brings_both(&mut Feed::new(rt.alloc()))?);
+    Ok(())
+}
+
+/// The next message of a stream after a piece, fed and asked for again where a growth is refused.
+fn fed_again(feed: &mut Feed, piece: &[u8]) -> Result<Option<Message>, WireFault> {
+    if feed.feed(piece).is_err() {
+        feed.feed(piece)?;
+    }
+    match feed.next() {
+        Err(WireFault::OutOfMemory) => feed.next(),
+        answer => answer,
+    }
+}
+
+/// Whether a body comes, with one growth refused.
+fn survives(alloc: Global, body: &Parts) -> Result<bool, Fail> {
+    let bytes = frame(alloc, body)?;
+    match fed_again(&mut Feed::new(alloc), &bytes)? {
+        Some(message) => Ok(writes(alloc, &message, &bytes)?),
+        None => Ok(false),
+    }
+}
+
+const GROWING: [Parts; 4] = [
+    (1, &[&ID, &[0, 1], &[3, 1], &TWO]),
+    (2, &[&ID, &[0, 2], &TWO, &THREE]),
+    (9, &[&TWO, &[1], &ID, &[2], &ONE, &ONE]),
+    (11, &[&HEAD, &[0, 2], &ONE, &TWO]),
+];
+
+/// Where some growth is refused the feed is as it was: the piece is fed again, and the message
+/// comes when it is asked for again.
+#[test]
+fn want_of_memory_leaves_the_feed_as_it_was(rt: HostRuntime) -> Result<(), Fail> {
+    for body in &GROWING {
+        assert!(rt; survives(rt.alloc(), body)?, "at {body:?}");
+    }
+    Ok(())
+}

@@ -1,0 +1,6 @@
+// Tests of running nodes.
+
+mod clusters;
+mod devices;
+mod memory;
+mod rows;

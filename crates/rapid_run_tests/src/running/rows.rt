@@ -1,0 +1,233 @@
+// What a node prints for its lines, and how it ends.
+
+use crate::running::devices::{Broken, Murmur, Screen};
+use rapid_config::Params;
+use rapid_endpoint::{Endpoint, ProcessId};
+use rapid_run::run_node;
+use rapid_service::{NodeFault, NodeOptions};
+use std::alloc::Global;
+use std::io::{Read, Write};
+use std::net::{Ipv4Addr, Net, SocketAddr, SocketAddrV4, TcpListener, TcpStream};
+use std::process::Abort;
+use std::random::RandomSource;
+use std::sync::atomic::{AtomicBool, Ordering};
+use std::sync::{Mutex, Wait};
+use std::test::Fail;
+use std::thread::{self, Threads};
+use std::time::{Clock, Duration};
+
+/// Runs a node at this port: it founds a cluster, or joins one by the seed at
+/// that port.
+pub(crate) fn ran<R, I, O, E>(
+    rt: &R,
+    alloc: Global,
+    port: u16,
+    seed: Option<u16>,
+    reader: &mut I,
+    writer: &mut O,
+    err: &mut E,
+) -> Result<(), NodeFault>
+where
+    R: Net<Listener = TcpListener, Stream = TcpStream>
+        + Threads
+        + Wait
+        + Clock
+        + RandomSource
+        + Sync,
+    I: Read + Send,
+    O: Write + Send,
+    E: Write + Send,
+{
+    let Ok(params) = Params::new(10, 9, 3) else {
+        return Err(NodeFault::Halted);
+    };
+    let id = [0, 0, 0, 0, 0, 0, 0, 0, 0, 0, 0, 0, 0, 0, 0, 1];
+    let asked = NodeOptions {
+        listen: Endpoint::new([127, 0, 0, 1], port),
+        id: Some(ProcessId::new(id)),
+        join: seed.map(|port| Endpoint::new([127, 0, 0, 1], port)),
+        params,
+        tick_ms: 0,
+    };
+    run_node(rt, alloc, asked, rt, reader, writer, err)
+}
+
+#[test]
+fn a_founder_prints_its_view(rt: HostRuntime) -> Result<(), Fail> {
+    let mut input = b"view\nquit\n".as_slice();
+    let mut printed = Vec::new(rt.alloc());
+    let mut err = Vec::new(rt.alloc());
+    ran(
+        &rt,
+        rt.alloc(),
+        7_401,
+        None,
+        &mut input,
+        &mut printed,
+        &mut err,
+    )?;
+    assert_eq!(rt;
+        printed.as_slice(),
+        b"height 0 members 127.0.0.1:7401\nheight 0 members 127.0.0.1:7401\n".as_slice()
+    );
+    assert!(rt; err.is_empty());
+    Ok(())
+}
+
+#[test]
+fn a_joiner_has_no_view(rt: HostRuntime) -> Result<(), Fail> {
+    let mut input = b"# none yet\nview\ntick 20\nleave\ntick 1001\n".as_slice();
+    let mut printed = Vec::new(rt.alloc());
+    let mut err = Vec::new(rt.alloc());
+    ran(
+        &rt,
+        rt.alloc(),
+        7_402,
+        Some(7_403),
+        &mut input,
+        &mut printed,
+        &mut err,
+    )?;
+    assert_eq!(rt;
+        printed.as_slice(),
+        b"no view\nrefused BadLine\nrefused BadLine\n".as_slice()
+    );
+    assert!(rt; err.is_empty());
+    Ok(())
+}
+
+#[test]
+fn a_port_that_is_taken(rt: HostRuntime) -> Result<(), Fail> {
+    let address = SocketAddrV4::new(Ipv4Addr::new(127, 0, 0, 1), 7_404);
+    let _taken = TcpListener::bind(&rt, SocketAddr::V4(address))?;
+    let mut input = b"view\n".as_slice();
+    let mut printed = Vec::new(rt.alloc());
+    let mut err = Vec::new(rt.alloc());
+    let ended = ran(
+        &rt,
+        rt.alloc(),
+        7_404,
+        None,
+        &mut input,
+        &mut printed,
+        &mut err,
+    );
+    assert_eq!(rt; ended, Err(NodeFault::NoPort));
+    assert!(rt; printed.is_empty());
+    assert_eq!(rt;
+        err.as_slice(),
+        b"error: the port is not to be had\n".as_slice()
+    );
+    Ok(())
+}
+
+#[test]
+fn an_input_that_fails(rt: HostRuntime) -> Result<(), Fail> {
+    let mut printed = Vec::new(rt.alloc());
+    let mut err = Vec::new(rt.alloc());
+    let ended = ran(
+        &rt,
+        rt.alloc(),
+        7_405,
+        None,
+        &mut Broken,
+        &mut printed,
+        &mut err,
+    );
+    assert_eq!(rt; ended, Err(NodeFault::Read));
+    assert_eq!(rt;
+        err.as_slice(),
+        b"error: the input could not be read\n".as_slice()
+    );
+    Ok(())
+}
+
+/// What is told where the output fails.
+const UNWRITTEN: &[u8] = b"error: the output could not be written\n";
+
+/// How a node ends whose output fails, and what it tells.
+fn unwritten<R>(
+    rt: &R,
+    alloc: Global,
+    port: u16,
+    seed: Option<u16>,
+) -> (Result<(), NodeFault>, Vec<u8>)
+where
+    R: Net<Listener = TcpListener, Stream = TcpStream>
+        + Threads
+        + Wait
+        + Clock
+        + RandomSource
+        + Sync,
+{
+    let mut input = b"view\n".as_slice();
+    let mut err = Vec::new(alloc);
+    let ended = ran(rt, alloc, port, seed, &mut input, &mut Broken, &mut err);
+    (ended, err)
+}
+
+#[test]
+fn an_output_that_fails(rt: HostRuntime) {
+    for (port, seed) in [(7_406, None), (7_407, Some(7_408))] {
+        let (ended, err) = unwritten(&rt, rt.alloc(), port, seed);
+        assert_eq!(rt; ended, Err(NodeFault::Write));
+        assert_eq!(rt; err.as_slice(), UNWRITTEN);
+    }
+}
+
+/// Waits until it is told that the output has failed, for some seconds at most, and ends the input
+/// then; whether it was told.
+fn is_told<R: Wait + Clock>(rt: &R, told: &Mutex<Vec<u8>>, over: &AtomicBool) -> bool {
+    let mut is_told = false;
+    for _ in 0..1_000 {
+        if told.lock(rt).as_slice() == UNWRITTEN {
+            is_told = true;
+            break;
+        }
+        thread::sleep(rt, Duration::from_millis(5));
+    }
+    over.store(true, Ordering::SeqCst);
+    is_told
+}
+
+/// Runs a node whose output fails, and whose input is quiet after a line; whether it was told of
+/// the fault before the input ended, and how it ended.
+fn quiet<'a, R>(rt: &'a R, alloc: Global, told: &'a Mutex<Vec<u8>>) -> (Result<(), NodeFault>, bool)
+where
+    R: Net<Listener = TcpListener, Stream = TcpStream>
+        + Threads
+        + Wait
+        + Clock
+        + RandomSource
+        + Sync,
+{
+    let over = AtomicBool::new(false);
+    let mut reader = Murmur {
+        rt,
+        line: b"view\n",
+        over: &over,
+    };
+    let mut err = Screen { rt, printed: told };
+    thread::join(
+        rt,
+        || ran(
+            rt,
+            alloc,
+            7_409,
+            Some(7_410),
+            &mut reader,
+            &mut Broken,
+            &mut err,
+        ),
+        || is_told(rt, told, &over),
+    )
+}
+
+#[test]
+fn a_fault_is_told_while_the_input_is_quiet(rt: HostRuntime) {
+    let told = Mutex::new(Vec::new(rt.alloc()));
+    let (ended, was_told) = quiet(&rt, rt.alloc(), &told);
+    assert!(rt; was_told);
+    assert_eq!(rt; ended, Err(NodeFault::Write));
+    assert_eq!(rt; told.lock(&rt).as_slice(), UNWRITTEN);
+}

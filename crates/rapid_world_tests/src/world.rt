@@ -1,0 +1,6 @@
+// Tests of whole worlds.
+
+mod joins;
+mod memory;
+mod refusals;
+mod worlds;

@@ -1,0 +1,56 @@
+// A join in a world.
+
+use crate::numbered::{endpoint, id, process};
+use crate::world::worlds::alone;
+use rapid_node::Phase;
+use rapid_world::WorldEvent::{Deliver, Start, Tick};
+use rapid_world::{World, WorldError, WorldEvent};
+use std::process::Abort;
+use std::test::Fail;
+
+/// The events by which the process 2 joins the process 1.
+pub fn join() -> [WorldEvent; 9] {
+    [
+        Start(process(2), endpoint(1)),
+        Tick(id(2)),
+        Deliver(1),
+        Deliver(2),
+        Deliver(3),
+        Deliver(4),
+        Deliver(5),
+        Tick(id(1)),
+        Deliver(6),
+    ]
+}
+
+/// Checks that the node of a process is a member at a height.
+fn assert_member(rt: &impl Abort, world: &World, number: u16, height: u64) {
+    let node = world.node(&id(number)).expect(rt, "a node");
+    assert!(rt; node.phase() == Phase::Member);
+    let stamp = node.installed().last().expect(rt, "a view");
+    assert_eq!(rt; stamp.height(), height);
+}
+
+#[test]
+fn a_guest_is_let_in(rt: HostRuntime) -> Result<(), Fail> {
+    let mut world = alone(rt.alloc())?;
+    let accepted = world.run(&join());
+    assert_eq!(&rt; accepted, 9);
+    assert_member(&rt, &world, 2, 1);
+    assert_member(&rt, &world, 1, 1);
+    Ok(())
+}
+
+#[test]
+fn events_are_kept_and_refused(rt: HostRuntime) -> Result<(), Fail> {
+    let mut world = alone(rt.alloc())?;
+    let accepted = world.run(&join());
+    assert_eq!(&rt; accepted, world.accepted());
+    assert!(&rt; matches!(world.event(2), Some((Deliver(1), false))));
+    let again = world.step(&Start(process(2), endpoint(1)));
+    assert!(&rt; matches!(again, Err(WorldError::IdentifierUsed)));
+    assert_eq!(&rt; world.packets(), 6);
+    let unsent = world.step(&Deliver(7));
+    assert!(&rt; matches!(unsent, Err(WorldError::NoSuchPacket)));
+    Ok(())
+}
