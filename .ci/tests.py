@@ -7,7 +7,7 @@ from pathlib import Path
 import tree
 
 RESULT = re.compile(r"test result: \w+\. (\d+) passed; (\d+) failed;")
-SECONDS = {"rapid_run_tests": 240, "rapid_world_tests": 220, "rapid_node_tests": 200, "rapid_parts_tests": 120}
+SECONDS = {"rapid_run_tests": 140, "rapid_node_tests": 120, "rapid_world_tests": 100, "rapid_parts_tests": 70}
 MAIN = """//! One command of the program.
 #![tactic(auto)]
 
@@ -39,7 +39,7 @@ def program_of(room, name):
 
 def try_tests(crate, words):
     """Runs a crate's tests; how many passed, how many failed, and what to show of a failure."""
-    ran = tree.rt(["try", "--test", *(["--", *words] if words else [])], tree.TOP / "crates" / crate)
+    ran = tree.rt(["try", "--test", "--seconds", "300", *(["--", *words] if words else [])], tree.TOP / "crates" / crate)
     found = RESULT.findall(ran.stdout)
     passed, failed = map(int, found[-1]) if found else (0, 1)
     failed = max(failed, int(ran.returncode != 0))
