@@ -1,20 +1,23 @@
 #!/usr/bin/env python3
-"""Lists the public surface of the libraries: docs/SURFACE.md is what this prints.
+"""Lists the public surface of the libraries: docs/SURFACE.md, and a page a crate in docs/surface.
 
-  docs/surface.py           prints the page
-  docs/surface.py --write   writes it to docs/SURFACE.md
-  docs/surface.py --check   ends with status 1 where docs/SURFACE.md is not that page
+  docs/surface.py           prints all pages
+  docs/surface.py --write   writes them, and removes pages of crates that are no more
+  docs/surface.py --check   ends with status 1 if one of them is not what the sources say
 
-A function stands on the page where its crate's lib.rt names it or its type in a `pub use`. What it
-does is the first sentence of its docstring, what its caller shows are its clauses `requires`, and
-the numbers of refusals are those of the method `code`.
+A function stands on a page if its crate's lib.rt names it or its type in a `pub use`. What it does
+is the first sentence of its docstring, what its caller shows are its clauses `requires`, and the
+numbers of refusals are those of the method `code`.
 """
 import re
 import sys
+import textwrap
 from pathlib import Path
 
 TOP = Path(__file__).resolve().parent.parent
 PAGE = TOP / "docs/SURFACE.md"
+FOLDER = TOP / "docs/surface"
+WIDTH = 120
 LAWS = {"rapid_model", "rapid_agreement", "rapid_safety", "rapid_histories"}
 NO_LIBRARIES = {
     "rapidd",
@@ -26,18 +29,19 @@ NO_LIBRARIES = {
 
 HEAD = """# The public surface
 
-Written by `docs/surface.py` from the sources; `docs/surface.py --check` says whether it still is \
-what they say.
-Crates stand lowest first. Behind each function stands the first sentence of its docstring; \
-*shows* is what its caller has to
-show (its clauses `requires`), where it has to show anything; *errors* is what the docstring says \
-of them. What a call ensures
-stands in its contract: [PROMISES.md](PROMISES.md) retells it.
+Written by `docs/surface.py` from the sources; `docs/surface.py --check` says whether it still is what they say. A page \
+a crate, lowest first. How to read one:
 
-A table has the number that `code()` answers for each refusal (or reply), and when it comes. 99, \
-where it stands, is want of memory, which is
-answered only where a growth was really refused. A function named `tell` does nothing: what it \
-ensures is for proofs.
+- Behind each function stands the first sentence of its docstring. What a call ensures stands in its contract: \
+[PROMISES.md](PROMISES.md) retells it.
+- *shows* is what its caller has to show, if anything: its clauses `requires`.
+- *errors* is what the docstring says of them.
+- A list of refusals (or replies) has for each the number that `code()` answers, and when it comes. 99 is out of memory, \
+which is answered only if a growth was really refused.
+- A function named `tell` does nothing: what it ensures is for proofs.
+
+| crate | what it has |
+|---|---|
 """
 
 
@@ -187,16 +191,16 @@ def print_item(item, out, owner=""):
 
 
 def print_type(found, out):
-    """A type, its functions, and a table of its refusals where it has numbers."""
+    """A type, its functions, and a list of its refusals if it has some."""
     traits = [t for t in dict.fromkeys(found.traits) if t not in ("Drop", "From", "Error")]
     has = f" ({', '.join(traits)})" if traits else ""
     doc = Item(found.doc, "", []).first()
     out.extend(["", f"**{found.kind} `{found.name}`**{has}: {doc}", ""])
     if found.variants and (found.codes or found.name.endswith(("Error", "Fault"))):
-        out.extend(["| answer | number | when |", "|---|---|---|"])
         for name, _, when in found.variants:
-            out.append(f"| {name} | {found.codes.get(name, 'none')} | {when} |")
-        out.append("")
+            number = found.codes.get(name)
+            told = f" {number}" if number is not None else ""
+            out.append(f"- **{name}**{told}: {when}")
     elif found.variants:
         for _, case, said in found.variants:
             out.append(f"- `{case}`: {said}" if said else f"- `{case}`")
@@ -208,11 +212,28 @@ def print_type(found, out):
         print_item(item, out, "" if item.head.startswith((".", "const")) else found.name + "::")
 
 
-def print_crate(name, out):
-    """The section of a crate."""
+def wrapped(line):
+    """A line in pieces of at most the width. What stands in backquotes is kept whole if it fits."""
+    glued = re.sub(r"`[^`]{1,90}`", lambda code: code[0].replace(" ", "\0"), line)
+    indent = re.match(r" *(- )?", line)[0]
+    how = {"break_long_words": False, "break_on_hyphens": False}
+    pieces = textwrap.wrap(glued, WIDTH, subsequent_indent=" " * len(indent), **how)
+    return [piece.replace("\0", " ") for piece in pieces] or [""]
+
+
+def shaped(out):
+    """The text of a page: its lines wrapped, tables left whole, one empty line between parts."""
+    lines = "\n".join(out).split("\n")
+    rows = [[line] if line.startswith("|") else wrapped(line) for line in lines]
+    text = "\n".join(piece for row in rows for piece in row).rstrip() + "\n"
+    return re.sub(r"\n{3,}", "\n\n", text)
+
+
+def crate_page(name):
+    """The page of a crate."""
     lib, types, functions, others = read_crate(name)
     said = re.findall(r"^//! ?(.*)$", lib, re.M)
-    out.extend(["", f"## {name}", "", Item(" ".join(said), "", []).first()])
+    out = [f"# {name}", "", Item(" ".join(said), "", []).first()]
     if others:
         out.extend(["", "Names again: " + ", ".join(f"`{n}`" for n in others) + "."])
     for found in types.values():
@@ -222,35 +243,51 @@ def print_crate(name, out):
         out.extend(["", f"**{laws if name in LAWS else 'functions'}**", ""])
         for item in functions:
             print_item(item, out)
+    return shaped(out)
 
 
-def page():
-    """The whole page."""
-    out = [HEAD.rstrip()]
+def pages():
+    """All pages, by their places. What a crate has is the comment above it in crates.txt."""
+    found, rows, said = {}, [], ""
     for line in (TOP / "crates.txt").read_text().split("\n"):
         name = line.partition(":")[0]
-        if not name or name.startswith("#") or name.endswith("_tests"):
+        if line.startswith("#"):
+            said = line[1:].strip()
+        if not name or name.startswith("#") or name.endswith("_tests") or name in NO_LIBRARIES:
             continue
-        if name not in NO_LIBRARIES:
-            print_crate(name, out)
-    text = "\n".join(out) + "\n"
-    return re.sub(r"\n{3,}", "\n\n", text)
+        found[FOLDER / f"{name}.md"] = crate_page(name)
+        rows.append(f"| [{name}](surface/{name}.md) | {said} |")
+    found[PAGE] = shaped([HEAD.rstrip(), *rows])
+    return found
+
+
+def differing(found):
+    """The pages that are not there as they should be, and those that should not be there."""
+    wrong = [at for at, text in found.items() if not at.is_file() or at.read_text() != text]
+    return wrong + [at for at in sorted(FOLDER.glob("*.md")) if at not in found]
 
 
 def main(words):
-    """Prints, writes or compares the page."""
-    if words == ["--write"]:
-        PAGE.write_text(page())
-    elif words == ["--check"]:
-        if not PAGE.is_file() or PAGE.read_text() != page():
-            said = "docs/SURFACE.md is not what the sources say: docs/surface.py --write"
-            print(said, file=sys.stderr)
-            return 1
-    elif not words:
-        print(page(), end="")
-    else:
+    """Prints, writes or compares the pages."""
+    if words not in ([], ["--write"], ["--check"]):
         print(__doc__, file=sys.stderr)
         return 2
+    found = pages()
+    if not words:
+        print("\n".join(found.values()), end="")
+        return 0
+    wrong = differing(found)
+    if words == ["--check"]:
+        for at in wrong:
+            said = f"{at.relative_to(TOP)} is not what the sources say: docs/surface.py --write"
+            print(said, file=sys.stderr)
+        return int(bool(wrong))
+    FOLDER.mkdir(exist_ok=True)
+    for at in wrong:
+        if at in found:
+            at.write_text(found[at])
+        else:
+            at.unlink()
     return 0
 
 

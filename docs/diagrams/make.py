@@ -1,26 +1,28 @@
 #!/usr/bin/env python3
-"""Draws the space-time diagrams of docs/PROTOCOL.md from real runs of `sim`.
+"""Draws space-time diagrams from real runs of `sim`.
 
-  docs/diagrams/make.py PROGRAM           draws each diagram into docs/diagrams
-  docs/diagrams/make.py PROGRAM --check   ends with status 1 where one there would not be drawn so
+  docs/diagrams/make.py PROGRAM           draws those of docs/PROTOCOL.md into docs/diagrams
+  docs/diagrams/make.py PROGRAM --check   ends with status 1 if one there would not be drawn so
+  docs/diagrams/make.py PROGRAM SCRIPT    prints the diagram of any script of sim, as SVG
 
 PROGRAM is run as `PROGRAM sim`: the proved crates/rapidd/out/rapidd, which answers each line at
-once. Nothing is drawn that the program was not given or did not print. A script of examples/sim is
-given line by line, each followed by `packets`, so that it is known which packets a line sent. Many
-ticks are given one by one, and `flow` as the `deliver` lines that it stands for; what the program
-prints of views has to be what it prints for the script itself.
+once. Nothing is drawn that the program was not given or did not print. A script is given line by
+line, each followed by `packets`, so that it is known which packets a line sent. Many ticks are
+given one by one, and `flow` as the `deliver` lines that it stands for; what the program prints of
+views has to be what it prints for the script itself. A line that is refused is not drawn.
 
-To whom a packet goes is found by a second run of the same lines, at whose end each node crashes in
-turn: where a packet can be delivered no longer, it goes to the node that has just crashed. In that
-run a node that crashes in the story goes on without a step, and all else has to be printed as
-before. Who sent a packet is the node that took a step in its line: that of the tick, or the one it
-came to.
+To which port a packet goes is found by further runs of the same lines, one for each port. At the
+end of one the node at that port crashes, or another starts there if none runs: the packets that
+can be delivered no longer, or now, go to that port. Who gets a packet is the last node that
+started at its port before the line that delivers it. Who sent it is the node that took a step in
+its line: that of the tick, or the one it came to.
 """
 import re
 import subprocess
 import sys
 import textwrap
 from pathlib import Path
+from xml.sax.saxutils import escape
 
 HERE = Path(__file__).resolve().parent
 SCRIPTS = HERE.parent.parent / "examples/sim"
@@ -76,10 +78,12 @@ class Story:
 
     def __init__(self, program, text):
         self.sim, self.events = Sim(program), []
-        self.sent, self.settled, self.lost = 0, set(), set()
-        lines = [line for line in text.split("\n") if line and not line.startswith("#")]
+        self.sent, self.settled = 0, set()
+        lines = [line for line in text.split("\n") if line.strip() and line[0] != "#"]
         self.head = "\n".join(lines[:2])
         self.founders = self.sim.ask(self.head)[0]
+        if any(answer.startswith("refused") for answer in self.founders):
+            raise SystemExit("a script begins with lines params and found that are taken")
         for line in lines[2:]:
             self.give(line)
         self.sim.close()
@@ -91,32 +95,30 @@ class Story:
             return
         if words[0] == "flow":
             self.flow()
-        elif words[0] == "tick" and len(words) == 3:
+        elif words[0] == "tick" and len(words) == 3 and words[2].isdigit():
             for _ in range(int(words[2])):
                 self.event(f"tick {words[1]}")
-        elif words[0] == "drop":
+        elif words[0] == "drop" and words[-1].isdigit() and 1 <= int(words[-1]) <= self.sent:
             self.settled.add(int(words[1]))
-            self.lost.add(int(words[1]))
-        else:
-            if words[0] == "deliver":
-                self.settled.add(int(words[1]))
-            self.event(line)
+        elif self.event(line) and words[0] == "deliver":
+            self.settled.add(int(words[1]))
 
     def flow(self):
         """What `flow` stands for: the least packet that is not settled is, and is delivered."""
         while len(self.settled) < self.sent:
             packet = min(set(range(1, self.sent + 1)) - self.settled)
             self.settled.add(packet)
-            if self.event(f"deliver {packet}").printed == ["refused NoSuchNode"]:
-                self.events.pop()
-                self.lost.add(packet)
+            self.event(f"deliver {packet}")
 
     def event(self, line):
-        """Gives a line that is one event of the world, or `lose`."""
+        """Gives a line that is an event of the world, and keeps it unless it is refused."""
         printed, sent = self.sim.ask(line)
-        self.events.append(Event(line, printed, self.sent + 1, sent))
+        event = Event(line, printed, self.sent + 1, sent)
         self.sent = sent
-        return self.events[-1]
+        if printed and printed[0].startswith("refused"):
+            return False
+        self.events.append(event)
+        return True
 
     def views(self):
         """All that was printed of views."""
@@ -129,24 +131,56 @@ def nodes_of(story):
     return sorted(founders + [int(e.words[1]) for e in story.events if e.words[0] == "start"])
 
 
-def receivers(program, story):
-    """To which node each packet goes."""
+def ports_of(story):
+    """At which port each node starts: a founder at that of its number."""
+    ports = {int(word): int(word) for word in story.head.split("\n")[1].split()[1:]}
+    starts = [event.words for event in story.events if event.words[0] == "start"]
+    return ports | {int(words[1]): int(words[2]) for words in starts}
+
+
+def refused(program, story, lines):
+    """The packets that can be delivered to nobody, once these lines came after the story."""
     sim = Sim(program)
     sim.ask(story.head)
     for event in story.events:
-        if event.words[0] == "crash":
-            continue
-        printed, sent = sim.ask(event.line)
-        if (printed, sent) != (event.printed, event.sent.stop - 1):
-            raise SystemExit(f"the second run differs at: {event.line}")
-    found = {}
-    for node in nodes_of(story):
-        sim.ask(f"crash {node}")
-        for packet in range(1, story.sent + 1):
-            if packet not in found and sim.ask(f"deliver {packet}")[0] == ["refused NoSuchNode"]:
-                found[packet] = node
+        if sim.ask(event.line) != (event.printed, event.sent.stop - 1):
+            raise SystemExit(f"another run differs at: {event.line}")
+    for line in lines:
+        sim.ask(line)
+    packets = range(1, story.sent + 1)
+    found = {p for p in packets if sim.ask(f"deliver {p}")[0] == ["refused NoSuchNode"]}
     sim.close()
     return found
+
+
+def ports_of_packets(program, story, ports):
+    """To which port each packet goes."""
+    crashed = {int(event.words[1]) for event in story.events if event.words[0] == "crash"}
+    running = {port: node for node, port in ports.items() if node not in crashed}
+    stranger = max(set(range(1, 65_536)) - set(ports))
+    nobody, found = refused(program, story, []), {}
+    for port in set(ports.values()):
+        if port in running:
+            gone = refused(program, story, [f"crash {running[port]}"]) - nobody
+        else:
+            gone = nobody - refused(program, story, [f"start {stranger} {port} {port}"])
+        found.update(dict.fromkeys(gone, port))
+    return found
+
+
+def receivers(program, story):
+    """Which node gets each packet, or would."""
+    ports = ports_of(story)
+    goes, at, to = ports_of_packets(program, story, ports), {}, {}
+    for word in story.head.split("\n")[1].split()[1:]:
+        at[int(word)] = int(word)
+    for event in story.events:
+        if event.words[0] == "start":
+            at[int(event.words[2])] = int(event.words[1])
+        for packet in [*event.sent, *([event.packet()] if event.packet() else [])]:
+            if packet in goes:
+                to[packet] = at.get(goes[packet])
+    return to
 
 
 def columns_of(story):
@@ -166,8 +200,8 @@ def columns_of(story):
 class Drawing:
     """An SVG of a story."""
 
-    def __init__(self, name, story, to):
-        self.name, self.story, self.to = name, story, to
+    def __init__(self, title, source, story, to):
+        self.title, self.source, self.story, self.to = title, source, story, to
         self.nodes, self.columns, self.out = nodes_of(story), columns_of(story), []
         self.width = LEFT + STEP * (len(self.columns) + 1) + 150
         self.legend = textwrap.wrap(LEGEND, self.width // 6)
@@ -282,9 +316,9 @@ class Drawing:
         font = 'font-family="Helvetica, Arial, sans-serif"'
         self.out.append(f'<svg xmlns="http://www.w3.org/2000/svg" {size} {box} {font}>')
         self.out.append('<rect width="100%" height="100%" fill="#fff"/>')
-        self.text(8, 20, STORIES[self.name], 16, font_weight="bold")
-        source = f"examples/sim/{self.name}.txt; drawn from runs of sim by make.py"
-        self.text(8, 37, source, 10, fill="#555")
+        self.text(8, 20, escape(self.title), 16, font_weight="bold")
+        source = f"{self.source}; drawn from runs of sim by make.py"
+        self.text(8, 37, escape(source), 10, fill="#555")
         self.heads()
         self.lives()
         self.packets()
@@ -307,28 +341,40 @@ LEGEND = (
 )
 
 
-def figure(program, name):
-    """The figure of a story, after all that can be compared was found to agree."""
-    text = (SCRIPTS / f"{name}.txt").read_text()
+def figure(program, script, title, source):
+    """The figure of a script, after all that can be compared was found to agree."""
+    text = script.read_text()
     story = Story(program, text)
     whole = subprocess.run([program, "sim"], input=text, capture_output=True, text=True, check=True)
-    said = [line for line in whole.stdout.split("\n") if line and not line.startswith("packets ")]
+    said = [line for line in whole.stdout.split("\n") if re.match("node ", line)]
     if said != story.views():
-        raise SystemExit(f"{name}: line by line the program prints other views")
+        raise SystemExit(f"{source}: line by line the program prints other views")
     to = receivers(program, story)
-    if len(to) != story.sent:
-        raise SystemExit(f"{name}: a packet goes to no node")
-    return Drawing(name, story, to).draw()
+    if len(to) != story.sent or None in to.values():
+        raise SystemExit(f"{source}: a packet goes to no node")
+    return Drawing(title, source, story, to).draw()
+
+
+def title_of(script):
+    """The first line of comment of a script, else its name."""
+    said = [line.strip("# ") for line in script.read_text().split("\n") if line.startswith("#")]
+    return said[0] if said and said[0] else script.stem
 
 
 def main(words):
     """Draws or compares the figures."""
-    if not words or words[1:] not in ([], ["--check"]):
+    if len(words) not in (1, 2):
         print(__doc__, file=sys.stderr)
         return 2
+    if len(words) == 2 and words[1] != "--check":
+        script = Path(words[1])
+        print(figure(words[0], script, title_of(script), words[1]), end="")
+        return 0
     status = 0
-    for name in STORIES:
-        place, drawn = HERE / f"{name}.svg", figure(words[0], name)
+    for name, title in STORIES.items():
+        script = SCRIPTS / f"{name}.txt"
+        source = f"examples/sim/{script.name}"
+        place, drawn = HERE / f"{name}.svg", figure(words[0], script, title, source)
         if not words[1:]:
             place.write_text(drawn)
         elif not place.is_file() or place.read_text() != drawn:

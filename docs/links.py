@@ -1,0 +1,57 @@
+#!/usr/bin/env python3
+"""Sees that each path and link that a page names is there: `docs/links.py` ends with status 1 if one
+is not, and names it.
+
+A link `[..](path#anchor)` counts from its page, and the anchor is a heading there. A path counts from
+the top of the repository, or from `crates` if it begins with a crate's name: in backquotes any below
+`crates`, `docs`, `examples`, `bench`, `.ci` or a folder of a crate, in a block of code a file of
+`docs`, `examples` or `bench`. A star stands for any name; built files are not looked for.
+"""
+import re
+import sys
+from pathlib import Path
+
+TOP = Path(__file__).resolve().parent.parent
+TOPS = ("crates", "docs", "examples", "bench", ".ci")
+FOLDERS = r"(?:crates|docs|examples|bench|\.ci|rapid\w*/(?:src|specs|proofs|must-fail))"
+QUOTED = re.compile(rf"`(?:\./)?({FOLDERS}/[\w./*-]+?)/?`")
+IN_CODE = re.compile(r"(?<![\w/$.>])((?:docs|examples|bench)/[\w./-]+\.(?:txt|sh|py|rs|service))\b")
+LINK = re.compile(r"\]\(([^()\s]+)\)")
+NOT_THERE = re.compile(r"/out/|/my_|[A-Z]{4,}\b")  # built files, and places for names
+BLOCK = re.compile(r"^```.*?^```$", re.M | re.S)
+
+
+def anchors(page):
+    """The anchors of a page: of each heading its words, in small letters, joined."""
+    heads = re.findall(r"^#+ (.*)$", BLOCK.sub("", page.read_text()), re.M)
+    return {re.sub(r"[^\w -]", "", head.lower()).strip().replace(" ", "-") for head in heads}
+
+
+def leads(page, link):
+    """Whether a link of a page leads somewhere; one to another site is not followed."""
+    path, _, anchor = link.partition("#")
+    at = page.parent / path if path else page
+    there = at.exists() and (not anchor or anchor in anchors(at))
+    return there or bool(re.match(r"\w+:", link))
+
+
+def is_there(path):
+    """Whether a path from the top, or from `crates`, is there."""
+    below = "" if path.split("/")[0] in TOPS else "crates/"
+    return bool(NOT_THERE.search(path)) or any(TOP.glob(below + path))
+
+
+def main():
+    """Looks through all pages."""
+    bad = []
+    for page in [TOP / "README.md", TOP / "bench/README.md", *sorted((TOP / "docs").rglob("*.md"))]:
+        text, code = BLOCK.sub("", page.read_text()), "\n".join(BLOCK.findall(page.read_text()))
+        names = [link for link in LINK.findall(text) if not leads(page, link)]
+        names += [p for p in QUOTED.findall(text) + IN_CODE.findall(code) if not is_there(p)]
+        bad += [f"{page.relative_to(TOP)}: {name} is not there" for name in names]
+    print("\n".join(bad), end="\n" if bad else "", file=sys.stderr)
+    return int(bool(bad))
+
+
+if __name__ == "__main__":
+    sys.exit(main())
