@@ -40,8 +40,8 @@ a crate, lowest first. How to read one:
 which is answered only if a growth was really refused.
 - A function named `tell` does nothing: what it ensures is for proofs.
 
-| crate | what it has |
-|---|---|
+## The crates
+
 """
 
 
@@ -256,8 +256,8 @@ def pages():
         if not name or name.startswith("#") or name.endswith("_tests") or name in NO_LIBRARIES:
             continue
         found[FOLDER / f"{name}.md"] = crate_page(name)
-        rows.append(f"| [{name}](surface/{name}.md) | {said} |")
-    found[PAGE] = shaped([HEAD.rstrip(), *rows])
+        rows.append(f"- [{name}](surface/{name}.md): {said}")
+    found[PAGE] = shaped([HEAD, *rows])
     return found
 
 
