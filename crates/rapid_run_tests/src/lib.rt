@@ -7,8 +7,12 @@ mod clusters;
 #[cfg(test)]
 mod devices;
 #[cfg(test)]
+mod ends;
+#[cfg(test)]
 mod memory;
 #[cfg(test)]
 mod rows;
+#[cfg(test)]
+mod scarce;
 #[cfg(test)]
 mod transport;
