@@ -2,10 +2,11 @@
 
 use rapid_node::Message;
 use rapid_service::{Post, Shared};
-use rapid_transport::Inbox;
+use rapid_transport::{Inbox, is_local};
 use std::sync::Wait;
 
-/// Hands the messages that come in on to the node, until it ends.
+/// Hands the messages that come in on to the node, until it ends. One whose sender is said to be
+/// where no peer can be is dropped: the node would answer there.
 #[derive(Drop)]
 pub(crate) struct Arrivals<'a, R: Wait + Copy + Drop, P: Post + Drop> {
     pub shared: &'a Shared<R, P>,
@@ -13,7 +14,7 @@ pub(crate) struct Arrivals<'a, R: Wait + Copy + Drop, P: Post + Drop> {
 
 impl<W: Wait, R: Wait + Copy + Drop, P: Post + Drop> Inbox<W> for Arrivals<'_, R, P> {
     fn take(&self, rt: &W, message: Message) {
-        if self.shared.ending().has_come(rt) {
+        if !is_local(message.sender().endpoint()) || self.shared.ending().has_come(rt) {
             return;
         }
         let done = self.shared.receive(rt, message);

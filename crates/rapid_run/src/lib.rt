@@ -3,8 +3,11 @@
 #![tactic(auto)]
 
 mod arrivals;
+mod polled;
 mod posts;
 mod run;
 mod threads;
+mod until;
 
+pub use polled::Polled;
 pub use run::run_node;

@@ -1,7 +1,7 @@
 // A node, from its options to its end.
 
 use crate::posts::Posts;
-use crate::threads::{run_threads, tell};
+use crate::threads::{Start, Streams, run_threads, tell};
 use rapid_endpoint::Process;
 use rapid_service::{NodeFault, NodeOptions, Post, Service, Shared, identify};
 use rapid_transport::{ListenError, Peers, SenderEnd};
@@ -56,14 +56,10 @@ fn print_first<O: Write>(lines: &[u8], writer: &mut O) -> Result<(), NodeFault> 
 /// Runs the node of a service until it ends. The view with which it begins is printed first.
 fn serve<W, R, P, I, O, E>(
     rt: &W,
-    alloc: Global,
+    start: Start,
     peers: &Peers,
-    ends: Vec<SenderEnd>,
     mut service: Service<R, P>,
-    period: Duration,
-    reader: &mut I,
-    writer: &mut O,
-    err: &mut E,
+    streams: Streams<&mut I, &mut O, &mut E>,
     told: &AtomicBool,
 ) -> Result<(), NodeFault>
 where
@@ -74,20 +70,19 @@ where
     O: Write + Send,
     E: Write + Send,
 {
+    let Streams {
+        reader,
+        writer,
+        err,
+    } = streams;
     print_first(service.take_lines().as_slice(), writer)?;
-    let shared = Shared::new(alloc, service);
-    run_threads(
-        rt,
-        alloc,
-        peers,
-        ends,
-        &shared,
-        period,
-        &mut *reader,
-        &mut *writer,
-        &mut *err,
-        told,
-    )
+    let shared = Shared::new(start.alloc, service);
+    let streams = Streams {
+        reader: &mut *reader,
+        writer: &mut *writer,
+        err: &mut *err,
+    };
+    run_threads(rt, start, peers, &shared, streams, told)
 }
 
 /// Runs a node until it ends. Where a fault was told meanwhile, `told` is true then.
@@ -96,9 +91,7 @@ fn run<R, S, I, O, E>(
     alloc: Global,
     options: NodeOptions,
     source: &S,
-    reader: &mut I,
-    writer: &mut O,
-    err: &mut E,
+    streams: Streams<&mut I, &mut O, &mut E>,
     told: &AtomicBool,
 ) -> Result<(), NodeFault>
 where
@@ -111,11 +104,13 @@ where
     let id = identify(options.id, source)?;
     let me = Process::new(id, options.listen);
     let (peers, ends) = listen(rt, alloc, &options)?;
-    let period = Duration::from_millis(u64::from(options.tick_ms));
+    let start = Start {
+        alloc,
+        ends,
+        period: Duration::from_millis(u64::from(options.tick_ms)),
+    };
     match open(rt, alloc, &options, me, &peers) {
-        Ok(service) => serve(
-            rt, alloc, &peers, ends, service, period, reader, writer, err, told,
-        ),
+        Ok(service) => serve(rt, start, &peers, service, streams, told),
         Err(fault) => Err(fault),
     }
 }
@@ -127,13 +122,15 @@ where
 /// many milliseconds.
 ///
 /// When it returns, all its threads have ended and its sockets are closed. What was queued for the
-/// peers was sent as far as 0.3 seconds sufficed. A read that waits for input cannot be
-/// interrupted, so after a fault it returns only once the input gives a line or ends.
+/// peers was sent as far as 0.3 seconds sufficed. It cannot return while a read or a write waits.
+/// One that fails as interrupted is made again until the node ends: by streams that are `Polled` it
+/// returns within a second of a fault or of `quit`, whatever its input and its outputs do.
 ///
 /// # Errors
 ///
 /// `NoPort` where the port was not to be had, `NoIdentifier` where the source failed, `Read` and
-/// `Write` where the input or the output failed, `JournalFull` and `Halted` by the node itself, and
+/// `Write` where the input or the output failed, `Write` also where the output did not take what was
+/// printed within half a second after the end, `JournalFull` and `Halted` by the node itself, and
 /// `OutOfMemory`, also where a thread was not to be had. Each is told by one line of the error
 /// output, `error: ` and the fault, as soon as it ends the node, whatever the input does; a fault
 /// of the error output is passed over.
@@ -154,7 +151,12 @@ where
     E: Write + Send,
 {
     let told = AtomicBool::new(false);
-    let ended = run(rt, alloc, options, source, reader, writer, err, &told);
+    let streams = Streams {
+        reader,
+        writer,
+        err: &mut *err,
+    };
+    let ended = run(rt, alloc, options, source, streams, &told);
     if let Err(fault) = &ended
         && !told.load(Ordering::SeqCst)
     {

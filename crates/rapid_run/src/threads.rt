@@ -3,6 +3,7 @@
 ghost use Rattle.std.specs.Thread.{IsSend, IsSync};
 
 use crate::arrivals::Arrivals;
+use crate::until::Until;
 use rapid_service::{NodeFault, Post, Shared, run_lines, run_ticker};
 use rapid_transport::{Peers, SenderEnd};
 use std::alloc::Global;
@@ -13,20 +14,51 @@ use std::sync::atomic::{AtomicBool, Ordering};
 use std::thread::{self, Threads};
 use std::time::{Clock, Duration};
 
+/// How much time lies between two looks whether there are file descriptors, in milliseconds.
+const BETWEEN_LOOKS: u64 = 1_000;
+
+/// What a node begins with.
+#[derive(Drop)]
+pub(crate) struct Start {
+    pub alloc: Global,
+    /// The ends of the senders' queues.
+    pub ends: Vec<SenderEnd>,
+    /// How much time lies between two ticks; no ticker runs where it is zero.
+    pub period: Duration,
+}
+
+/// What a node reads and writes.
+#[derive(Drop)]
+pub(crate) struct Streams<I: Drop, O: Drop, E: Drop> {
+    pub reader: I,
+    pub writer: O,
+    pub err: E,
+}
+
 /// Tells of a fault by one line.
 pub(crate) fn tell<E: Write>(fault: NodeFault, err: &mut E) {
     let _ = writeln!(err, "error: {fault}");
     let _ = err.flush();
 }
 
+/// Tells by one line that there are too few file descriptors.
+fn warn<E: Write>(err: &mut E) {
+    let _ = writeln!(
+        err,
+        "warning: no file descriptor was to be had for a connection: messages are lost"
+    );
+    let _ = err.flush();
+}
+
 /// Prints what is added to the console until that is closed. Where it cannot be written the node
 /// ends.
-fn print<W: Wait, R: Wait + Copy + Drop, P: Post + Drop, O: Write + Drop>(
+fn print<W: Wait + Clock, R: Wait + Copy + Drop, P: Post + Drop, O: Write + Drop>(
     rt: &W,
     shared: &Shared<R, P>,
-    mut writer: O,
+    writer: O,
     unwritten: &AtomicBool,
 ) {
+    let mut writer = Until::new(rt, shared.ending(), writer);
     if !shared.console().print(rt, &mut writer) {
         unwritten.store(true, Ordering::SeqCst);
         shared.ending().end(rt, Some(NodeFault::Write));
@@ -34,13 +66,35 @@ fn print<W: Wait, R: Wait + Copy + Drop, P: Post + Drop, O: Write + Drop>(
 }
 
 /// Answers the lines of the input until it ends or the node does.
-fn answer<W: Wait, R: Wait + Copy + Drop, P: Post + Drop, I: Read + Drop>(
+fn answer<W: Wait + Clock, R: Wait + Copy + Drop, P: Post + Drop, I: Read + Drop>(
     rt: &W,
     alloc: Global,
     shared: &Shared<R, P>,
-    mut reader: I,
+    reader: I,
 ) {
+    let mut reader = Until::new(rt, shared.ending(), reader);
     run_lines(rt, alloc, shared, &mut reader);
+}
+
+/// Waits until the node ends, and tells once that there are too few file descriptors, if so.
+fn watch<W: Wait + Clock, R: Wait + Copy + Drop, P: Post + Drop, E: Write>(
+    rt: &W,
+    shared: &Shared<R, P>,
+    peers: &Peers,
+    err: &mut E,
+) {
+    let between = Duration::from_millis(BETWEEN_LOOKS);
+    let mut warned = false;
+    for _ in rt.forever() {
+        let ends = shared.ending().wait(rt, between);
+        if !warned && peers.counters(rt).exhausted > 0 {
+            warned = true;
+            warn(err);
+        }
+        if ends {
+            return;
+        }
+    }
 }
 
 /// Tells of the fault by which the node ends, once it ends, whoever ends it, and stops the peers.
@@ -48,13 +102,14 @@ fn stop_at_the_end<W, R: Wait + Copy + Drop, P: Post + Drop, E: Write + Drop>(
     rt: &W,
     shared: &Shared<R, P>,
     peers: &Peers,
-    mut err: E,
+    err: E,
     told: &AtomicBool,
 )
 where
     W: Net<Listener = TcpListener, Stream = TcpStream> + Wait + Clock,
 {
-    shared.ending().await_it(rt);
+    let mut err = Until::new(rt, shared.ending(), err);
+    watch(rt, shared, peers, &mut err);
     if let Err(fault) = shared.ending().outcome(rt) {
         tell(fault, &mut err);
         told.store(true, Ordering::SeqCst);
@@ -71,11 +126,9 @@ fn give_up<W: Wait, R: Wait + Copy + Drop, P: Post + Drop>(rt: &W, shared: &Shar
 /// have ended; the caller's thread accepts connections.
 fn work<W, R, P, I, E>(
     rt: &W,
-    alloc: Global,
+    start: Start,
     peers: &Peers,
-    ends: Vec<SenderEnd>,
     shared: &Shared<R, P>,
-    period: Duration,
     reader: I,
     err: E,
     told: &AtomicBool,
@@ -87,6 +140,11 @@ where
     I: Read + Send + Drop,
     E: Write + Send + Drop,
 {
+    let Start {
+        alloc,
+        ends,
+        period,
+    } = start;
     thread::scope(
         thread::scope_env(),
         rt,
@@ -120,14 +178,10 @@ where
 /// then `told` is true.
 pub(crate) fn run_threads<W, R, P, I, O, E>(
     rt: &W,
-    alloc: Global,
+    start: Start,
     peers: &Peers,
-    ends: Vec<SenderEnd>,
     shared: &Shared<R, P>,
-    period: Duration,
-    reader: I,
-    writer: O,
-    err: E,
+    streams: Streams<I, O, E>,
     told: &AtomicBool,
 ) -> Result<(), NodeFault>
 where
@@ -138,6 +192,11 @@ where
     O: Write + Send + Drop,
     E: Write + Send + Drop,
 {
+    let Streams {
+        reader,
+        writer,
+        err,
+    } = streams;
     let unwritten = AtomicBool::new(false);
     let failed = &unwritten;
     thread::scope(
@@ -152,7 +211,7 @@ where
             {
                 return give_up(rt, shared);
             }
-            work(rt, alloc, peers, ends, shared, period, reader, err, told);
+            work(rt, start, peers, shared, reader, err, told);
             shared.console().close(rt);
         },
     );

@@ -2,5 +2,7 @@
 
 mod clusters;
 mod devices;
+mod ends;
 mod memory;
 mod rows;
+mod scarce;

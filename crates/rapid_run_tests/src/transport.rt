@@ -2,7 +2,9 @@
 
 mod devices;
 mod memory;
+mod patience;
 mod peers;
+mod places;
 mod queues;
 mod receiving;
 mod sending;

@@ -1,5 +1,6 @@
 pub mod Counting
 pub mod Errors
+pub mod Local
 pub mod Queues
 pub mod Receiving
 pub mod Sending

@@ -3,7 +3,9 @@
 ghost use Rattle.std.specs.Prelude.{◌≡◌, ◌≤◌, ◌<◌, vec_len, IfSome};
 
 use crate::counted::Metered;
+use crate::counters::Meters;
 use crate::engine::send;
+use crate::local::is_local;
 use crate::slow::SlowPeers;
 use crate::timed::Timed;
 use bytes::Bytes;
@@ -56,26 +58,40 @@ pub(crate) fn address_of(endpoint: Endpoint) -> SocketAddr {
 }
 
 /// Opens a connection. It fails after 0.1 seconds, and so do writes after half of that in which
-/// there is no room.
+/// there is no room. Where nobody listens at a port of the ephemeral range, the system may take that
+/// very port for this end, and the connection leads to itself: it is given up at once, or whoever
+/// owns the port could not listen at it.
 fn connect<R>(rt: &R, to: Endpoint) -> io::Result<TcpStream>
 where
     R: Net<Listener = TcpListener, Stream = TcpStream>,
 {
     let longest = Duration::from_millis(LONGEST_CONNECT);
     let stream = TcpStream::connect_timeout(rt, &address_of(to), longest)?;
+    if stream.local_addr()? == stream.peer_addr()? {
+        return Err(io::Error::from(ErrorKind::ConnectionRefused));
+    }
     stream.set_nodelay(true)?;
     stream.set_write_timeout(Some(Duration::from_millis(LONGEST_WAIT)))?;
     Ok(stream)
 }
 
+/// Linux's number of the error that a process has as many open descriptors as it may have.
+const TOO_MANY_OPEN: i32 = 24;
+
+/// Whether no file descriptor was to be had.
+pub(crate) fn is_exhausted(error: &io::Error) -> bool {
+    error.raw_os_error() == Some(TOO_MANY_OPEN)
+}
+
 /// Whether the peer has closed the connection. Nothing ever comes by an outgoing connection, so a
-/// look at what there is to read finds its end, or nothing.
+/// look at what there is to read finds nothing, or the connection has ended: a peer that sends
+/// something back is none of ours.
 fn is_closed(stream: &TcpStream) -> io::Result<bool> {
     stream.set_nonblocking(true)?;
     let found = stream.peek(&mut [0]);
     stream.set_nonblocking(false)?;
     match found {
-        Ok(count) => Ok(count == 0),
+        Ok(_) => Ok(true),
         Err(error) => Ok(error.kind() != ErrorKind::WouldBlock),
     }
 }
@@ -112,9 +128,14 @@ impl Connections {
     }
 
     /// Sends a frame by the connection to this endpoint that is open, which is closed where that
-    /// fails; none where no connection is open.
+    /// fails; none where no connection is open, or where the peer has closed it: a write would take
+    /// the frame nevertheless, and nobody would get it.
     fn send_by_open<R: Clock>(&mut self, rt: &R, to: Endpoint, frame: &Bytes) -> Option<Outcome> {
         let place = self.place(to)?;
+        if is_closed(&self.all[place].stream).unwrap_or(true) {
+            self.all.remove(place);
+            return None;
+        }
         let outcome = write(rt, &self.all[place].stream, frame);
         if outcome != Outcome::Sent {
             self.all.remove(place);
@@ -123,14 +144,19 @@ impl Connections {
     }
 
     /// Sends a frame by a new connection to this endpoint, which stays open where that succeeds.
-    fn send_by_new<R>(&mut self, rt: &R, to: Endpoint, frame: &Bytes) -> Outcome
+    fn send_by_new<R>(&mut self, rt: &R, to: Endpoint, frame: &Bytes, meters: &Meters) -> Outcome
     where
         R: Net<Listener = TcpListener, Stream = TcpStream> + Clock,
     {
         let stream = match connect(rt, to) {
             Ok(stream) => stream,
             Err(error) if error.kind() == ErrorKind::TimedOut => return Outcome::Late,
-            Err(_) => return Outcome::Broken,
+            Err(error) => {
+                if is_exhausted(&error) {
+                    meters.exhausted.raise();
+                }
+                return Outcome::Broken;
+            }
         };
         let outcome = write(rt, &stream, frame);
         if outcome == Outcome::Sent {
@@ -141,25 +167,34 @@ impl Connections {
 
     /// Sends a frame to this endpoint, by the connection that is open or else by a new one, and
     /// says whether it was sent without a fault. Where the open one has failed, as it does when
-    /// somebody cut it, all of the frame goes by a new one, and the answer is false. A peer that is
-    /// too slow is left alone for a second: nothing is sent to it then.
-    pub(crate) fn deliver<R>(&mut self, rt: &R, to: Endpoint, frame: &Bytes) -> bool
+    /// somebody cut it, all of the frame goes by a new one, and the answer is false. Nothing is sent
+    /// to an endpoint that is not local. A peer that is too slow is left alone for a while: nothing
+    /// is sent to it then.
+    pub(crate) fn deliver<R>(
+        &mut self,
+        rt: &R,
+        to: Endpoint,
+        frame: &Bytes,
+        meters: &Meters,
+    ) -> bool
     where
         R: Net<Listener = TcpListener, Stream = TcpStream> + Clock,
     {
-        if self.slow.has(rt, to) {
+        if !is_local(to) || self.slow.has(rt, to) {
             return false;
         }
         let by_open = self.send_by_open(rt, to, frame);
         let outcome = match by_open {
-            Some(Outcome::Sent) => return true,
+            Some(Outcome::Sent) => Outcome::Sent,
             Some(Outcome::Late) => Outcome::Late,
-            Some(Outcome::Broken) | None => self.send_by_new(rt, to, frame),
+            Some(Outcome::Broken) | None => self.send_by_new(rt, to, frame, meters),
         };
-        if outcome == Outcome::Late {
-            self.slow.add(rt, to);
+        match outcome {
+            Outcome::Sent => self.slow.forget(to),
+            Outcome::Late => self.slow.add(rt, to),
+            Outcome::Broken => {}
         }
-        by_open.is_none() && outcome == Outcome::Sent
+        by_open != Some(Outcome::Broken) && outcome == Outcome::Sent
     }
 
     /// Closes the connections that their peers have closed.

@@ -4,9 +4,12 @@
 
 mod connections;
 mod counted;
+mod counters;
 mod engine;
 mod error;
 mod inbox;
+mod local;
+mod patient;
 mod peers;
 mod queue;
 mod readers;
@@ -15,8 +18,10 @@ mod slow;
 mod timed;
 
 pub use counted::{Counted, CountedRead, CountedWrite, Failed, Metered};
+pub use counters::Counters;
 pub use engine::{receive, send};
 pub use error::{ListenError, TransportError};
 pub use inbox::Inbox;
+pub use local::is_local;
 pub use peers::Peers;
 pub use queue::{AnyOrder, SenderEnd, SenderQueue};

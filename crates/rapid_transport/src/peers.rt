@@ -3,14 +3,16 @@
 ghost use Rattle.std.specs.Prelude.{◌≡◌, ◌≤◌, ◌<◌, vec_len, IfErr, IfOk};
 ghost use Rattle.rapid_transport.specs.declared.error.TransportError.TheVariants.{QueueFull};
 
-use crate::connections::address_of;
+use crate::connections::{address_of, is_exhausted};
 use crate::counted::Metered;
+use crate::counters::{Counters, Meters};
 use crate::engine::receive;
 use crate::error::{ListenError, TransportError};
 use crate::inbox::Inbox;
+use crate::patient::Patient;
 use crate::queue::{SenderEnd, SenderQueue};
 use crate::readers::Readers;
-use crate::sender;
+use crate::sender::{self, Context};
 use bytes::Bytes;
 use rapid_endpoint::Endpoint;
 use rapid_wire::Feed;
@@ -18,7 +20,7 @@ use std::alloc::{AllocError, Global};
 use std::net::{Net, SocketAddr, TcpListener, TcpStream};
 use std::sync::atomic::{AtomicBool, Ordering};
 use std::sync::{Mutex, Wait};
-use std::thread::Threads;
+use std::thread::{Parker, Threads};
 use std::time::{Clock, Duration};
 use std::{io, thread};
 
@@ -37,22 +39,36 @@ const WAKES: u32 = 50;
 
 const LONGEST_WAKE: u64 = 200;
 
+/// The queue of a sender, and what wakes it where there is a frame in it.
+#[derive(Drop)]
+struct Lane {
+    queue: Mutex<SenderQueue>,
+    parker: Parker,
+}
+
 /// The peers of a node: a listener, the incoming connections, and the senders' queues. It is shared
 /// by reference among the threads of a node.
 #[derive(Drop)]
 pub struct Peers {
     listener: TcpListener,
     address: SocketAddr,
-    queues: [Mutex<SenderQueue>; 4],
+    /// A handle that is only there to be given up: whoever stops the peers connects to them, also
+    /// where no descriptor is left otherwise.
+    spare: Mutex<Option<TcpListener>>,
+    lanes: [Lane; 4],
     readers: Mutex<Readers>,
+    meters: Meters,
     stop: AtomicBool,
 }
 
 /// A queue behind a lock, and the end that takes.
-fn queue(alloc: Global, ends: &mut Vec<SenderEnd>) -> Result<Mutex<SenderQueue>, AllocError> {
+fn make_lane(alloc: Global, ends: &mut Vec<SenderEnd>) -> Result<Lane, AllocError> {
     let (queue, end) = SenderQueue::new(alloc, CAPACITY)?;
     ends.push(end)?;
-    Ok(Mutex::new(queue))
+    Ok(Lane {
+        queue: Mutex::new(queue),
+        parker: Parker::new(),
+    })
 }
 
 /// Listens at the address.
@@ -65,15 +81,27 @@ where
     Ok((listener, address))
 }
 
-/// Reads messages and hands them on, until the connection ends or fails.
-fn read_all<R: Wait, I: Inbox<R>>(rt: &R, alloc: Global, stream: &TcpStream, inbox: &I) {
-    let mut reader = Metered::new(stream);
+/// Reads messages and hands them on, until the connection ends or fails, or a frame takes too long.
+fn read_all<R, I>(rt: &R, alloc: Global, stream: &TcpStream, inbox: &I, meters: &Meters)
+where
+    R: Wait + Clock,
+    I: Inbox<R>,
+{
+    let Ok(mut patient) = Patient::new(rt, stream) else {
+        return;
+    };
     let mut feed = Feed::new(alloc);
     for _ in rt.forever() {
-        let Ok(Some(message)) = receive(rt, &mut reader, &mut feed) else {
-            return;
-        };
-        inbox.take(rt, message);
+        let mut reader = Metered::new(&mut patient);
+        match receive(rt, &mut reader, &mut feed) {
+            Ok(Some(message)) => {
+                meters.frames_in.raise();
+                inbox.take(rt, message);
+            }
+            Ok(None) => return,
+            Err(error) => return meters.failed(error, patient.is_late()),
+        }
+        patient.end_frame(!feed.is_empty());
     }
 }
 
@@ -96,17 +124,20 @@ impl Peers {
             return Err(ListenError::NoPort);
         };
         let mut ends = Vec::new(alloc);
-        let queues = [
-            queue(alloc, &mut ends)?,
-            queue(alloc, &mut ends)?,
-            queue(alloc, &mut ends)?,
-            queue(alloc, &mut ends)?,
+        let lanes = [
+            make_lane(alloc, &mut ends)?,
+            make_lane(alloc, &mut ends)?,
+            make_lane(alloc, &mut ends)?,
+            make_lane(alloc, &mut ends)?,
         ];
+        let spare = listener.try_clone().ok();
         let peers = Peers {
             listener,
             address,
-            queues,
+            spare: Mutex::new(spare),
+            lanes,
             readers: Mutex::new(Readers::new(alloc)),
+            meters: Meters::new(),
             stop: AtomicBool::new(false),
         };
         Ok((peers, ends))
@@ -121,24 +152,52 @@ impl Peers {
         ensures { IfErr result (λ e. e ≡ QueueFull) }
     {
         let number = usize::from(to.port() % SENDERS);
-        self.queues[number].lock(rt).put(rt, to, frame)
+        let lane = &self.lanes[number];
+        let put = lane.queue.lock(rt).put(rt, to, frame);
+        lane.parker.unpark();
+        put
     }
 
     /// How many frames were lost: those that found a queue full, and those that could not be sent.
     /// The count stays at 2^64 - 1.
     pub fn losses<R: Wait>(&self, rt: &R) -> u64 {
         let mut losses = 0u64;
-        for queue in &self.queues {
-            losses = losses.saturating_add(queue.lock(rt).losses());
+        for lane in &self.lanes {
+            losses = losses.saturating_add(lane.queue.lock(rt).losses());
         }
         losses
+    }
+
+    /// What was done so far. Threads go on meanwhile, so the numbers are not of one moment.
+    pub fn counters<R: Wait>(&self, rt: &R) -> Counters {
+        self.meters.with_losses(self.losses(rt))
+    }
+
+    /// What the sender of a lane shares with the other threads.
+    fn context<'a>(&'a self, lane: &'a Lane) -> Context<'a> {
+        Context {
+            parker: &lane.parker,
+            stop: &self.stop,
+            meters: &self.meters,
+        }
+    }
+
+    /// Tells the senders to stop.
+    fn stop_senders(&self) -> bool {
+        let stops = self.stop.swap(true, Ordering::SeqCst);
+        for lane in &self.lanes {
+            lane.parker.unpark();
+        }
+        stops
     }
 
     /// Accepts connections, hands the messages that come by them to the inbox, and sends what is
     /// posted, until `stop`. The caller's thread is the acceptor; the readers, at most 256, and the
     /// senders have threads of their own, all of which have ended when it returns. The ends are
     /// those that `listen` gave. A connection beyond 256 is closed at once, and so is one by which
-    /// something comes that is no frame.
+    /// something comes that is no frame. A connection is closed too where its first frame is not
+    /// whole within 5 seconds, or a later frame not within 5 seconds from its first bytes on.
+    /// Between frames there is no limit.
     ///
     /// # Errors
     ///
@@ -155,10 +214,11 @@ impl Peers {
         I: Inbox<R> + Sync,
     {
         thread::scope(thread::scope_env(), rt, |scope| {
-            for end in ends {
-                let started = scope.spawn(move || sender::work(rt, alloc, end, &self.stop));
+            for (lane, end) in self.lanes.iter().zip(ends) {
+                let context = self.context(lane);
+                let started = scope.spawn(move || sender::work(rt, alloc, end, &context));
                 if started.is_err() {
-                    self.stop.store(true, Ordering::SeqCst);
+                    self.stop_senders();
                     return Err(ListenError::OutOfMemory);
                 }
             }
@@ -170,15 +230,34 @@ impl Peers {
                     continue;
                 };
                 let started = scope.spawn(move || {
-                    read_all(rt, alloc, &stream, inbox);
+                    read_all(rt, alloc, &stream, inbox, &self.meters);
                     self.readers.lock(rt).leave(number);
                 });
                 if started.is_err() {
+                    self.meters.refused.raise();
                     self.readers.lock(rt).leave(number);
                 }
             }
             Ok(())
         })
+    }
+
+    /// Counts an error by which no file descriptor was to be had.
+    fn note(&self, error: &io::Error) {
+        if is_exhausted(error) {
+            self.meters.exhausted.raise();
+        }
+    }
+
+    /// The number under which a connection is read; none where it is closed at once.
+    fn number<R: Wait>(&self, rt: &R, stream: &TcpStream) -> Option<u64> {
+        match stream.try_clone() {
+            Ok(handle) => self.readers.lock(rt).admit(handle),
+            Err(error) => {
+                self.note(&error);
+                None
+            }
+        }
     }
 
     /// Takes in a connection that was accepted; none where it is closed at once.
@@ -187,11 +266,18 @@ impl Peers {
         rt: &R,
         accepted: io::Result<TcpStream>,
     ) -> Option<(u64, TcpStream)> {
-        let Ok(stream) = accepted else {
-            thread::sleep(rt, Duration::from_millis(AFTER_A_FAULT));
+        let stream = match accepted {
+            Ok(stream) => stream,
+            Err(error) => {
+                self.note(&error);
+                thread::sleep(rt, Duration::from_millis(AFTER_A_FAULT));
+                return None;
+            }
+        };
+        let Some(number) = self.number(rt, &stream) else {
+            self.meters.refused.raise();
             return None;
         };
-        let number = self.readers.lock(rt).admit(&stream)?;
         // Whoever stops the peers may have looked before this connection was taken in.
         if self.stop.load(Ordering::SeqCst) {
             self.readers.lock(rt).leave(number);
@@ -207,10 +293,11 @@ impl Peers {
     where
         R: Net<Listener = TcpListener, Stream = TcpStream> + Wait + Clock,
     {
-        if self.stop.swap(true, Ordering::SeqCst) {
+        if self.stop_senders() {
             return;
         }
         self.readers.lock(rt).shut_down();
+        *self.spare.lock(rt) = None;
         let longest = Duration::from_millis(LONGEST_WAKE);
         for _ in 0..WAKES {
             if TcpStream::connect_timeout(rt, &self.address, longest).is_ok() {

@@ -32,14 +32,13 @@ impl Readers {
         }
     }
 
-    /// Takes in a connection that is to be read, and gives its number; none where 256 are read
-    /// already, or where no second handle of it or no memory for that was to be had.
-    pub(crate) fn admit(&mut self, stream: &TcpStream) -> Option<u64> {
+    /// Takes in a connection that is to be read, by a second handle of it, and gives its number;
+    /// none where 256 are read already, or where no memory for that was to be had.
+    pub(crate) fn admit(&mut self, stream: TcpStream) -> Option<u64> {
         if self.all.len() >= MOST_READERS {
             return None;
         }
         let number = self.next;
-        let stream = stream.try_clone().ok()?;
         self.all.push(Reader { number, stream }).ok()?;
         self.next = number.wrapping_add(1);
         Some(number)

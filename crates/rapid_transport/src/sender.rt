@@ -1,65 +1,80 @@
 // A sender: it takes frames from its queue and sends each to its endpoint.
 
 use crate::connections::Connections;
+use crate::counters::Meters;
 use crate::queue::SenderEnd;
 use crossbeam_utils::Backoff;
 use std::alloc::Global;
 use std::net::{Net, TcpListener, TcpStream};
 use std::sync::Wait;
 use std::sync::atomic::{AtomicBool, Ordering};
-use std::thread;
+use std::thread::Parker;
 use std::time::{Clock, Duration, Instant};
 
 /// How long a sender goes on with what is queued once it is told to stop, in milliseconds.
 const LAST_FRAMES: u64 = 300;
 
-/// How long a sender sleeps before it looks at its queue again, in milliseconds: at first, and at
-/// most.
-const SHORTEST_SLEEP: u64 = 1;
+/// How long a sender waits to be woken at most, and how much time lies between two looks which of
+/// its connections have ended, in milliseconds.
+const BETWEEN_LOOKS: u64 = 1_000;
 
-const LONGEST_SLEEP: u64 = 16;
+/// What a sender shares with the other threads of the peers.
+#[derive(Drop)]
+pub(crate) struct Context<'a> {
+    /// Whoever puts a frame into the sender's queue wakes it by this.
+    pub parker: &'a Parker,
+    /// Whether it is told to stop.
+    pub stop: &'a AtomicBool,
+    pub meters: &'a Meters,
+}
 
-/// After how many of the longest sleeps a sender looks which of its connections have ended.
-const SLEEPS_BETWEEN_LOOKS: u32 = 64;
-
-/// How a sender that finds nothing to send passes the time: it looks again at once, then it sleeps
-/// for longer and longer.
+/// How a sender that finds nothing to send passes the time: it looks again at once for a while, then
+/// it waits to be woken.
 #[derive(Drop)]
 struct Rest {
     backoff: Backoff,
-    millis: u64,
-    sleeps: u32,
+    looked: Option<Instant>,
 }
 
 impl Rest {
     fn new() -> Rest {
         Rest {
             backoff: Backoff::new(),
-            millis: SHORTEST_SLEEP,
-            sleeps: 0,
+            looked: None,
         }
     }
 
     /// There was something to send.
     fn end(&mut self) {
         self.backoff.reset();
-        self.millis = SHORTEST_SLEEP;
     }
 
-    /// Passes some time, and says whether it is time to look which connections have ended.
-    fn pass<R: Clock>(&mut self, rt: &R) -> bool {
+    /// Whether it is time to look which connections have ended. The sender looks then.
+    fn is_due<R: Clock>(&mut self, rt: &R) -> bool {
+        let Ok(now) = Instant::now(rt) else {
+            return false;
+        };
+        if let Some(looked) = self.looked
+            && now.saturating_duration_since(looked) < Duration::from_millis(BETWEEN_LOOKS)
+        {
+            return false;
+        }
+        self.looked = Some(now);
+        true
+    }
+
+    /// Passes some time, and says whether it is time to look which connections have ended. A frame
+    /// that is put while nobody waits ends the next wait at once, so none is missed.
+    fn pass<R: Wait + Clock>(&mut self, rt: &R, parker: &Parker) -> bool {
         if !self.backoff.is_completed() {
             self.backoff.snooze();
             return false;
         }
-        thread::sleep(rt, Duration::from_millis(self.millis));
-        self.millis = self.millis.saturating_mul(2).min(LONGEST_SLEEP);
-        self.sleeps = self.sleeps.saturating_add(1);
-        if self.sleeps < SLEEPS_BETWEEN_LOOKS {
-            return false;
+        if self.is_due(rt) {
+            return true;
         }
-        self.sleeps = 0;
-        true
+        parker.park_timeout(rt, Duration::from_millis(BETWEEN_LOOKS));
+        false
     }
 }
 
@@ -80,7 +95,7 @@ fn is_over<R: Clock>(rt: &R, stopped: &mut Option<Instant>) -> bool {
 
 /// Sends what is taken from the queue until it is told to stop, and then what is queued for at most
 /// 0.3 seconds more. A frame that could not be sent, or whose connection failed, counts as a loss.
-pub(crate) fn work<R>(rt: &R, alloc: Global, mut end: SenderEnd, stop: &AtomicBool)
+pub(crate) fn work<R>(rt: &R, alloc: Global, mut end: SenderEnd, context: &Context<'_>)
 where
     R: Net<Listener = TcpListener, Stream = TcpStream> + Wait + Clock,
 {
@@ -88,14 +103,16 @@ where
     let mut rest = Rest::new();
     let mut stopped = None;
     for _ in rt.forever() {
-        let stops = stop.load(Ordering::SeqCst);
+        let stops = context.stop.load(Ordering::SeqCst);
         if stops && is_over(rt, &mut stopped) {
             return;
         }
         match end.take(rt) {
             Some((to, frame)) => {
                 rest.end();
-                if !connections.deliver(rt, to, &frame) {
+                if connections.deliver(rt, to, &frame, context.meters) {
+                    context.meters.frames_out.raise();
+                } else {
                     end.lose();
                 }
             }
@@ -103,7 +120,7 @@ where
                 if stops {
                     return;
                 }
-                if rest.pass(rt) {
+                if rest.pass(rt, context.parker) {
                     connections.close_ended();
                 }
             }

@@ -1,0 +1,70 @@
+// Streams of the system of which no call waits for long.
+
+ghost use Rattle.std.specs.Prelude.{◌≡◌};
+
+use libc::net::{POLLIN, POLLOUT, poll};
+use libc::types::pollfd;
+use std::io::{self, ErrorKind, Read, Write};
+use std::os::fd::{AsRawFd, RawFd};
+
+/// How long a call waits at most, in milliseconds.
+const LONGEST_WAIT: i32 = 100;
+
+/// How many bytes a write takes at most: as many as go into a pipe at once where it has room.
+const MOST: usize = 4_096;
+
+/// A stream of the system of which no call waits for long: one that can do nothing for 0.1 seconds
+/// fails as if a signal had interrupted it, and is made again by whoever has nothing else to do. A
+/// node that ends makes it no more.
+#[derive(Drop)]
+pub struct Polled<S: Drop> {
+    stream: S,
+}
+
+impl<S: Drop> Polled<S> {
+    /// The stream.
+    pub fn new(stream: S) -> Polled<S>
+        ensures { result.stream ≡ stream }
+    {
+        Polled { stream }
+    }
+}
+
+/// Waits until a descriptor is ready for one of these events, for 0.1 seconds at most.
+///
+/// # Errors
+///
+/// `Interrupted` where it is not, or a signal came.
+fn wait_for(fd: RawFd, events: i16) -> io::Result<()> {
+    let mut asked = [pollfd {
+        fd,
+        events,
+        revents: 0,
+    }];
+    if poll(&mut asked, LONGEST_WAIT) <= 0 {
+        return Err(io::Error::from(ErrorKind::Interrupted));
+    }
+    Ok(())
+}
+
+impl<S: Read + AsRawFd + Drop> Read for Polled<S> {
+    ghost remaining = { λ p. S.remaining p.stream };
+
+    fn read(&mut self, buf: &mut [u8]) -> io::Result<usize> {
+        wait_for(self.stream.as_raw_fd(), POLLIN)?;
+        self.stream.read(buf)
+    }
+}
+
+impl<S: Write + AsRawFd + Drop> Write for Polled<S> {
+    ghost contents = { λ p. S.contents p.stream };
+
+    fn write(&mut self, buf: &[u8]) -> io::Result<usize> {
+        wait_for(self.stream.as_raw_fd(), POLLOUT)?;
+        self.stream.write(&buf[..buf.len().min(MOST)])
+    }
+
+    fn flush(&mut self) -> io::Result<()> {
+        self.stream.flush()
+    }
+}
