@@ -105,7 +105,7 @@ class Mixed:
             self.it.excuse(node, "stopped for long", 100 * self.it.tick)
 
     def flood(self):
-        """Frames of other configurations, joiners with fresh identifiers, or bytes that are no frames."""
+        """Frames of other configurations, of joiners with fresh identifiers, or bytes that are none."""
         node = self.member()
         if not node:
             return None
@@ -115,7 +115,8 @@ class Mixed:
 
     def send(self, node, frames, name):
         self.it.excuse(node, "under load", 60 * self.it.tick)
-        self.done[name] += node.send(itertools.islice(frames, FLOOD))
+        self.done[name] += 1
+        node.send(itertools.islice(frames, FLOOD))
 
     def of_others(self):
         while True:
@@ -132,7 +133,7 @@ class Mixed:
         return itertools.repeat(self.random.randbytes(100))
 
     def batches(self):
-        """A joiner asks; if it is answered, the same batch about it comes again and again."""
+        """The same batch again and again, of the present configuration, with an alert that stays noise."""
         node, fake = self.member(), self.it.fake()
         if node:
             node.send([frame(PRE_JOIN, process(self.it.draw(), fake.port))])
@@ -217,7 +218,7 @@ class Mixed:
 
     def act(self, name):
         """Does something bad, if it can be done now; whether it was."""
-        if name == "join" and len(self.it.running()) > self.given.nodes + 2:
+        if name == "join" and len(self.it.running()) >= self.given.nodes + 3:
             return False
         node = getattr(self, name)()
         if node:

@@ -13,6 +13,7 @@ from soak_cluster import (BATCH, GREATEST, HOST, JOIN, L, PRE_JOIN, REMOVE, RING
                           frame, is_closed, observer_of, process)
 
 FLOOD = 200_000  # frames of a flood
+ANSWERS = 40_000  # each at the next source port of one parity, of which Linux has some 14,000
 MOST_MEMORY = 64 * 1024  # kilobytes that a node holds at most while it is ill-treated
 
 
@@ -62,12 +63,13 @@ def flapping_edge(it):
 
 
 def used_identifier(it):
-    """A joiner with the identifier of a member asks for long, which is refused each time."""
+    """Two joiners, one after the other, with the identifier of a member ask for long, in vain."""
     nodes = it.form(3)
-    joiner = it.start(nodes[0], identifier=nodes[1].process[:16], tick_ms=0)
-    tick_by_lines(it, joiner, 1_000)
-    joiner.may_end = True
-    joiner.type("quit\n")
+    for _ in range(2):
+        joiner = it.start(nodes[0], identifier=nodes[1].process[:16], tick_ms=0)
+        tick_by_lines(it, joiner, 500)
+        joiner.may_end = True
+        joiner.type("quit\n")
     return f"100,000 questions; {keeps(it, nodes, nodes[0].views[-1][0])}"
 
 
@@ -152,22 +154,27 @@ def restart_same_endpoint(it):
 def stopped_process_goes_on(it):
     """A member is stopped for 12 ticks, which expels nobody, then for 80, and goes on."""
     nodes = it.form(5)
-    target, height = nodes[4], nodes[0].views[-1][0]
-    for ticks in (12, 80):
-        target.popen.send_signal(signal.SIGSTOP)
-        if ticks == 80:
-            it.excuse(target, "stopped for long")
-        it.rest(ticks * it.tick)
-        target.popen.send_signal(signal.SIGCONT)
-        it.rest(20 * it.tick)
-        if ticks == 12:
-            keeps(it, nodes, height)
+    target = nodes[4]
+    stop(it, target, 12)
+    it.rest(40 * it.tick)
+    keeps(it, nodes, nodes[0].views[-1][0])
+    it.excuse(target, "stopped for long")
+    stop(it, target, 80)
     took = it.until(target.is_out, 20, "it has not learnt that it was expelled")
     target.may_end = True
     it.agree(20)
+    it.rest(2)
     if not target.errors:
-        raise Failed(f"it learnt {took:.1f} s after 20 ticks, but standard error has no line on it")
-    return f"standard error: {target.errors.decode().strip()}"
+        raise Failed(f"expelled after 80 ticks, not 12, it learnt so {took:.1f} s after it went on, and printed "
+                     "the view without it; but standard error has no line on it")
+    return f"it learnt {took:.1f} s after it went on: {target.errors.decode().strip()}"
+
+
+def stop(it, node, ticks):
+    """Stops a node for so many ticks."""
+    node.popen.send_signal(signal.SIGSTOP)
+    it.rest(ticks * it.tick)
+    node.popen.send_signal(signal.SIGCONT)
 
 
 def stopped_stdout(it):
@@ -251,13 +258,13 @@ def self_connect(it):
     node = it.form(1)[0]
     with socket.create_server((HOST, 0)) as free:
         port = free.getsockname()[1] & ~1
-    for count in range(0, 40_000, 1_000):
+    for count in range(0, ANSWERS, 100):
+        # few at a time: what nobody reads soon fills such a connection, and it is closed again
+        node.send([b"".join(frame(PRE_JOIN, process(it.draw(), port)) for _ in range(100))])
+        it.rest(0.02)
         if is_taken(port):
             raise Failed(f"after {count} answers port {port} is connected to itself, and so taken")
-        frames = (frame(PRE_JOIN, process(it.draw(), port)) for _ in itertools.count())
-        it.flood(node, frames, 1_000)
-        it.rest(0.1)
-    return f"40,000 answers to port {port}; {keeps(it, [node], 0)}"
+    return f"{ANSWERS} answers to port {port}; {keeps(it, [node], 0)}"
 
 
 def foreign_sender(it):
