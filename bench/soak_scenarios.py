@@ -1,0 +1,292 @@
+"""The single scenarios of soak.py. Each takes a cluster without nodes, ends within a minute or so,
+answers in words what was seen, and fails with what was not as it has to be."""
+import itertools
+import shutil
+import signal
+import socket
+import subprocess
+import sys
+import tempfile
+from pathlib import Path
+
+from soak_cluster import (BATCH, GREATEST, HOST, JOIN, L, PRE_JOIN, REMOVE, RINGS, Failed, batch,
+                          frame, is_closed, observer_of, process)
+
+FLOOD = 200_000  # frames of a flood
+ANSWERS = 40_000  # each at the next source port of one parity, of which Linux has some 14,000
+MOST_MEMORY = 64 * 1024  # kilobytes that a node holds at most while it is ill-treated
+
+
+def keeps(it, nodes, height):
+    """After all that was done to them the nodes are there, in the view of this height."""
+    for node in nodes:
+        it.answers(node)
+        if node.views[-1][0] != height:
+            raise Failed(f"{node.name} entered {node.views[-1]}")
+        if node.figures()[0] > MOST_MEMORY:
+            raise Failed(f"{node.name} holds {node.figures()[0]} kB")
+    return ", ".join(f"{node.figures()[0]} kB" for node in nodes)
+
+
+def tick_by_lines(it, node, lines):
+    """Ticks a node 1,000 times a line, each once it has answered the one before."""
+    for _ in range(lines):
+        before = node.lines
+        node.type("tick 1000\nview\n")
+        it.until(lambda: node.lines > before, 10, f"{node.name} has not answered")
+
+
+def pair_without_quorum(it):
+    """Two of four are killed at once; the two left can decide nothing, and tick on for long."""
+    nodes = it.form(4)
+    it.kill(*nodes[2:])
+    it.rest(60 * it.tick)
+    height, lines = nodes[0].views[-1][0], 1_000
+    tick_by_lines(it, nodes[0], lines)
+    return f"{lines},000 ticks; {keeps(it, nodes[:2], height)}"
+
+
+def flapping_edge(it):
+    """Two batches of one member about one edge or another, by turns, which stay noise."""
+    nodes = it.form(4)
+    members = sorted(node.process for node in nodes)
+    _, config, _ = it.ask(nodes[3])
+    edges = [(observer_of(members, ring, subject), subject, ring)
+             for subject in members[:2] for ring in range(RINGS)]
+    observer, subject, ring = next(e for e in edges if e[0] != nodes[3].process)
+    others = [e[2] for e in edges if e[:2] == (observer, subject)][:L - 1]
+    by_turns = [batch(observer, config, [(ring, REMOVE, subject)]),
+                batch(observer, config, [(one, REMOVE, subject) for one in others[::-1]])]
+    height = nodes[3].views[-1][0]
+    it.flood(nodes[3], itertools.cycle(by_turns), FLOOD // 2)
+    return f"{FLOOD // 2} batches; {keeps(it, nodes, height)}"
+
+
+def used_identifier(it):
+    """Two joiners, one after the other, with the identifier of a member ask for long, in vain."""
+    nodes = it.form(3)
+    for _ in range(2):
+        joiner = it.start(nodes[0], identifier=nodes[1].process[:16], tick_ms=0)
+        tick_by_lines(it, joiner, 500)
+        joiner.may_end = True
+        joiner.type("quit\n")
+    return f"100,000 questions; {keeps(it, nodes, nodes[0].views[-1][0])}"
+
+
+def prejoin_flood(it):
+    """200,000 joiners with fresh identifiers ask one member."""
+    nodes = it.form(3)
+    height, fake = nodes[1].views[-1][0], it.fake()
+    frames = (frame(PRE_JOIN, process(it.draw(), fake.port)) for _ in itertools.count())
+    it.flood(nodes[1], frames, FLOOD)
+    it.rest(3)
+    return f"{len(fake.frames)} of {FLOOD} were answered; {keeps(it, nodes, height)}"
+
+
+def batch_flood(it):
+    """One member is sent the same batch 200,000 times."""
+    nodes = it.form(3)
+    joiner, config, observers = it.ask(nodes[1])
+    height, same = nodes[1].views[-1][0], batch(observers[0], config, [(0, JOIN, joiner)])
+    it.flood(nodes[1], itertools.repeat(same), FLOOD)
+    return f"{FLOOD} batches; {keeps(it, nodes, height)}"
+
+
+def fill(it, node):
+    """Takes all places for incoming connections that a node has, by silent ones."""
+    made = it.hold(node, count=256)
+    for _ in range(20):
+        made += it.hold(node, count=4)
+        it.rest(0.02)
+        if all(is_closed(stream) for stream in made[-4:]):
+            return made
+    raise Failed(f"{node.name} has accepted {len(made)} connections")
+
+
+def silent_256(it):
+    """256 silent connections take all places of a member, then its peers' connections are cut."""
+    nodes = it.form(5, tick_ms=200)
+    height, target = nodes[0].views[-1][0], nodes[2]
+    held = fill(it, target)
+    cut = target.cut({stream.getsockname()[1] for stream in held})
+    fill(it, target)
+    it.rest(40)
+    return f"{cut} connections of peers cut; {keeps(it, nodes, height)}"
+
+
+def half_frame(it):
+    """100 connections say the first half of the longest frame, and no more."""
+    nodes = it.form(3)
+    before = nodes[1].figures()
+    half = GREATEST.to_bytes(4, "big") + bytes([1, BATCH]) + bytes(GREATEST // 2)
+    held = it.hold(nodes[1], half, 100)
+    it.rest(12)
+    open_yet, after = sum(not is_closed(stream) for stream in held), nodes[1].figures()
+    if open_yet:
+        raise Failed(f"{open_yet} of 100 are open after 12 s; kB, threads, descriptors {before}, {after}")
+    return f"all were closed; kB, threads, descriptors {before}, {after}"
+
+
+def sixty_five_destinations(it):
+    """72 joiners whose ports are the same modulo 4 ask one member, in three rounds."""
+    nodes = it.form(3)
+    first = it.port + 400 - it.port % 4
+    fakes = [it.fake(first + 4 * place) for place in range(72)]
+    for number in range(1, 4):
+        for fake in fakes:
+            nodes[1].send([frame(PRE_JOIN, process(it.draw(), fake.port))])
+        answered = lambda: all(len(fake.frames) == number for fake in fakes)
+        it.until(answered, 10, f"not all 72 were answered in round {number}")
+    descriptors = nodes[1].figures()[2]
+    return f"all were answered; {descriptors} descriptors; {keeps(it, nodes, nodes[1].views[-1][0])}"
+
+
+def restart_same_endpoint(it):
+    """A member is killed and at once started again at its endpoint, with a fresh identifier."""
+    nodes = it.form(4)
+    it.kill(nodes[3])
+    nodes[3].popen.wait()
+    again = it.start(nodes[0], port=nodes[3].port)
+    took = it.until(lambda: again.is_in() and it.agreed(), 30, "it is not a member again")
+    return f"a member again after {took:.1f} s, at height {again.views[-1][0]}"
+
+
+def stopped_process_goes_on(it):
+    """A member is stopped for 12 ticks, which expels nobody, then for 80, and goes on."""
+    nodes = it.form(5)
+    target = nodes[4]
+    stop(it, target, 12)
+    it.rest(40 * it.tick)
+    keeps(it, nodes, nodes[0].views[-1][0])
+    it.excuse(target, "stopped for long")
+    stop(it, target, 80)
+    took = it.until(target.is_out, 20, "it has not learnt that it was expelled")
+    target.may_end = True
+    it.agree(20)
+    it.rest(2)
+    if not target.errors:
+        raise Failed(f"expelled after 80 ticks, not 12, it learnt so {took:.1f} s after it went on, and printed "
+                     "the view without it; but standard error has no line on it")
+    return f"it learnt {took:.1f} s after it went on: {target.errors.decode().strip()}"
+
+
+def stop(it, node, ticks):
+    """Stops a node for so many ticks."""
+    node.popen.send_signal(signal.SIGSTOP)
+    it.rest(ticks * it.tick)
+    node.popen.send_signal(signal.SIGCONT)
+
+
+def stopped_stdout(it):
+    """Nobody reads what a member prints, and it is asked for some megabytes of it."""
+    nodes = it.form(3)
+    target = nodes[1]
+    before, line = target.figures()[0], len(" ".join(target.views[-1][1])) + 18
+    target.reads, target.may_end = False, True
+    it.excuse(target, "killed")
+    for _ in range(60):
+        target.type("view\n" * 1_000)
+        it.look()
+    for _ in range(500):
+        if target.gone:
+            return f"status {target.popen.returncode}, {target.errors.decode().strip()}"
+        it.look()
+    after = target.figures()[0]
+    raise Failed(f"{60 * line} kB wait to be read; the node holds {before} kB, then {after} kB")
+
+
+def burn(seconds):
+    """A process that takes a core for so long."""
+    text = f"import time; end = time.time() + {seconds}\nwhile time.time() < end: pass"
+    return subprocess.Popen([sys.executable, "-c", text], start_new_session=True)
+
+
+def tick10_nine_nodes(it):
+    """Nine nodes with ticks of 10 ms, while other processes take as many cores as --load says."""
+    nodes, seconds = it.form(9, tick_ms=10), 60 * it.given.minutes
+    height = nodes[0].views[-1][0]
+    it.load = [burn(seconds + 30) for _ in range(it.given.load)]
+    it.rest(seconds)
+    return f"{seconds:g} s, {it.given.load} cores taken; {keeps(it, nodes, height)}"
+
+
+def quit_hangs(it):
+    """`quit` where nobody reads the output, and where a node has five descriptors and no more."""
+    took, said = [], []
+    for limit, unread in ((None, True), (5, False)):
+        node = it.start(limit=limit)
+        it.until(lambda: node.views, 10, "the founder has printed no view")
+        node.may_end, node.reads = True, not unread
+        node.type("view\n" * 3_000 if unread else "view\n")
+        it.rest(1)
+        node.type("quit\n")
+        case = "output unread" if unread else f"{limit} descriptors"
+        try:
+            took.append(it.until(lambda: node.gone, 5, f"{case}: it has not ended"))
+            said.append(f"{case}: {took[-1]:.2f} s")
+        except Failed as failure:
+            took.append(5)
+            said.append(str(failure))
+        it.views.clear()
+    if max(took) > 1.2:
+        raise Failed("; ".join(said))
+    return "; ".join(said)
+
+
+def fault_ends_process(it):
+    """The reader of a node's output goes away, and its input stays open and quiet."""
+    founder = it.start()
+    it.until(lambda: founder.views, 10, "the founder has printed no view")
+    founder.reads, founder.may_end = False, True
+    founder.popen.stdout.close()
+    it.start(founder).may_end = True
+    told = it.until(lambda: founder.errors, 20, "it has not told its fault")
+    it.until(lambda: founder.gone, 3, f"it told {founder.errors} after {told:.1f} s, and goes on")
+    if founder.popen.returncode != 1:
+        raise Failed(f"it ended with status {founder.popen.returncode}")
+    return f"status 1, {founder.errors.decode().strip()}"
+
+
+def is_taken(port):
+    """Whether a connection leads from this port to itself."""
+    place = f"0100007F:{port:04X}"
+    return any(line.split()[1:3] == [place] * 2 for line in Path("/proc/net/tcp").read_text().splitlines())
+
+
+def self_connect(it):
+    """Joiners at a port where nothing listens ask, so that a node connects there ever again."""
+    node = it.form(1)[0]
+    with socket.create_server((HOST, 0)) as free:
+        port = free.getsockname()[1] & ~1
+    for count in range(0, ANSWERS, 100):
+        # few at a time: what nobody reads soon fills such a connection, and it is closed again
+        node.send([b"".join(frame(PRE_JOIN, process(it.draw(), port)) for _ in range(100))])
+        it.rest(0.02)
+        if is_taken(port):
+            raise Failed(f"after {count} answers port {port} is connected to itself, and so taken")
+    return f"{ANSWERS} answers to port {port}; {keeps(it, [node], 0)}"
+
+
+def foreign_sender(it):
+    """Joiners ask by endpoints that are not 127.x.x.x with a port from 1."""
+    fake, words = it.fake(), ()
+    with tempfile.TemporaryDirectory() as room:
+        calls = Path(room) / "connects"
+        if shutil.which("strace"):
+            words = ("strace", "-f", "-qq", "-e", "trace=connect", "-o", str(calls))
+        node = it.form(1, words=words)[0]
+        # Linux takes 0.0.0.0 for the host itself, and answers at once that 224.0.0.1, a group, can't
+        # be had: no packet leaves the machine, whatever the node does.
+        for host, port in (("0.0.0.0", fake.port), ("224.0.0.1", 9), (HOST, 0)):
+            node.send([frame(PRE_JOIN, process(it.draw(), port, host))])
+        it.rest(3)
+        told = calls.read_text() if words else ""
+    dialled = [line for line in told.splitlines() if '"127.' not in line or "htons(0)" in line]
+    if fake.accepted or dialled:
+        raise Failed(f"0.0.0.0 was dialled {fake.accepted} times; strace: {dialled}")
+    return f"none was dialled{', by strace too' if words else ''}; {keeps(it, [node], 0)}"
+
+
+ALL = [pair_without_quorum, flapping_edge, used_identifier, prejoin_flood, batch_flood, silent_256, half_frame,
+       sixty_five_destinations, restart_same_endpoint, stopped_process_goes_on, stopped_stdout,
+       tick10_nine_nodes, quit_hangs, fault_ends_process, self_connect, foreign_sender]
