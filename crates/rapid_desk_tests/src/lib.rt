@@ -3,6 +3,10 @@
 #![tactic(auto)]
 
 #[cfg(test)]
+mod checkpoints;
+#[cfg(test)]
+mod ending;
+#[cfg(test)]
 mod founding;
 #[cfg(test)]
 mod journal;
