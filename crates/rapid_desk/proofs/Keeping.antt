@@ -1,18 +1,19 @@
 -- What a desk keeps, whatever a step does.
-use Rattle.std.proofs.Common.{◌≡◌, ◌⊎◌, ℕ, ◌≤◌, Bool, true, false, ◌||◌, List, [], ◌∷◌, ◌++◌, length, refl, sym, ap, ◌∙◌, subst, inl, inr, arith, length-append}
+use Rattle.std.proofs.Common.{◌≡◌, ◌⊎◌, ℕ, ◌≤◌, ◌<◌, Bool, true, false, ◌||◌, List, [], ◌∷◌, ◌++◌, length, refl, sym, ap, ◌∙◌, subst, inl, inr, arith, length-append}
 use Rattle.std.specs.Prelude.{Some, nat_lt}
 use Rattle.rapid_model.specs.Configuration.{Configuration, Stamp, stamp, is_member}
 use Rattle.rapid_model.specs.Process.{Process}
-use Rattle.rapid_model.specs.Node.{Node, Event, Outcome, configuration_of, has_installed, is_halted, halt, seed_node, joiner_node}
+use Rattle.rapid_model.specs.Node.{Node, Phase, Joining, Member, Removed, Halted, Event, Outcome, configuration_of, has_installed, is_halted, is_halted_phase, halt, seed_node, joiner_node}
 use Rattle.rapid_model.specs.NodeStep.{node_step}
-use Rattle.rapid_model.specs.Journal.{DeskState, Entered, Joins, replay, IsLive, IsDesk, with_event, is_journal_full}
+use Rattle.rapid_model.specs.Journal.{with_event}
 use Rattle.rapid_node.specs.Steps.{IsFault}
 use Rattle.rapid_node.specs.declared.fault.NodeFault.{NodeFault}
 use Rattle.rapid_node.specs.declared.fault.NodeFault.TheVariants as fault
-use Rattle.rapid_desk.specs.Records.{entry_of, added_by}
-use Rattle.rapid_desk.specs.Desks.{HeldValue, state_with, seed_state, joiner_state, JoinsEmpty, Keeps}
+use Rattle.rapid_desk.specs.Records.{added_by}
+use Rattle.rapid_desk.specs.States.{DeskState, IsLive, HasEnded, IsDesk, is_journal_full, at_checkpoint}
+use Rattle.rapid_desk.specs.Desks.{HeldValue, state_with, seed_state, joiner_state, no_installs_in, JoinsEmpty, Keeps}
 use Rattle.rapid_desk.proofs.Ticking.{is_below, not_below, event_length}
-use Rattle.rapid_desk.proofs.Moving.{Enters, went, enters_entry, enters_shows, seed_enters, seed_entry}
+use Rattle.rapid_desk.proofs.Moving.{Enters, went, enters_shows}
 use Rattle.rapid_desk.proofs.Replaying.{replayed}
 
 -- ---- a full journal
@@ -102,17 +103,17 @@ some_is : (x y : Configuration) → Some x ≡ Some y → x ≡ y
 some_is x y h = cc
 
 pub live_entered : (s : DeskState) (e : Event) (o : Outcome) (c : Configuration) → is_halted s.node ≡ false → node_step s.node e ≡ Some o → has_installed s.node o.node ≡ true → configuration_of o.node ≡ Some c → Keeps s
-    → IsLive (record { entry = entry_of o.node; journal = []; full = s.full; node = o.node; published = s.published ++ stamp c ∷ [] })
+    → IsLive (record { entry = o.node; journal = []; full = s.full; node = o.node; published = s.published ++ stamp c ∷ [] })
 live_entered s e o c running is some shows k =
     let live = live_of s k.desk running in
     let new = enters s.node e o k.joins is some in
     let same : new.config ≡ c = some_is new.config c (sym (enters_shows s.node.installed o.node new) ∙ shows) in record {
-      replayed = ap Some (enters_entry s.node.installed o.node new);
+      replayed = refl;
       published = ap (λ x. s.published ++ stamp x ∷ []) (sym same) ∙ ap (λ l. l ++ stamp new.config ∷ []) live.published ∙ sym new.grew;
     }
 
 pub keeps_entered : (s : DeskState) (e : Event) (o : Outcome) (c : Configuration) → s.full ≡ false → is_halted s.node ≡ false → node_step s.node e ≡ Some o → has_installed s.node o.node ≡ true → configuration_of o.node ≡ Some c → Keeps s
-    → Keeps (record { entry = entry_of o.node; journal = []; full = s.full; node = o.node; published = s.published ++ stamp c ∷ [] })
+    → Keeps (record { entry = o.node; journal = []; full = s.full; node = o.node; published = s.published ++ stamp c ∷ [] })
 keeps_entered s e o c open_ running is some shows k = record {
   desk = inl (live_entered s e o c running is some shows k);
   joins = (went s.node e o k.joins is).0;
@@ -120,11 +121,57 @@ keeps_entered s e o c open_ running is some shows k = record {
   full = λ yes. let wrong : true ≡ false = sym yes ∙ open_ in cc;
 }
 
+-- the list has room for what a step installs
+pub has_room : (s : DeskState) (e : Event) (o : Outcome) → is_halted s.node ≡ false → node_step s.node e ≡ Some o → has_installed s.node o.node ≡ true → Keeps s → length s.published < 65536
+has_room s e o running is some k =
+    let live = live_of s k.desk running in
+    let new = enters s.node e o k.joins is some in
+    subst (λ l. length l < 65536) (sym live.published) new.room
+
+-- ---- a checkpoint
+
+desk_checked : (s : DeskState) → IsDesk s → IsDesk (at_checkpoint s)
+desk_checked s (inl live) = inl record { replayed = refl; published = live.published }
+desk_checked s (inr ended) = inr record { halted = ended.halted; published = ended.published }
+
+keeps_checked : (s : DeskState) → s.full ≡ false → Keeps s → Keeps (at_checkpoint s)
+keeps_checked s open_ k = record {
+  desk = desk_checked s k.desk;
+  joins = k.joins;
+  few = omega arith;
+  full = λ yes. let wrong : true ≡ false = sym yes ∙ open_ in cc;
+}
+
+pub checked_is : (h g : HeldValue) (published : List Stamp) → g.entry ≡ h.node → g.journal ≡ [] → g.full ≡ h.full → g.node ≡ h.node → state_with g published ≡ at_checkpoint (state_with h published)
+checked_is h g published entry journal full node = λ i. record { entry = entry i; journal = journal i; full = full i; node = node i; published = published }
+
+pub keeps_checkpoint : (h g : HeldValue) (published : List Stamp) → h.full ≡ false → g.entry ≡ h.node → g.journal ≡ [] → g.full ≡ h.full → g.node ≡ h.node → Keeps (state_with h published) → Keeps (state_with g published)
+keeps_checkpoint h g published open_ entry journal full node k = subst Keeps (sym (checked_is h g published entry journal full node)) (keeps_checked (state_with h published) open_ k)
+
+-- ---- a node that joins
+
+joins_in : (p : Phase) (installed published : List Stamp) → published ≡ installed → no_installs_in p installed → no_installs_in p published
+joins_in p installed published is none = subst (no_installs_in p) (sym is) none
+
+halted_in : (p : Phase) (published : List Stamp) → is_halted_phase p ≡ true → no_installs_in p published
+halted_in (Joining j) published h = let wrong : false ≡ true = h in cc
+halted_in (Member m) published h = tt
+halted_in (Removed c) published h = tt
+halted_in (Halted shown) published h = tt
+
+-- while a node joins nothing is published
+pub joining_shows : (s : DeskState) → Keeps s → no_installs_in s.node.phase s.published
+joining_shows s k = by k.desk
+  where
+    by : IsDesk s → no_installs_in s.node.phase s.published
+    by (inl live) = joins_in s.node.phase s.node.installed s.published live.published k.joins
+    by (inr ended) = halted_in s.node.phase s.published ended.halted
+
 -- ---- a desk at first
 
 pub keeps_seed : (c : Configuration) (me : Process) → is_member c me ≡ true → Keeps (seed_state c me)
 keeps_seed c me is = record {
-  desk = inl record { replayed = ap (λ e. replay e []) (sym (seed_entry c me)) ∙ ap Some (enters_entry [] (seed_node c me) (seed_enters c me is)); published = refl };
+  desk = inl record { replayed = refl; published = refl };
   joins = tt;
   few = omega arith;
   full = λ yes. let wrong : false ≡ true = yes in cc;
@@ -141,13 +188,11 @@ keeps_joiner me seed = record {
 -- what is held at first
 pub seed_is : (h : HeldValue) (published : List Stamp) (c : Configuration) (me : Process) (n : Node) → n ≡ seed_node c me → (h.entry ≡ n) × (h.journal ≡ []) × (h.full ≡ false) × (h.node ≡ n) → published ≡ stamp c ∷ [] → state_with h published ≡ seed_state c me
 seed_is h published c me n node held shown =
-    let at : entry_of h.entry ≡ Entered c me (stamp c ∷ []) [] = ap entry_of (held.0 ∙ node) ∙ seed_entry c me in
-    λ i. record { entry = at i; journal = held.1 i; full = held.2 i; node = (held.3 ∙ node) i; published = shown i }
+    λ i. record { entry = (held.0 ∙ node) i; journal = held.1 i; full = held.2 i; node = (held.3 ∙ node) i; published = shown i }
 
 pub joiner_is : (h : HeldValue) (published : List Stamp) (me : Process) (seed : List ℕ) (n : Node) → n ≡ joiner_node me seed → (h.entry ≡ n) × (h.journal ≡ []) × (h.full ≡ false) × (h.node ≡ n) → published ≡ [] → state_with h published ≡ joiner_state me seed
 joiner_is h published me seed n node held shown =
-    let at : entry_of h.entry ≡ Joins me seed = ap entry_of (held.0 ∙ node) in
-    λ i. record { entry = at i; journal = held.1 i; full = held.2 i; node = (held.3 ∙ node) i; published = shown i }
+    λ i. record { entry = (held.0 ∙ node) i; journal = held.1 i; full = held.2 i; node = (held.3 ∙ node) i; published = shown i }
 
 pub keeps_seed_held : (h : HeldValue) (published : List Stamp) (c : Configuration) (me : Process) (n : Node) → is_member c me ≡ true → n ≡ seed_node c me → (h.entry ≡ n) × (h.journal ≡ []) × (h.full ≡ false) × (h.node ≡ n) → published ≡ stamp c ∷ [] → Keeps (state_with h published)
 keeps_seed_held h published c me n is node held shown = subst Keeps (sym (seed_is h published c me n node held shown)) (keeps_seed c me is)

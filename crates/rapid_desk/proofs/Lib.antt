@@ -7,4 +7,5 @@ pub mod Seats
 pub mod Stepping
 pub mod Settling
 pub mod Marks
+pub mod Following
 pub mod Books

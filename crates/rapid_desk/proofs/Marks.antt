@@ -9,7 +9,7 @@ use Rattle.rapid_desk.specs.Notices.{state_of, height_from, IsNextFrom, IsNext}
 pub state_of_more : (xs : List Notice) (x : Notice) → state_of xs ≡ Open → state_of (xs ++ x ∷ []) ≡ state_of (x ∷ [])
 state_of_more [] x open_ = refl
 state_of_more (Change v ∷ xs) x open_ = state_of_more xs x open_
-state_of_more (Lag ∷ xs) x open_ = absurd (cc)
+state_of_more (Lag loss ∷ xs) x open_ = absurd (cc)
 state_of_more (End ∷ xs) x open_ = absurd (cc)
 
 -- the same, of a list that is known to be that
@@ -20,7 +20,7 @@ state_of_now xs ys x open_ is = rw is (state_of_more xs x open_)
 pub height_more : (h : Option ℕ) (xs : List Notice) (x : Notice) → height_from h (xs ++ x ∷ []) ≡ height_from (height_from h xs) (x ∷ [])
 height_more h [] x = refl
 height_more h (Change v ∷ xs) x = height_more (Some v.height) xs x
-height_more h (Lag ∷ xs) x = height_more h xs x
+height_more h (Lag loss ∷ xs) x = height_more h xs x
 height_more h (End ∷ xs) x = height_more h xs x
 
 pub height_now : (h : Option ℕ) (xs ys : List Notice) (x : Notice) → ys ≡ xs ++ x ∷ [] → height_from h ys ≡ height_from (height_from h xs) (x ∷ [])
@@ -30,7 +30,7 @@ height_now h xs ys x is = rw is (height_more h xs x)
 next_by : (h : Option ℕ) (xs : List Notice) (n : ℕ) → MatchOption (height_from h xs) (Unit {0}) (λ last. n ≡ last + 1) → MatchOption (height_from None xs) (Unit {0}) (λ last. n ≡ last + 1)
 next_by h [] n is = tt
 next_by h (Change v ∷ xs) n is = is
-next_by h (Lag ∷ xs) n is = next_by h xs n is
+next_by h (Lag loss ∷ xs) n is = next_by h xs n is
 next_by h (End ∷ xs) n is = next_by h xs n is
 
 pub next_in_queue : (h : Option ℕ) (xs : List Notice) (n : ℕ) → IsNextFrom h xs n → IsNext xs n

@@ -1,6 +1,6 @@
 -- What a step makes of a node: it installs nothing, or one configuration, in which it begins anew.
-use Rattle.std.proofs.Common.{◌≡◌, ◌⊎◌, ℕ, Bool, true, false, cond, List, [], ◌∷◌, ◌++◌, refl, sym, ap, ◌∙◌, subst, inl, inr}
-use Rattle.std.specs.Prelude.{Option, Some, None}
+use Rattle.std.proofs.Common.{◌≡◌, ◌⊎◌, ℕ, Bool, true, false, cond, List, [], ◌∷◌, ◌++◌, length, ◌<◌, refl, sym, ap, ◌∙◌, subst, inl, inr, arith}
+use Rattle.std.specs.Prelude.{Option, Some, None, ◌||◌, ◌-◌, ◌^◌, not, nat_lt}
 use Rattle.rapid_model.specs.Process.{Process, endpoint}
 use Rattle.rapid_model.specs.Cut.{Cut}
 use Rattle.rapid_model.specs.Configuration.{Configuration, Stamp, stamp, is_member}
@@ -13,15 +13,15 @@ use Rattle.rapid_model.specs.Tick.{on_tick}
 use Rattle.rapid_model.specs.Receive.{take, is_about, receive_as_member, receive_as_joiner, joins_on, sends, catch_up}
 use Rattle.rapid_model.specs.NodeStep.{step_tick, step_edge_down, step_receive, phase_in, is_history_full, install, put_before, settle_at, settle, node_step}
 use Rattle.rapid_model.specs.Journal.{Entered, node_at, is_kept}
-use Rattle.rapid_desk.specs.Records.{entry_of}
 use Rattle.rapid_desk.specs.Desks.{no_installs_in, JoinsEmpty}
-use Rattle.rapid_desk.proofs.Ticking.{is_kept_event}
+use Rattle.rapid_desk.proofs.Ticking.{is_kept_event, is_below}
 
 -- the node has just entered a configuration, after these stamps
 pub record Enters (before : List Stamp) (m : Node) : Type 0 where
   pub config : Configuration
   pub grew : m.installed ≡ before ++ stamp config ∷ []
   pub fresh : m.phase ≡ phase_in config m.me
+  pub room : length before < 65536
 
 -- the node after a step from these stamps
 abbrev pub Went : List Stamp → Node → Type 0
@@ -38,14 +38,21 @@ fresh_installs c me xs = by (is_member c me)
     by true = tt
     by false = tt
 
+has_room : (m : ℕ) (b : Bool) → (not (nat_lt m 65536) || b) ≡ false → m < 65536
+has_room m b free = by (nat_lt m 65536) refl free
+  where
+    by : (a : Bool) → nat_lt m 65536 ≡ a → (not a || b) ≡ false → m < 65536
+    by true below f = is_below m 65536 below
+    by false over f = let wrong : true ≡ false = f in cc
+
 settled : (n : Node) (w : Work) (d : Option Cut) → Goes n.installed (settle_at n w d)
 unfolding install
 settled n w None = (tt, inl refl)
-settled n w (Some v) = by (is_history_full n.installed w.state.config)
+settled n w (Some v) = by (is_history_full n.installed w.state.config) refl
   where
-    by : (b : Bool) → Goes n.installed (cond b None (Some (put_before w.effects (install n w.state v))))
-    by true = tt
-    by false = (fresh_installs (apply w.state.config v) n.me _, inr record { config = apply w.state.config v; grew = refl; fresh = refl })
+    by : (b : Bool) → is_history_full n.installed w.state.config ≡ b → Goes n.installed (cond b None (Some (put_before w.effects (install n w.state v))))
+    by true full = tt
+    by false free = (fresh_installs (apply w.state.config v) n.me _, inr record { config = apply w.state.config v; grew = refl; fresh = refl; room = has_room (length n.installed) (not (nat_lt w.state.config.height (2 ^ 64 - 1))) free })
 
 settles : (n : Node) (w : Work) → Goes n.installed (settle n w)
 unfolding settle
@@ -56,7 +63,7 @@ unfolding receive_as_joiner
 joined n j (Confirm c) none = by (is_member c n.me) refl
   where
     by : (b : Bool) → is_member c n.me ≡ b → Went n.installed (cond b (record { node = seed_node c n.me; effects = [] }) (joins_on n j [])).node
-    by true is = (tt, inr record { config = c; grew = ap (λ l. l ++ stamp c ∷ []) (sym none); fresh = ap (λ b. cond b (Member (fresh_member c n.me)) (Removed c)) (sym is) })
+    by true is = (tt, inr record { config = c; grew = ap (λ l. l ++ stamp c ∷ []) (sym none); fresh = ap (λ b. cond b (Member (fresh_member c n.me)) (Removed c)) (sym is); room = subst (λ l. length l < 65536) (sym none) (omega arith) })
     by false is = (none, inl refl)
 joined n j (Reply who a) none = (none, inl refl)
 joined n j (Batch id xs) none = (none, inl refl)
@@ -167,18 +174,6 @@ not_kept_stays n e o h is = subst (Stays n) is (stays n e h)
 
 -- ---- entries
 
--- a journal can begin at the node
-abbrev pub IsEntry : Node → Type 0
-IsEntry n = node_at (entry_of n) ≡ n
-
-entered : (c : Configuration) (me : Process) (xs : List Stamp) (ds : Decisions) → Entered c me xs ds ≡ entry_of (node_at (Entered c me xs ds))
-unfolding fresh_member
-entered c me xs ds = by (is_member c me)
-  where
-    by : (b : Bool) → Entered c me xs ds ≡ entry_of (record { me = me; phase = cond b (Member (fresh_member c me)) (Removed c); installed = xs; decisions = ds })
-    by true = refl
-    by false = refl
-
 shown_fresh : (c : Configuration) (me : Process) (xs : List Stamp) (ds : Decisions) → configuration_of (node_at (Entered c me xs ds)) ≡ Some c
 unfolding fresh_member
 shown_fresh c me xs ds = by (is_member c me)
@@ -188,26 +183,8 @@ shown_fresh c me xs ds = by (is_member c me)
     by false = refl
 
 -- the node is at the entry of what it has just entered
-at_entry : (m : Node) (c : Configuration) → m.phase ≡ phase_in c m.me → node_at (Entered c m.me m.installed m.decisions) ≡ m
+pub at_entry : (m : Node) (c : Configuration) → m.phase ≡ phase_in c m.me → node_at (Entered c m.me m.installed m.decisions) ≡ m
 at_entry m c is = λ i. record { me = m.me; phase = sym is i; installed = m.installed; decisions = m.decisions }
-
-pub enters_entry : (before : List Stamp) (m : Node) → Enters before m → IsEntry m
-enters_entry before m h =
-    let at = at_entry m h.config h.fresh in
-    ap (λ x. node_at (entry_of x)) (sym at) ∙ ap node_at (sym (entered h.config m.me m.installed m.decisions)) ∙ at
 
 pub enters_shows : (before : List Stamp) (m : Node) → (h : Enters before m) → configuration_of m ≡ Some h.config
 enters_shows before m h = ap configuration_of (sym (at_entry m h.config h.fresh)) ∙ shown_fresh h.config m.me m.installed m.decisions
-
-pub enters_from : (before : List Stamp) (m : Node) → (h : Enters before m) → entry_of m ≡ Entered h.config m.me m.installed m.decisions
-enters_from before m h = ap entry_of (sym (at_entry m h.config h.fresh)) ∙ sym (entered h.config m.me m.installed m.decisions)
-
-pub joiner_entry : (me : Process) (seed : List ℕ) → IsEntry (joiner_node me seed)
-joiner_entry me seed = refl
-
-pub seed_enters : (c : Configuration) (me : Process) → is_member c me ≡ true → Enters [] (seed_node c me)
-seed_enters c me is = record { config = c; grew = refl; fresh = ap (λ b. cond b (Member (fresh_member c me)) (Removed c)) (sym is) }
-
-pub seed_entry : (c : Configuration) (me : Process) → entry_of (seed_node c me) ≡ Entered c me (stamp c ∷ []) []
-unfolding fresh_member
-seed_entry c me = refl

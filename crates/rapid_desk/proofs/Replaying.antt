@@ -4,7 +4,7 @@ use Rattle.std.specs.Prelude.{Option, Some, None}
 use Rattle.std.specs.Option.{option_and_then}
 use Rattle.rapid_model.specs.Node.{Node, Event, Outcome}
 use Rattle.rapid_model.specs.NodeStep.{node_step}
-use Rattle.rapid_model.specs.Journal.{EntryPoint, JournalRecord, after_events, replay, journal_events, with_event, node_at}
+use Rattle.rapid_model.specs.Journal.{JournalRecord, after_events, journal_events, with_event}
 use Rattle.rapid_desk.proofs.Ticking.{is_kept_event, kept_events, left_out}
 use Rattle.rapid_desk.proofs.Moving.{not_kept_stays}
 
@@ -17,9 +17,9 @@ one_more n m (x ∷ es) e o was is = by (node_step n x) was (λ p h. one_more p 
     by None h f = cc
     by (Some p) h f = f p.node h
 
-pub replayed : (entry : EntryPoint) (j : List JournalRecord) (n : Node) (e : Event) (o : Outcome) → replay entry (journal_events j) ≡ Some n → node_step n e ≡ Some o → replay entry (journal_events (with_event j e)) ≡ Some o.node
+pub replayed : (entry : Node) (j : List JournalRecord) (n : Node) (e : Event) (o : Outcome) → after_events entry (journal_events j) ≡ Some n → node_step n e ≡ Some o → after_events entry (journal_events (with_event j e)) ≡ Some o.node
 replayed entry j n e o was is = by (is_kept_event e) refl
   where
-    by : (b : Bool) → is_kept_event e ≡ b → replay entry (journal_events (with_event j e)) ≡ Some o.node
-    by true k = ap (replay entry) (kept_events j e k) ∙ one_more (node_at entry) n (journal_events j) e o was is
-    by false k = ap (λ l. replay entry (journal_events l)) (left_out j e k) ∙ was ∙ ap Some (sym (not_kept_stays n e o k is))
+    by : (b : Bool) → is_kept_event e ≡ b → after_events entry (journal_events (with_event j e)) ≡ Some o.node
+    by true k = ap (after_events entry) (kept_events j e k) ∙ one_more entry n (journal_events j) e o was is
+    by false k = ap (λ l. after_events entry (journal_events l)) (left_out j e k) ∙ was ∙ ap Some (sym (not_kept_stays n e o k is))

@@ -1,14 +1,15 @@
 -- What is held and published after each outcome of a step.
-use Rattle.std.proofs.Common.{◌≡◌, Bool, true, false, List, [], ◌∷◌, refl, sym, ap, ◌∙◌, subst}
+use Rattle.std.proofs.Common.{◌≡◌, ◌<◌, length, Bool, true, false, List, [], ◌∷◌, refl, sym, ap, ◌∙◌, subst}
 use Rattle.std.specs.Prelude.{Option, Some, None, Result, Ok, Err, IsSome, OnOk, OnErr, IfErr}
 use Rattle.rapid_model.specs.Configuration.{Configuration, Stamp}
 use Rattle.rapid_model.specs.Node.{Node, Event, configuration_of, has_installed, halt}
-use Rattle.rapid_model.specs.Journal.{DeskState, with_event}
+use Rattle.rapid_model.specs.Journal.{with_event}
 use Rattle.rapid_desk.specs.declared.error.DeskError.{DeskError}
 use Rattle.rapid_desk.specs.declared.error.DeskError.TheVariants as error
+use Rattle.rapid_desk.specs.States.{DeskState}
 use Rattle.rapid_desk.specs.Desks.{HeldValue, BoardValue, NotTaken, Refused, state_with, state_of, is_blank, Keeps, Advances, Tried, Installs, Grown, NotEntered}
 use Rattle.rapid_desk.proofs.Moving.{enters_shows}
-use Rattle.rapid_desk.proofs.Keeping.{enters}
+use Rattle.rapid_desk.proofs.Keeping.{enters, has_room}
 use Rattle.rapid_desk.proofs.Stepping.{Well, goes_on, begins, not_shown, stays_full, halts}
 
 -- what is held is by its parts
@@ -48,11 +49,14 @@ shows h published e k t some =
     let new = enters h.node e t.2.0 k.joins t.2.1 (ap (has_installed h.node) (sym t.2.2) ∙ some) in
     is_some_of (configuration_of h.next) new.config (ap configuration_of t.2.2 ∙ enters_shows h.node.installed t.2.0.node new)
 
+room_for : (h : HeldValue) (published : List Stamp) (e : Event) → Keeps (state_with h published) → Tried h e → has_installed h.node h.next ≡ true → length published < 65536
+room_for h published e k t some = has_room (state_with h published) e t.2.0 t.1 t.2.1 (ap (has_installed h.node) (sym t.2.2) ∙ some) k
+
 -- what is published is not blank any more
 pub not_blank : (shown : Option Configuration) (old new : List Stamp) → Grown shown old new → is_blank new ≡ false
 not_blank None old new h = absurd h
-not_blank (Some c) [] new h = ap is_blank h
-not_blank (Some c) (s ∷ old) new h = ap is_blank h
+not_blank (Some c) [] new h = ap is_blank h.0
+not_blank (Some c) (s ∷ old) new h = ap is_blank h.0
 
 -- ---- by what the calls answer
 
@@ -68,7 +72,7 @@ after_enter (Err error.OutOfMemory) h g b b1 e k t some held grown refused same 
 after_enter (Err error.Unpublished) h g b b1 e k t some held grown refused same =
     let l = lost h g b.published e k t some refused.0 refused.1 refused.2 refused.3 in
     let is : state_with g b1.published ≡ state_with g b.published = λ i. state_with g (same i).published in
-    (subst Keeps (sym is) l.1, tt, (t.0, (l.0.0, l.0.1, is ∙ l.0.2)))
+    (subst Keeps (sym is) l.1, tt, (t.0, room_for h b.published e k t some, (l.0.0, l.0.1, is ∙ l.0.2)))
 after_enter (Err error.JournalFull) h g b b1 e k t some held grown refused same = absurd refused
 after_enter (Err (error.Node f)) h g b b1 e k t some held grown refused same = absurd refused
 after_enter (Err error.TooManySubscribers) h g b b1 e k t some held grown refused same = absurd refused

@@ -5,14 +5,15 @@ use Rattle.rapid_model.specs.Configuration.{Configuration, Stamp, stamp}
 use Rattle.rapid_model.specs.Node.{Node, Event, EdgeDown, Tick, Receive, Outcome, Output, configuration_of, has_installed, is_halted, halt}
 use Rattle.rapid_model.specs.NodeStep.{node_step}
 use Rattle.rapid_model.specs.Process.{Process}
-use Rattle.rapid_model.specs.Journal.{DeskState, JournalRecord, EntryPoint, Entered, IsLive, is_kept, with_event, is_full_for, next_entry}
+use Rattle.rapid_model.specs.Journal.{JournalRecord, Entered, node_at, is_kept, with_event, is_full_for}
 use Rattle.rapid_node.specs.Steps.{HasOutcome, IsFault}
 use Rattle.rapid_node.specs.declared.fault.NodeFault.{NodeFault}
 use Rattle.rapid_desk.specs.declared.journal.JournalRecord.{JournalRecord as Kept}
-use Rattle.rapid_desk.specs.Records.{entry_of, records, joins, added_by}
+use Rattle.rapid_desk.specs.Records.{records, joins, added_by}
+use Rattle.rapid_desk.specs.States.{DeskState, IsLive, next_entry}
 use Rattle.rapid_desk.specs.Desks.{state_of, is_refused, Keeps, Advances, Follows, Installs, Grown}
 use Rattle.rapid_desk.proofs.Ticking.{not_below, event_length}
-use Rattle.rapid_desk.proofs.Moving.{enters_from, enters_shows}
+use Rattle.rapid_desk.proofs.Moving.{at_entry, enters_shows}
 use Rattle.rapid_desk.proofs.Keeping.{kept_full, keeps_full, keeps_fault, live_more, keeps_more, live_entered, keeps_entered, keeps_unpublished, enters}
 
 -- ---- room
@@ -30,7 +31,7 @@ added_few j (Receive m) = by (is_kept m.body)
     by true = omega arith
     by false = omega arith
 
-records_length : (js : List Kept) → length (records js) ≡ length js
+pub records_length : (js : List Kept) → length (records js) ≡ length js
 records_length [] = refl
 records_length (x ∷ js) = let h = records_length js in omega (arith, h)
 
@@ -52,7 +53,7 @@ not_refused false j e h = (refl, not_below 65536 (length (with_event j e)) h)
 
 same_entry : (s : DeskState) (m : Node) → has_installed s.node m ≡ false → (o : Option Configuration) → next_entry s m o ≡ s.entry
 same_entry s m none None = refl
-same_entry s m none (Some c) = ap (λ b. cond b (Entered c m.me m.installed m.decisions) s.entry) none
+same_entry s m none (Some c) = ap (λ b. cond b (node_at (Entered c m.me m.installed m.decisions)) s.entry) none
 
 -- the desk after a step that went well
 pub record Well (old : DeskState) (e : Event) (new : DeskState) : Type 0 where
@@ -65,8 +66,8 @@ goes_on entry node m js new full full1 published e k open_ still running r none 
     let s = state_of entry js full node published in
     let free = not_refused full js e open_ in
     let none_o : has_installed node r.0.node ≡ false = ap (has_installed node) (sym r.2) ∙ none in
-    let same : record { entry = entry_of entry; journal = with_event js e; full = full; node = r.0.node; published = published } ≡ state_of entry new full1 m published =
-    λ i. record { entry = entry_of entry; journal = sym grown i; full = sym still i; node = sym r.2 i; published = published } in record {
+    let same : record { entry = entry; journal = with_event js e; full = full; node = r.0.node; published = published } ≡ state_of entry new full1 m published =
+    λ i. record { entry = entry; journal = sym grown i; full = sym still i; node = sym r.2 i; published = published } in record {
       keeps = subst Keeps same (keeps_more s e r.0 free.1 free.0 running r.1 none_o k);
       advances = record {
         entry = sym (same_entry s m none (configuration_of m));
@@ -76,12 +77,12 @@ goes_on entry node m js new full full1 published e k open_ still running r none 
       };
     }
 
-next_is : (s : DeskState) (m : Node) (c : Configuration) → has_installed s.node m ≡ true → configuration_of m ≡ Some c → next_entry s m (configuration_of m) ≡ Entered c m.me m.installed m.decisions
-next_is s m c some shows = ap (next_entry s m) shows ∙ ap (λ b. cond b (Entered c m.me m.installed m.decisions) s.entry) some
+next_is : (s : DeskState) (m : Node) (c : Configuration) → has_installed s.node m ≡ true → configuration_of m ≡ Some c → next_entry s m (configuration_of m) ≡ node_at (Entered c m.me m.installed m.decisions)
+next_is s m c some shows = ap (next_entry s m) shows ∙ ap (λ b. cond b (node_at (Entered c m.me m.installed m.decisions)) s.entry) some
 
 grown_by : (shown : Option Configuration) (old new : List Stamp) → Grown shown old new → (c : Configuration) × (shown ≡ Some c) × (new ≡ old ++ stamp c ∷ [])
 grown_by None old new h = absurd h
-grown_by (Some c) old new h = (c, refl, h)
+grown_by (Some c) old new h = (c, refl, h.0)
 
 pub begins : (entry node m fresh : Node) (js new : List JournalRecord) (full full1 : Bool) (published published1 : List Stamp) (e : Event) → Keeps (state_of entry js full node published) → is_refused full js e ≡ false → full1 ≡ full → is_halted node ≡ false
     → Follows node e m → has_installed node m ≡ true → fresh ≡ m → new ≡ [] → Grown (configuration_of m) published published1 → Well (state_of entry js full node published) e (state_of fresh new full1 m published1)
@@ -91,14 +92,14 @@ begins entry node m fresh js new full full1 published published1 e k open_ still
     let some_o : has_installed node r.0.node ≡ true = ap (has_installed node) (sym r.2) ∙ some in
     let g = grown_by (configuration_of m) published published1 shown in
     let shows : configuration_of r.0.node ≡ Some g.0 = ap configuration_of (sym r.2) ∙ g.1 in
-    let at : entry_of fresh ≡ entry_of r.0.node = ap entry_of (copy ∙ r.2) in
-    let same : record { entry = entry_of r.0.node; journal = []; full = full; node = r.0.node; published = published ++ stamp g.0 ∷ [] } ≡ state_of fresh new full1 m published1 =
+    let at : fresh ≡ r.0.node = copy ∙ r.2 in
+    let same : record { entry = r.0.node; journal = []; full = full; node = r.0.node; published = published ++ stamp g.0 ∷ [] } ≡ state_of fresh new full1 m published1 =
     λ i. record { entry = sym at i; journal = sym none i; full = sym still i; node = sym r.2 i; published = sym g.2 i } in
     let new_is = enters s.node e r.0 k.joins r.1 some_o in
     let c_is : Some new_is.config ≡ Some g.0 = sym (enters_shows s.node.installed r.0.node new_is) ∙ shows in record {
       keeps = subst Keeps same (keeps_entered s e r.0 g.0 free.0 running r.1 some_o shows k);
       advances = record {
-        entry = ap entry_of copy ∙ ap entry_of r.2 ∙ enters_from s.node.installed r.0.node new_is ∙ ap (entered_in r.0.node) (some_same new_is.config g.0 c_is) ∙ ap (entered_by g.0) (sym r.2) ∙ sym (next_is s m g.0 some g.1);
+        entry = copy ∙ r.2 ∙ sym (at_entry r.0.node new_is.config new_is.fresh) ∙ ap (entered_in r.0.node) (some_same new_is.config g.0 c_is) ∙ ap (entered_by g.0) (sym r.2) ∙ sym (next_is s m g.0 some g.1);
         journal = none ∙ ap (λ b. cond b [] (with_event js e)) (sym some);
         published = (subst IsLive same (live_entered s e r.0 g.0 running r.1 some_o shows k)).published;
         taken = (open_, still ∙ free.0);
@@ -108,11 +109,11 @@ begins entry node m fresh js new full full1 published published1 e k open_ still
     some_same : (x y : Configuration) → Some x ≡ Some y → x ≡ y
     some_same x y h = cc
 
-    entered_in : Node → Configuration → EntryPoint
-    entered_in n c = Entered c n.me n.installed n.decisions
+    entered_in : Node → Configuration → Node
+    entered_in n c = node_at (Entered c n.me n.installed n.decisions)
 
-    entered_by : Configuration → Node → EntryPoint
-    entered_by c n = Entered c n.me n.installed n.decisions
+    entered_by : Configuration → Node → Node
+    entered_by c n = node_at (Entered c n.me n.installed n.decisions)
 
 -- ---- a step that was refused
 

@@ -1,15 +1,19 @@
 -- What contracts see of a desk, and of its steps.
-use Rattle.std.specs.Prelude.{◌≡◌, ◌⊎◌, ℕ, ◌≤◌, ◌<◌, ◌||◌, Bool, true, false, List, [], ◌∷◌, ◌++◌, length, Option, Some, None}
+use Rattle.std.specs.Prelude.{◌≡◌, ◌≢◌, ◌⊎◌, ℕ, ◌+◌, ◌≤◌, ◌<◌, ◌||◌, Bool, true, false, List, [], ◌∷◌, ◌++◌, length, Option, Some, None, MatchOption}
 use Rattle.std.specs.List.{AllZip}
 use Rattle.rapid_model.specs.Process.{Process}
 use Rattle.rapid_model.specs.Configuration.{Configuration, Stamp, stamp}
 use Rattle.rapid_model.specs.Node as model
 use Rattle.rapid_model.specs.NodeStep.{node_step}
-use Rattle.rapid_model.specs.Journal.{DeskState, JournalRecord, Entered, Joins, IsDesk, is_full_for, is_journal_full, next_entry, next_journal}
+use Rattle.rapid_model.specs.Journal.{JournalRecord, is_full_for}
 use Rattle.rapid_node.specs.Steps.{IsFault}
-use Rattle.rapid_view.specs.Seen.{Publishing}
-use Rattle.rapid_desk.specs.Records.{entry_of}
-use Rattle.rapid_desk.specs.Notices.{Served, Offered}
+use Rattle.rapid_view.specs.Seen.{Publishing, last_height}
+use Rattle.rapid_view.specs.declared.error.ViewError.{ViewError}
+use Rattle.rapid_view.specs.declared.error.ViewError.TheVariants as view
+use Rattle.rapid_desk.specs.States.{DeskState, IsDesk, is_journal_full, next_entry, next_journal}
+use Rattle.rapid_desk.specs.Notices.{Served, Offered, state_of as mark_of, height_from, IsNextFrom}
+use Rattle.rapid_desk.specs.declared.notice.Notice.{Notice}
+use Rattle.rapid_desk.specs.declared.notice.State.TheVariants as mark
 use Rattle.rapid_desk.specs.declared.error.DeskError.{DeskError}
 use Rattle.rapid_desk.specs.declared.error.DeskError.TheVariants.{JournalFull, OutOfMemory, Node, TooManySubscribers, BadCapacity, Unpublished}
 
@@ -43,15 +47,42 @@ Announced true (Some c) old new = AllZip (Offered c) old new
 Announced true None old new = new ≡ old
 Announced false shown old new = new ≡ old
 
--- The height of what is shown.
-abbrev pub shown_height : Option Configuration → Option ℕ
-shown_height None = None
-shown_height (Some c) = Some c.height
+-- The height of the last view that is published, if there is one.
+abbrev pub shown_height : List Stamp → Option ℕ
+shown_height [] = None
+shown_height (s ∷ stamps) = Some (last_height (s ∷ stamps))
+
+-- A view of this height may be published next.
+abbrev pub IsNextShown : List Stamp → ℕ → Type 0
+IsNextShown published height = MatchOption (shown_height published) (Unit {0}) (λ last. height ≡ last + 1)
+
+-- Each subscription to which nothing but changes was put is told all up to this height.
+abbrev pub Follow : Option ℕ → List Served → Type 0
+Follow shown [] = Unit {0}
+Follow shown (s ∷ subscriptions) = (mark_of s.put ≡ mark.Open → height_from s.since s.put ≡ shown) × Follow shown subscriptions
+
+-- For each subscription to which nothing but changes was put, a view of this height is the next.
+abbrev pub Await : ℕ → List Served → Type 0
+Await height [] = Unit {0}
+Await height (s ∷ subscriptions) = (mark_of s.put ≡ mark.Open → IsNextFrom s.since s.put height) × Await height subscriptions
+
+-- Each subscription has its mark: nothing more comes.
+abbrev pub AreMarked : List Served → Type 0
+AreMarked [] = Unit {0}
+AreMarked (s ∷ subscriptions) = (mark_of s.put ≢ mark.Open) × AreMarked subscriptions
+
+-- Why a view of this height was not published.
+abbrev pub NotPublished : List Stamp → ℕ → ViewError → Type 0
+NotPublished published height view.NotNext = height ≢ last_height published + 1
+NotPublished published height view.CellFull = length published ≡ 65536
+NotPublished published height view.NoPlace = published ≡ []
+NotPublished published height view.OutOfMemory = Unit {0}
+NotPublished published height (view.Behind s) = ⊥
 
 -- What is held, by its parts.
 abbrev pub state_of : model.Node → List JournalRecord → Bool → model.Node → List Stamp → DeskState
 state_of entry journal full n published =
-    record { entry = entry_of entry; journal = journal; full = full; node = n; published = published }
+    record { entry = entry; journal = journal; full = full; node = n; published = published }
 
 -- A node that joins has installed nothing.
 abbrev pub no_installs_in : model.Phase → List Stamp → Type 0
@@ -126,7 +157,12 @@ Tried held event = (is_refused held.full held.journal event ≡ false) × (model
 -- What a node shows, if anything, is published after what was.
 abbrev pub Grown : Option Configuration → List Stamp → List Stamp → Type 0
 Grown None old new = ⊥
-Grown (Some c) old new = new ≡ old ++ stamp c ∷ []
+Grown (Some c) old new = (new ≡ old ++ stamp c ∷ []) × IsNextShown old c.height
+
+-- What is published after a step: also what the node shows where it installed something, and else what was.
+abbrev pub Shown : Bool → Option Configuration → List Stamp → List Stamp → Type 0
+Shown true shown old new = Grown shown old new
+Shown false shown old new = new ≡ old
 
 -- Why the next node was not taken in at a new entry, and what is held then.
 abbrev pub NotEntered : HeldValue → HeldValue → DeskError → Type 0
@@ -142,7 +178,7 @@ abbrev pub Refused : DeskState → model.Event → DeskState → DeskError → T
 Refused old event new JournalFull = (is_journal_full old event ≡ true) × (length old.journal ≡ 65536) × (new ≡ record old { full = true })
 Refused old event new OutOfMemory = (is_journal_full old event ≡ false) × (new ≡ old)
 Refused old event new (Node fault) = (is_journal_full old event ≡ false) × IsFault old.node event new.node fault × (new ≡ record old { node = new.node })
-Refused old event new Unpublished = (is_journal_full old event ≡ false) × ((n : model.Node) × Installs old.node event n × (new ≡ record old { node = model.halt n }))
+Refused old event new Unpublished = (is_journal_full old event ≡ false) × (length old.published < 65536) × ((n : model.Node) × Installs old.node event n × (new ≡ record old { node = model.halt n }))
 Refused old event new TooManySubscribers = ⊥
 Refused old event new BadCapacity = ⊥
 
@@ -158,11 +194,11 @@ code_of Unpublished = 6
 -- The desk of a founder, at first.
 abbrev pub seed_state : Configuration → Process → DeskState
 seed_state c me =
-    record { entry = Entered c me (stamp c ∷ []) []; journal = []; full = false; node = model.seed_node c me; published = stamp c ∷ [] }
+    record { entry = model.seed_node c me; journal = []; full = false; node = model.seed_node c me; published = stamp c ∷ [] }
 
 -- The desk of a process that joins, at first.
 abbrev pub joiner_state : Process → List ℕ → DeskState
-joiner_state me seed = record { entry = Joins me seed; journal = []; full = false; node = model.joiner_node me seed; published = [] }
+joiner_state me seed = record { entry = model.joiner_node me seed; journal = []; full = false; node = model.joiner_node me seed; published = [] }
 
 -- Why there is no subscription of this capacity at a desk that serves so many.
 abbrev pub NotSubscribed : ℕ → ℕ → DeskError → Type 0
@@ -172,3 +208,16 @@ NotSubscribed capacity n OutOfMemory = (0 < capacity) × (capacity ≤ 1024) × 
 NotSubscribed capacity n JournalFull = ⊥
 NotSubscribed capacity n (Node fault) = ⊥
 NotSubscribed capacity n Unpublished = ⊥
+
+-- Why there is no checkpoint.
+abbrev pub NoCheckpoint : Bool → DeskError → Type 0
+NoCheckpoint full JournalFull = full ≡ true
+NoCheckpoint full OutOfMemory = full ≡ false
+NoCheckpoint full (Node fault) = ⊥
+NoCheckpoint full TooManySubscribers = ⊥
+NoCheckpoint full BadCapacity = ⊥
+NoCheckpoint full Unpublished = ⊥
+
+-- A subscription of which this is known to be taken.
+abbrev pub with_known : List Notice → Served → Served
+with_known taken s = record { queue = s.queue; since = s.since; capacity = s.capacity; put = s.put; known = taken }

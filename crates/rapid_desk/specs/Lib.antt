@@ -1,4 +1,5 @@
 pub mod Records
+pub mod States
 pub mod Notices
 pub mod Desks
 pub mod Taking

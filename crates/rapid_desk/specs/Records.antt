@@ -1,6 +1,6 @@
 -- The journal that is kept, as the definitions see it.
 use Rattle.std.specs.Prelude.{ℕ, ◌-◌, ◌^◌, Bool, false, List, [], ◌∷◌, map, nat_lt, if◌then◌else◌}
-use Rattle.rapid_model.specs.Node.{Node, Phase, Joining, Member, Removed, Halted, Event, EdgeDown, Tick, Receive}
+use Rattle.rapid_model.specs.Node.{Event, EdgeDown, Tick, Receive}
 use Rattle.rapid_model.specs.Journal as model
 use Rattle.rapid_node.specs.Steps.{event_of}
 use Rattle.rapid_desk.specs.declared.journal.JournalRecord.{JournalRecord}
@@ -14,16 +14,6 @@ record_of (Other e) = model.Other (event_of e)
 -- The records of a journal.
 abbrev pub records : List JournalRecord → List model.JournalRecord
 records journal = map record_of journal
-
--- Where a journal begins, by the node there.
-abbrev pub entry_in : Node → Phase → model.EntryPoint
-entry_in n (Joining j) = model.Joins n.me j.seed
-entry_in n (Member s) = model.Entered s.config n.me n.installed n.decisions
-entry_in n (Removed c) = model.Entered c n.me n.installed n.decisions
-entry_in n (Halted shown) = model.Joins n.me []
-
-abbrev pub entry_of : Node → model.EntryPoint
-entry_of n = entry_in n n.phase
 
 -- A tick more is joined to the last record.
 abbrev pub joins : List model.JournalRecord → Bool

@@ -1,9 +1,9 @@
 // Where a desk publishes its views.
 
-ghost use Rattle.std.specs.Prelude.{◌≡◌, ◌≤◌, ◌<◌, ◌||◌, [], ◌∷◌, ◌++◌, true, false, All, vec_len, is_some, IfOk, IfErr, IfSome};
+ghost use Rattle.std.specs.Prelude.{◌≡◌, ◌≤◌, ◌<◌, ◌||◌, [], ◌∷◌, ◌++◌, true, false, All, vec_len, is_some, IfOk, IfErr, IfSome, OnOk};
 ghost use Rattle.atomic_table.specs.Seated.{TableId};
 ghost use Rattle.rapid_model.specs.Configuration as model;
-ghost use Rattle.rapid_desk.specs.Desks.{is_blank};
+ghost use Rattle.rapid_desk.specs.Desks.{is_blank, shown_height, IsNextShown, NotPublished};
 
 use rapid_view::{View, ViewCell, ViewError, ViewSeat, ViewWriter};
 use std::alloc::Global;
@@ -11,7 +11,7 @@ use std::marker::Model;
 use std::sync::Wait;
 
 /// The views that a desk has published, and the seats that nobody has taken yet. The cell is made
-/// with the first view.
+/// with the first view, and has room for 65,536. `height` is that of the last view.
 #[derive(Drop)]
 pub struct Board<R: Wait + Copy + Drop> {
     rt: R,
@@ -19,17 +19,18 @@ pub struct Board<R: Wait + Copy + Drop> {
     count: usize,
     writer: Option<ViewWriter<R>>,
     seats: Option<Vec<ViewSeat>>,
+    height: Option<u64>,
 }
 
 impl<R: Wait + Copy + Drop> Model for Board<R> {
     ghost use Rattle.std.specs.Prelude.{◌≡◌, ◌≤◌, ◌<◌, length, vec_len, All, is_some, IsSome, IfSome};
-    ghost use Rattle.rapid_desk.specs.Desks.{BoardValue, seen_by};
+    ghost use Rattle.rapid_desk.specs.Desks.{BoardValue, seen_by, shown_height};
 
     ghost Value = { BoardValue };
 
     ghost view = { λ b. record { published = seen_by b.writer; seats = is_some b.seats; count = b.count } };
 
-    ghost invariant = { λ b. (0 < b.count) × (b.count ≤ 64) × IfSome b.writer (λ w. 0 < length w.seen) × IfSome b.seats (λ all. (vec_len all ≡ b.count) × IsSome b.writer × All (λ s. IfSome b.writer (λ w. s.cell ≡ w.cell)) all.items) };
+    ghost invariant = { λ b. (0 < b.count) × (b.count ≤ 64) × IfSome b.writer (λ w. (0 < length w.seen) × (w.room ≡ 65536)) × IfSome b.seats (λ all. (vec_len all ≡ b.count) × IsSome b.writer × All (λ s. IfSome b.writer (λ w. s.cell ≡ w.cell)) all.items) × (b.height ≡ shown_height (seen_by b.writer)) };
 }
 
 impl<R: Wait + Copy + Drop> Board<R> {
@@ -44,6 +45,7 @@ impl<R: Wait + Copy + Drop> Board<R> {
             count,
             writer: None,
             seats: None,
+            height: None,
         }
     }
 
@@ -53,23 +55,55 @@ impl<R: Wait + Copy + Drop> Board<R> {
         ensures published { IfOk result (λ _. self.new.published ≡ model.stamp view ∷ []) }
         ensures seats { IfOk result (λ _. (self.new.seats ≡ true) × (self.new.count ≡ self.old.count)) }
         ensures unchanged { IfErr result (λ _. self.new ≡ self.old) }
+        ensures refused { IfErr result (NotPublished self.old.published view.height) }
     {
+        let height = view.configuration().height();
         let (writer, seats) = ViewCell::new(self.rt, self.alloc, view, self.count, ViewCell::MOST)?;
         self.writer = Some(writer);
         self.seats = Some(seats);
+        self.height = Some(height);
         Ok(())
     }
 
-    /// Publishes a view. The first makes the cell. An error changes nothing.
+    /// Publishes a view after the first. An error changes nothing.
+    fn go_on(&mut self, view: View) -> Result<(), ViewError>
+        requires { is_blank self.old.published ≡ false }
+        ensures published { IfOk result (λ _. self.new.published ≡ self.old.published ++ model.stamp view ∷ []) }
+        ensures next { OnOk result (IsNextShown self.old.published view.height) }
+        ensures seats { (self.new.seats ≡ self.old.seats) × (self.new.count ≡ self.old.count) }
+        ensures unchanged { IfErr result (λ _. self.new ≡ self.old) }
+        ensures refused { IfErr result (NotPublished self.old.published view.height) }
+    {
+        let height = view.configuration().height();
+        let Some(writer) = &mut self.writer else {
+            unreachable!()
+        };
+        writer.publish(view)?;
+        self.height = Some(height);
+        Ok(())
+    }
+
+    /// Publishes a view. The first makes the cell. An error changes nothing. `CellFull` comes only
+    /// when 65,536 views are published.
     pub(crate) fn publish(&mut self, view: View) -> Result<(), ViewError>
         ensures published { IfOk result (λ _. self.new.published ≡ self.old.published ++ model.stamp view ∷ []) }
+        ensures next { OnOk result (IsNextShown self.old.published view.height) }
+        ensures refused { IfErr result (NotPublished self.old.published view.height) }
         ensures seats { IfOk result (λ _. (self.new.seats ≡ (self.old.seats || is_blank self.old.published)) × (self.new.count ≡ self.old.count)) }
         ensures unchanged { IfErr result (λ _. self.new ≡ self.old) }
     {
-        match &mut self.writer {
-            Some(writer) => writer.publish(view),
-            None => self.open(view),
+        if self.height.is_some() {
+            self.go_on(view)
+        } else {
+            self.open(view)
         }
+    }
+
+    /// The height of the last view that is published, if there is one.
+    pub(crate) fn height(&self) -> Option<u64>
+        ensures { result ≡ shown_height self.now.published }
+    {
+        self.height
     }
 
     /// The seats, once.

@@ -1,17 +1,18 @@
 // A desk: a node, its journal and its published views.
 
-ghost use Rattle.std.specs.Prelude.{◌≡◌, ◌⊎◌, ◌<◌, ◌≤◌, true, ◌++◌, ◌∷◌, ◌||◌, ◌&&◌, not, [], false, All, length, vec_len, slice_get, is_some, IsSome, IsSomeAnd, IfOk, IfErr, IfSome, OnOk, OnErr};
+ghost use Rattle.std.specs.Prelude.{◌≡◌, ◌⊎◌, ◌<◌, ◌≤◌, true, ◌++◌, ◌∷◌, ◌||◌, ◌&&◌, not, [], false, All, length, vec_len, slice_get, slice_set, is_some, IsSome, IsSomeAnd, IfOk, IfErr, IfSome, OnOk, OnErr};
 ghost use Rattle.std.specs.List.{AllZip};
 ghost use Rattle.atomic_table.specs.Seated.{TableId};
 ghost use Rattle.rapid_line.specs.Line.{StartsWith};
 ghost use Rattle.rapid_model.specs.Node.{configuration_of, has_installed};
 ghost use Rattle.rapid_model.specs.NodeStep.{node_step};
+ghost use Rattle.rapid_node.specs.Phases.{name_of};
 ghost use Rattle.rapid_node.specs.Steps.{event_of, HasOutcome};
 ghost use Rattle.rapid_model.specs.Configuration.{is_member};
-ghost use Rattle.rapid_model.specs.Journal.{IsDesk};
 ghost use Rattle.rapid_desk.specs.declared.error.DeskError.TheVariants.{OutOfMemory, Unpublished};
 ghost use Rattle.rapid_desk.specs.Notices.{Offered, Ended};
-ghost use Rattle.rapid_desk.specs.Desks.{shown_height, Announced, seed_state, joiner_state, is_blank, state_with, Grown, Keeps, Tried, NotEntered, Advances, Refused, NotSubscribed};
+ghost use Rattle.rapid_desk.specs.States.{IsDesk, at_checkpoint};
+ghost use Rattle.rapid_desk.specs.Desks.{no_installs_in, shown_height, Announced, seed_state, joiner_state, is_blank, state_with, Await, AreMarked, Shown, Grown, Keeps, Tried, NotEntered, Advances, Refused, NotSubscribed, NoCheckpoint, with_known};
 
 use crate::DeskError;
 use crate::board::Board;
@@ -20,7 +21,7 @@ use crate::outlet::{Outlet, subscribe};
 use crate::subscription::Subscription;
 use rapid_config::Configuration;
 use rapid_endpoint::{Endpoint, Process};
-use rapid_node::{Event, Node, Outputs};
+use rapid_node::{Event, Node, Outputs, Phase};
 use rapid_view::{View, ViewError, ViewSeat};
 use std::alloc::Global;
 use std::marker::Model;
@@ -47,7 +48,7 @@ pub struct Desk<R: Wait + Copy + Drop> {
 impl<R: Wait + Copy + Drop> Model for Desk<R> {
     ghost use Rattle.std.specs.Coded.{codes};
     ghost use Rattle.rapid_node.specs.Codes.{node_code};
-    ghost use Rattle.rapid_desk.specs.Desks.{DeskValue, Keeps, state_with};
+    ghost use Rattle.rapid_desk.specs.Desks.{DeskValue, Follow, Keeps, shown_height, state_with};
 
     ghost Value = { DeskValue };
 
@@ -55,7 +56,7 @@ impl<R: Wait + Copy + Drop> Model for Desk<R> {
 
     ghost view = { λ d. record { state = state_with d.held d.board.published; seats = d.board.seats; count = d.board.count; subscriptions = d.outlets.items } };
 
-    ghost invariant = { λ d. Keeps (state_with d.held d.board.published) };
+    ghost invariant = { λ d. Keeps (state_with d.held d.board.published) × Follow (shown_height d.board.published) d.outlets.items };
 }
 
 /// Publishes what the node shows.
@@ -112,7 +113,8 @@ fn settle<R: Wait + Copy + Drop>(
     ensures advances { OnOk result (Advances (state_with held.old board.old.published) (event_of event) (state_with held.new board.new.published) × (held.new.node ≡ held.old.next)) }
     ensures seats { OnOk result (board.new.seats ≡ (board.old.seats || (is_blank board.old.published && not (is_blank board.new.published)))) }
     ensures refused { IfErr result (Refused (state_with held.old board.old.published) (event_of event) (state_with held.new board.new.published)) }
-    ensures same_seats { OnErr result (board.new.seats ≡ board.old.seats) }
+    ensures shown { OnOk result (Shown (has_installed held.old.node held.old.next) (configuration_of held.old.next) board.old.published board.new.published) }
+    ensures unchanged { OnErr result (board.new ≡ board.old) }
     ensures count { board.new.count ≡ board.old.count }
 {
     if held.installs() {
@@ -122,16 +124,6 @@ fn settle<R: Wait + Copy + Drop>(
     Ok(())
 }
 
-/// The height of what the node shows.
-fn height_shown(node: &Node) -> Option<u64>
-    ensures { result ≡ shown_height (configuration_of node.now) }
-{
-    match node.configuration() {
-        Some(configuration) => Some(configuration.height()),
-        None => None,
-    }
-}
-
 /// Puts the view of the configuration for each subscriber.
 fn offer_all<R: Wait>(
     outlets: &mut Vec<Outlet>,
@@ -139,6 +131,7 @@ fn offer_all<R: Wait>(
     alloc: Global,
     configuration: &Configuration,
 )
+    requires { Await configuration.now.height outlets.old.items }
     ensures { AllZip (Offered configuration.now) outlets.old.items outlets.new.items }
 {
     for outlet in outlets.iter_mut() {
@@ -146,8 +139,9 @@ fn offer_all<R: Wait>(
     }
 }
 
-/// Puts what the node shows for each subscriber, where something was installed.
+/// Puts what the node shows for each subscriber, if something was installed.
 fn announce<R: Wait>(outlets: &mut Vec<Outlet>, rt: &R, alloc: Global, node: &Node, installed: bool)
+    requires { installed ≡ true → IfSome (configuration_of node.now) (λ c. Await c.height outlets.old.items) }
     ensures { Announced installed (configuration_of node.now) outlets.old.items outlets.new.items }
 {
     if !installed {
@@ -165,6 +159,14 @@ fn end_all<R: Wait>(outlets: &mut Vec<Outlet>, rt: &R)
     for outlet in outlets.iter_mut() {
         outlet.close(rt);
     }
+}
+
+/// Drops subscriptions that have their mark.
+fn drop_marked(outlets: &mut Vec<Outlet>)
+    requires { AreMarked outlets.old.items }
+    ensures { outlets.new.items ≡ [] }
+{
+    outlets.clear();
 }
 
 impl<R: Wait + Copy + Drop> Desk<R> {
@@ -228,13 +230,47 @@ impl<R: Wait + Copy + Drop> Desk<R> {
         })
     }
 
-    /// The node is the replay of the journal and what it installed is published, or it has halted.
-    /// It does nothing: what it ensures is for proofs.
+    /// The node is the replay of the journal from its entry and what it installed is published, or
+    /// it has halted. While it joins nothing is published. It does nothing: what it ensures is for
+    /// proofs.
     #[inline(always)]
     pub fn tell(&self)
-        ensures { IsDesk self.now.state }
+        ensures desk { IsDesk self.now.state }
+        ensures joining { no_installs_in self.now.state.node.phase self.now.state.published }
     {
         let _ = &self.held;
+    }
+
+    /// The phase of the node.
+    pub fn phase(&self) -> Phase
+        ensures { result ≡ name_of self.now.state.node.phase }
+    {
+        self.held.node().phase()
+    }
+
+    /// How many records the journal has, at most 65,536.
+    pub fn journal_len(&self) -> usize
+        ensures { result ≡ length self.now.state.journal }
+    {
+        self.held.journal_len()
+    }
+
+    /// Begins the journal anew: its entry becomes a copy of the node, and it has no record. The
+    /// node, what is published and who is subscribed stay. A desk of which this is asked now and
+    /// then never meets `JournalFull`, also if its configuration stays for long.
+    ///
+    /// # Errors
+    ///
+    /// Checked first: `JournalFull` if an event was refused so before. `OutOfMemory` if there was
+    /// no memory for the copy. Both change nothing.
+    pub fn checkpoint(&mut self) -> Result<(), DeskError>
+        ensures ok { OnOk result ((self.old.state.full ≡ false) × (self.new.state ≡ at_checkpoint self.old.state)) }
+        ensures desk { IsDesk self.new.state }
+        ensures same { (self.new.seats ≡ self.old.seats) × (self.new.count ≡ self.old.count) × (self.new.subscriptions ≡ self.old.subscriptions) }
+        ensures refused { IfErr result (NoCheckpoint self.old.state.full) }
+        ensures unchanged { OnErr result (self.new ≡ self.old) }
+    {
+        self.held.checkpoint()
     }
 
     /// One event at the node, and what is to be sent after it, in order. Afterwards the journal has
@@ -283,8 +319,8 @@ impl<R: Wait + Copy + Drop> Desk<R> {
         self.board.take_seats()
     }
 
-    /// A subscription to the views that come after the one that the node shows now, with room for
-    /// so many that wait.
+    /// A subscription to the views that come after the one that is published last, with room for so
+    /// many that wait.
     ///
     /// # Errors
     ///
@@ -293,7 +329,7 @@ impl<R: Wait + Copy + Drop> Desk<R> {
     pub fn subscribe(&mut self, capacity: usize) -> Result<Subscription, DeskError>
         ensures same { (self.new.state ≡ self.old.state) × (self.new.seats ≡ self.old.seats) × (self.new.count ≡ self.old.count) }
         ensures ok { OnOk result ((0 < capacity) × (capacity ≤ 1024) × (length self.old.subscriptions < 64)) }
-        ensures served { IfOk result (λ subscription. self.new.subscriptions ≡ self.old.subscriptions ++ record { queue = subscription.0; since = shown_height (configuration_of self.old.state.node); put = [] } ∷ []) }
+        ensures served { IfOk result (λ subscription. self.new.subscriptions ≡ self.old.subscriptions ++ record { queue = subscription.0; since = shown_height self.old.state.published; capacity = capacity; put = []; known = [] } ∷ []) }
         ensures untaken { IfOk result (λ subscription. subscription.1 ≡ []) }
         ensures refused { IfErr result (NotSubscribed capacity (length self.old.subscriptions)) }
         ensures unchanged { OnErr result (self.new.subscriptions ≡ self.old.subscriptions) }
@@ -304,7 +340,7 @@ impl<R: Wait + Copy + Drop> Desk<R> {
         if self.outlets.len() >= MOST_SUBSCRIBERS {
             return Err(DeskError::TooManySubscribers);
         }
-        let since = height_shown(self.held.node());
+        let since = self.board.height();
         let (outlet, subscription) = subscribe(self.alloc, capacity, since)?;
         match self.outlets.push(outlet) {
             Ok(()) => Ok(subscription),
@@ -312,19 +348,22 @@ impl<R: Wait + Copy + Drop> Desk<R> {
         }
     }
 
-    /// Ends the subscriptions made so far, which count no more: what is there is still taken.
+    /// Ends the subscriptions made so far, which count no more: what is there is still taken. Who
+    /// owns a desk whose node has halted closes it, else its subscribers wait for ever.
     pub fn close(&mut self)
         ensures { self.new ≡ record self.old { subscriptions = [] } }
     {
         end_all(&mut self.outlets, &self.rt);
-        self.outlets.clear();
+        drop_marked(&mut self.outlets);
     }
 
     /// What a subscriber has taken is a beginning of what was put for it, in order, each change
-    /// once. The number is that of its subscription among those that the desk serves, by age.
+    /// once, and is known to be taken from then on. The number is that of its subscription among
+    /// those that the desk serves, by age.
     pub fn compare(&mut self, number: usize, subscription: &mut Subscription)
         requires served { IsSomeAnd (slice_get self.old.subscriptions number) (λ s. s.queue ≡ subscription.old.0) }
-        ensures same { (self.new ≡ self.old) × (subscription.new ≡ subscription.old) }
+        ensures same { (self.new ≡ record self.old { subscriptions = self.new.subscriptions }) × (subscription.new ≡ subscription.old) }
+        ensures known { IfSome (slice_get self.old.subscriptions number) (λ s. self.new.subscriptions ≡ slice_set self.old.subscriptions number (with_known subscription.old.1 s)) }
         ensures order { IfSome (slice_get self.old.subscriptions number) (λ s. StartsWith s.put subscription.old.1) }
     {
         self.outlets[number].compare(subscription);

@@ -6,7 +6,7 @@ ghost use Rattle.rapid_model.specs.Node as model;
 ghost use Rattle.rapid_model.specs.NodeStep.{node_step};
 ghost use Rattle.rapid_node.specs.Steps.{event_of, HasOutcome};
 ghost use Rattle.rapid_desk.specs.Records.{records};
-ghost use Rattle.rapid_desk.specs.Desks.{is_refused, HasNoRoom, NotTaken};
+ghost use Rattle.rapid_desk.specs.Desks.{is_refused, HasNoRoom, NotTaken, NoCheckpoint};
 
 use crate::DeskError;
 use crate::journal::{self, JournalRecord};
@@ -151,9 +151,47 @@ impl Held {
     pub(crate) fn begin(&mut self, entry: Box<Node>)
         ensures { (self.new.entry ≡ entry.value) × (self.new.journal ≡ []) × (self.new.full ≡ self.old.full) × (self.new.node ≡ self.old.next) }
     {
+        self.begin_at(entry);
+        mem::swap(&mut self.node, &mut self.next);
+    }
+
+    /// How many records the journal has.
+    #[tactic(auto, using(crate::proofs::Stepping::records_length))]
+    pub(crate) fn journal_len(&self) -> usize
+        ensures { result ≡ length self.now.journal }
+    {
+        self.journal.len()
+    }
+
+    /// The journal begins anew at this entry.
+    fn begin_at(&mut self, entry: Box<Node>)
+        ensures begun { (self.new.entry ≡ entry.value) × (self.new.journal ≡ []) }
+        ensures same { (self.new.full ≡ self.old.full) × (self.new.node ≡ self.old.node) × (self.new.next ≡ self.old.next) }
+    {
         self.journal.clear();
         self.entry = entry;
-        mem::swap(&mut self.node, &mut self.next);
+    }
+
+    /// A copy of the node.
+    fn copy_node(&self) -> Result<Box<Node>, AllocError>
+        ensures { IfOk result (λ copy. copy.value ≡ self.now.node) }
+    {
+        Ok(Box::new(self.alloc, self.node.try_copy()?)?)
+    }
+
+    /// The journal begins anew at the node as it is. An error changes nothing.
+    pub(crate) fn checkpoint(&mut self) -> Result<(), DeskError>
+        ensures ok { OnOk result ((self.old.full ≡ false) × (self.new.full ≡ false) × (self.new.node ≡ self.old.node)) }
+        ensures begun { OnOk result ((self.new.entry ≡ self.old.node) × (self.new.journal ≡ [])) }
+        ensures refused { IfErr result (NoCheckpoint self.old.full) }
+        ensures unchanged { OnErr result (self.new ≡ self.old) }
+    {
+        if self.full {
+            return Err(DeskError::JournalFull);
+        }
+        let entry = self.copy_node()?;
+        self.begin_at(entry);
+        Ok(())
     }
 
     /// Takes in the node that the step made, which halts.

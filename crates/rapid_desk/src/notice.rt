@@ -3,13 +3,22 @@
 use rapid_line::Order;
 use rapid_view::View;
 
+/// Why a change was not put for a subscriber.
+#[derive(Clone, Copy, Debug, PartialEq, Eq)]
+pub enum Loss {
+    /// As many changes waited as the subscription has room for.
+    Full,
+    /// There was no memory for a copy of the view.
+    Memory,
+}
+
 /// What is put for a subscriber.
 #[derive(Drop)]
 pub enum Notice {
     /// A view was installed.
     Change(View),
-    /// A change was lost.
-    Lag,
+    /// A change was lost, for this reason.
+    Lag(Loss),
     /// No more changes come.
     End,
 }

@@ -1,10 +1,11 @@
 // The desk's side of a subscription.
 
-ghost use Rattle.std.specs.Prelude.{◌≡◌, ◌⊎◌, ℕ, ◌+◌, ◌<◌, ◌≤◌, List, [], ◌∷◌, ◌++◌, IfOk, IsTrue, IsFalse, None, MatchOption};
+ghost use Rattle.std.specs.Prelude.{◌≡◌, ◌⊎◌, ℕ, ◌+◌, ◌<◌, ◌≤◌, List, [], ◌∷◌, ◌++◌, IfOk, IfErr, OnOk};
 ghost use Rattle.rapid_line.specs.Line.{StartsWith};
-ghost use Rattle.rapid_desk.specs.Notices.{state_of, height_from, with_notice, IsNextFrom, MayFollow, Offered, Ended};
+ghost use Rattle.rapid_desk.specs.Notices.{state_of, with_notice, IsNextFrom, IsLost, MayFollow, Offered, Ended};
+ghost use Rattle.rapid_desk.specs.Desks.{with_known};
 
-use crate::notice::{Notice, State, Successive};
+use crate::notice::{Loss, Notice, State, Successive};
 use crate::subscription::Subscription;
 use rapid_config::Configuration;
 use rapid_line::Sink;
@@ -13,26 +14,26 @@ use std::alloc::{AllocError, Global};
 use std::marker::Model;
 use std::sync::Wait;
 
-/// The desk's end of a subscription. Contracts see its queue, the height of the view that was there
-/// when it was made, and what was put.
+/// The desk's end of a subscription. Contracts see its queue, the height of the view that was
+/// published last when it was made, how many changes may wait, what was put, and what is known to
+/// be taken of that.
 #[derive(Drop)]
 pub struct Outlet {
     sink: Sink<Notice, Successive>,
     capacity: usize,
     state: State,
     since: Option<u64>,
-    last: Option<u64>,
 }
 
 impl Model for Outlet {
-    ghost use Rattle.std.specs.Prelude.{◌≡◌};
-    ghost use Rattle.rapid_desk.specs.Notices.{Served, state_of, height_from};
+    ghost use Rattle.std.specs.Prelude.{◌≡◌, ◌+◌};
+    ghost use Rattle.rapid_desk.specs.Notices.{Served, state_of};
 
     ghost Value = { Served };
 
-    ghost view = { λ o. record { queue = o.sink.0; since = o.since; put = o.sink.1 } };
+    ghost view = { λ o. record { queue = o.sink.0; since = o.since; capacity = o.capacity; put = o.sink.1; known = o.sink.2 } };
 
-    ghost invariant = { λ o. (o.state ≡ state_of o.sink.1) × (o.last ≡ height_from o.since o.sink.1) };
+    ghost invariant = { λ o. (o.state ≡ state_of o.sink.1) × (o.sink.3 ≡ o.capacity + 1) };
 }
 
 /// A subscription with room for so many changes, from a view of this height on.
@@ -42,7 +43,7 @@ pub(crate) fn subscribe(
     since: Option<u64>,
 ) -> Result<(Outlet, Subscription), AllocError>
     requires { (0 < capacity) × (capacity ≤ 1024) }
-    ensures { IfOk result (λ r. (r.0 ≡ record { queue = r.1.0; since = since; put = [] }) × (r.1.1 ≡ [])) }
+    ensures { IfOk result (λ r. (r.0 ≡ record { queue = r.1.0; since = since; capacity = capacity; put = []; known = [] }) × (r.1.1 ≡ [])) }
 {
     let (sink, source) = rapid_line::line(alloc, capacity + 1)?;
     let outlet = Outlet {
@@ -50,56 +51,62 @@ pub(crate) fn subscribe(
         capacity,
         state: State::Open,
         since,
-        last: since,
     };
     Ok((outlet, Subscription::new(source)))
 }
 
-#[tactic(auto, using(crate::proofs::Marks::state_of_now, crate::proofs::Marks::height_now, crate::proofs::Marks::next_in_queue))]
+#[tactic(auto, using(crate::proofs::Marks::state_of_now, crate::proofs::Marks::next_in_queue))]
 impl Outlet {
-    /// Puts a view of the configuration, and a mark in its place where there is no room or no
-    /// memory for it. Behind a mark nothing is put.
+    /// Puts a view of the configuration, which is the next. If there is no room or no memory for
+    /// it, a mark that says so is put in its place. Behind a mark nothing is put.
     pub(crate) fn offer<R: Wait>(&mut self, rt: &R, alloc: Global, configuration: &Configuration)
+        requires { state_of self.old.put ≡ State.Open → IsNextFrom self.old.since self.old.put configuration.now.height }
         ensures { Offered configuration.now self.old self.new }
     {
         if self.state != State::Open {
             return;
         }
-        if !self.put(rt, alloc, configuration) {
-            self.lag(rt);
+        match self.put(rt, alloc, configuration) {
+            Ok(()) => {}
+            Err(loss) => self.lag(rt, loss),
         }
     }
 
-    /// Puts a view of the configuration, and answers whether there was room and memory for it.
-    fn put<R: Wait>(&mut self, rt: &R, alloc: Global, configuration: &Configuration) -> bool
-        requires { state_of self.old.put ≡ State.Open }
-        ensures put { IsTrue result → (self.new ≡ with_notice self.old (Notice.Change configuration.now)) × IsNextFrom self.old.since self.old.put configuration.now.height }
-        ensures lost { IsFalse result → self.new ≡ self.old }
+    /// Puts a view of the configuration, or answers why it is lost.
+    fn put<R: Wait>(
+        &mut self,
+        rt: &R,
+        alloc: Global,
+        configuration: &Configuration,
+    ) -> Result<(), Loss>
+        requires open { state_of self.old.put ≡ State.Open }
+        requires next { IsNextFrom self.old.since self.old.put configuration.now.height }
+        ensures put { OnOk result (self.new ≡ with_notice self.old (Notice.Change configuration.now)) }
+        ensures lost { IfErr result (λ loss. (self.new ≡ self.old) × IsLost self.old loss) }
     {
-        let height = configuration.height();
-        if !is_next(self.last, height) || self.sink.len(rt) >= self.capacity {
-            return false;
+        if self.sink.len(rt) >= self.capacity {
+            return Err(Loss::Full);
         }
         let Ok(copy) = configuration.try_copy(alloc) else {
-            return false;
+            return Err(Loss::Memory);
         };
         let Ok(()) = self.sink.put(rt, Notice::Change(View::new(copy))) else {
-            return false;
+            return Err(Loss::Full);
         };
-        self.last = Some(height);
-        true
+        Ok(())
     }
 
-    /// Puts the mark that a change was lost. The queue has room for one mark beside its changes.
-    fn lag<R: Wait>(&mut self, rt: &R)
+    /// Puts the mark that a change was lost, and why. The queue has room for one mark beside its
+    /// changes.
+    fn lag<R: Wait>(&mut self, rt: &R, loss: Loss)
         requires { state_of self.old.put ≡ State.Open }
-        ensures { self.new ≡ with_notice self.old Notice.Lag }
+        ensures { self.new ≡ with_notice self.old (Notice.Lag loss) }
     {
-        self.sink.put_when_free(rt, Notice::Lag);
+        self.sink.put_when_free(rt, Notice::Lag(loss));
         self.state = State::Lagged;
     }
 
-    /// Puts the mark that nothing more comes, where there is no mark yet.
+    /// Puts the mark that nothing more comes, if there is no mark yet.
     pub(crate) fn close<R: Wait>(&mut self, rt: &R)
         ensures { Ended self.old self.new }
     {
@@ -110,22 +117,14 @@ impl Outlet {
         self.state = State::Closed;
     }
 
-    /// What the subscriber has taken is a beginning of what was put.
+    /// What the subscriber has taken is a beginning of what was put, and is known to be taken from
+    /// then on.
     pub(crate) fn compare(&mut self, subscription: &mut Subscription)
         requires { self.old.queue ≡ subscription.old.0 }
-        ensures same { (self.new ≡ self.old) × (subscription.new ≡ subscription.old) }
+        ensures known { self.new ≡ with_known subscription.old.1 self.old }
+        ensures same { subscription.new ≡ subscription.old }
         ensures order { StartsWith self.old.put subscription.old.1 }
     {
         self.sink.compare(&mut subscription.source);
-    }
-}
-
-/// Whether a view of this height may follow the last.
-fn is_next(last: Option<u64>, height: u64) -> bool
-    ensures { IsTrue result → MatchOption last (Unit {0}) (λ n. height ≡ n + 1) }
-{
-    match last {
-        None => true,
-        Some(n) => height > 0 && height - 1 == n,
     }
 }

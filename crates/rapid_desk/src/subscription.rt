@@ -76,7 +76,7 @@ impl Subscription {
         match self.source.take(rt) {
             None => Taken::Empty,
             Some(Notice::Change(view)) => Taken::Change(view),
-            Some(Notice::Lag) => {
+            Some(Notice::Lag(_)) => {
                 self.state = State::Lagged;
                 Taken::Lagged
             }

@@ -1,11 +1,11 @@
 -- Each move keeps the rule.
-use Rattle.std.proofs.Common.{◌≡◌, ◌≢◌, ◌⊎◌, ℕ, zero, suc, ◌<◌, Bool, true, false, true≢false, List, [], ◌∷◌, ◌++◌, length, set, sym, refl, ap, ◌∙◌, subst, inl, inr, ⊎_elim, append_assoc, append-nil}
+use Rattle.std.proofs.Common.{◌≡◌, ◌≢◌, ℕ, zero, suc, true, false, true≢false, List, [], ◌∷◌, ◌++◌, length, set, sym, refl, ap, ◌∙◌, subst, ⊎_elim, append_assoc, append-nil}
 use mathlib.Core.Option.{some, some-ne-none, some-injective}
 use lib.ListN.{get_elem?}
 use Rattle.crossbeam_queue.specs.Fifo.{Pushes, Pops, Forks, Merges, Learns}
 use Rattle.crossbeam_queue.proofs.Lists.{at_set, at_snoc, set_again}
 use Rattle.rapid_line.specs.declared.Post.{Post}
-use Rattle.rapid_line.specs.Line.{post, StartsWith, Follows, Fits, Kept}
+use Rattle.rapid_line.specs.Line.{post, StartsWith, Waiting, Follows, Fits, Kept}
 
 off : false ≡ true → ⊥
 off e = true≢false (sym e)
@@ -55,8 +55,8 @@ module _ {T : Type 0} where
             taken = k.taken;
             whole = ap (λ l. l ++ x ∷ []) k.whole ∙ append_assoc k.taken items (x ∷ []);
             follows = follows_more next [] k.put x k.follows (subst (λ l. next l x) mine.1 follows);
-            each = all_set (Fits k.writer k.reader now k.taken) views port w record { puts = λ _. (mine.0, ap (λ l. l ++ x ∷ []) mine.1); takes = f.takes; claims = longer k.put v.taken x f.claims }
-                (λ j u other e. let g = k.each j u e in record { puts = λ p. absurd (other ((g.puts p).0 ∙ sym mine.0)); takes = g.takes; claims = longer k.put u.taken x g.claims });
+            each = all_set (Fits k.writer k.reader now k.taken) views port w record { puts = λ _. (mine.0, ap (λ l. l ++ x ∷ []) mine.1); takes = f.takes; claims = f.claims }
+                (λ j u other e. let g = k.each j u e in record { puts = λ p. absurd (other ((g.puts p).0 ∙ sym mine.0)); takes = g.takes; claims = g.claims });
           },
           refl,
         )
@@ -76,8 +76,8 @@ module _ {T : Type 0} where
             taken = now;
             whole = whole;
             follows = k.follows;
-            each = all_set (Fits k.writer k.reader k.put now) views port w record { puts = f.puts; takes = λ _. (mine.0, ap (λ l. l ++ x ∷ []) mine.1); claims = (items, whole ∙ ap (λ l. l ++ x ∷ [] ++ items) (sym mine.1)) }
-                (λ j u other e. let g = k.each j u e in record { puts = g.puts; takes = λ p. absurd (other ((g.takes p).0 ∙ sym mine.0)); claims = g.claims });
+            each = all_set (Fits k.writer k.reader k.put now) views port w record { puts = f.puts; takes = λ _. (mine.0, ap (λ l. l ++ x ∷ []) mine.1); claims = ([], ap (λ l. l ++ x ∷ []) (sym mine.1) ∙ sym (append-nil (v.taken ++ x ∷ []))) }
+                (λ j u other e. let g = k.each j u e in record { puts = g.puts; takes = λ p. absurd (other ((g.takes p).0 ∙ sym mine.0)); claims = longer k.taken u.taken x g.claims });
           },
           (refl, subst (λ l. next l x) (sym mine.1) (follows_at next [] k.taken items x (subst (Follows next []) k.whole k.follows))),
         )
@@ -89,8 +89,8 @@ module _ {T : Type 0} where
         let l : Post T = post true false v.put [] in
         let r : Post T = post false true [] v.taken in
         let vs : List (Post T) = set views port l in
-        let Old : ℕ → Post T → Type 0 = λ j u. (u.puts ≡ true → (j ≡ k.writer) × (u.put ≡ k.put)) × (u.takes ≢ true) × StartsWith k.put u.taken in
-        let old : (j : ℕ) (u : Post T) → get_elem? vs j ≡ some u → Old j u = all_set Old views port l ((λ _. f.puts a), (λ p. off p), (k.put, refl))
+        let Old : ℕ → Post T → Type 0 = λ j u. (u.puts ≡ true → (j ≡ k.writer) × (u.put ≡ k.put)) × (u.takes ≢ true) × StartsWith k.taken u.taken in
+        let old : (j : ℕ) (u : Post T) → get_elem? vs j ≡ some u → Old j u = all_set Old views port l ((λ _. f.puts a), (λ p. off p), (k.taken, refl))
         (λ j u other e. let g = k.each j u e in (g.puts, (λ p. other ((g.takes p).0 ∙ sym (f.takes b).0)), g.claims)) in record {
           writer = k.writer;
           reader = length vs;
@@ -104,7 +104,7 @@ module _ {T : Type 0} where
               (λ (is : r ≡ u). record {
                 puts = λ p. absurd (off (ap (λ (y : Post T). y.puts) is ∙ p));
                 takes = λ p. (at_end vs r u j (λ x. (old j u x).1 p) e, ap (λ (y : Post T). y.taken) (sym is) ∙ (f.takes b).1);
-                claims = subst (λ (y : Post T). StartsWith k.put y.taken) is f.claims;
+                claims = subst (λ (y : Post T). StartsWith k.taken y.taken) is f.claims;
               })
               (at_snoc vs r u j e);
         }
@@ -140,10 +140,15 @@ module _ {T : Type 0} where
           taken = k.taken;
           whole = k.whole;
           follows = k.follows;
-          each = all_set F (set views port w) other (post false false [] []) record { puts = λ p. absurd (off p); takes = λ p. absurd (off p); claims = (k.put, refl) } (λ j y _ e. once j y e);
+          each = all_set F (set views port w) other (post false false [] []) record { puts = λ p. absurd (off p); takes = λ p. absurd (off p); claims = (k.taken, refl) } (λ j y _ e. once j y e);
         }
 
     pub compares : (port : ℕ) (v : Post T) → v.puts ≡ true → Learns (Kept next) port v (λ items. StartsWith v.put v.taken)
     compares port v may items views k at =
         let f = k.each port v at in
-        (f.claims.0, (f.puts may).1 ∙ f.claims.1)
+        (f.claims.0 ++ items, (f.puts may).1 ∙ k.whole ∙ ap (λ l. l ++ items) f.claims.1 ∙ append_assoc v.taken f.claims.0 items)
+
+    pub counts : (port : ℕ) (v : Post T) → v.puts ≡ true → Learns (Kept next) port v (λ items. Waiting v.put v.taken items)
+    counts port v may items views k at =
+        let f = k.each port v at in
+        (k.taken, (f.puts may).1 ∙ k.whole, f.claims)

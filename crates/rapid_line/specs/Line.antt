@@ -1,5 +1,5 @@
 -- What was put into a queue is what was taken and then what it holds. One pass at most puts and one at most takes.
-use Rattle.std.specs.Prelude.{◌≡◌, ℕ, Bool, true, false, List, [], ◌∷◌, ◌++◌}
+use Rattle.std.specs.Prelude.{◌≡◌, ℕ, Bool, true, List, [], ◌∷◌, ◌++◌, length}
 use mathlib.Core.Option.{some}
 use lib.ListN.{get_elem?}
 use Rattle.rapid_line.specs.declared.Post.{Post}
@@ -11,6 +11,14 @@ module _ {T : Type 0} where
   abbrev pub StartsWith : List T → List T → Type 0
   StartsWith put taken = (rest : List T) × (put ≡ taken ++ rest)
 
+  -- at one moment these were still to be taken: the others had been, among them all that are known to be taken
+  abbrev pub Waiting : List T → List T → List T → Type 0
+  Waiting put known items = (taken : List T) × (put ≡ taken ++ items) × StartsWith taken known
+
+  -- at one moment so many of what was put were still to be taken
+  abbrev pub Untaken : List T → List T → ℕ → Type 0
+  Untaken put known n = (items : List T) × (length items ≡ n) × Waiting put known items
+
   -- each item may follow those before it
   abbrev pub Follows : (List T → T → Type 0) → List T → List T → Type 0
   Follows next before [] = Unit {0}
@@ -20,7 +28,8 @@ module _ {T : Type 0} where
   pub record Fits (writer reader : ℕ) (put taken : List T) (port : ℕ) (v : Post T) : Type 0 where
     pub puts : v.puts ≡ true → (port ≡ writer) × (v.put ≡ put)
     pub takes : v.takes ≡ true → (port ≡ reader) × (v.taken ≡ taken)
-    pub claims : StartsWith put v.taken
+    -- what a pass knows to be taken is a beginning of what is taken
+    pub claims : StartsWith taken v.taken
 
   pub record Kept (next : List T → T → Type 0) (items : List T) (views : List (Post T)) : Type 0 where
     pub writer : ℕ

@@ -1,9 +1,9 @@
 // The two ends of a queue.
 
-ghost use Rattle.std.specs.Prelude.{◌≡◌, ℕ, ◌<◌, List, [], ◌∷◌, ◌++◌, true, false, IfOk, MatchOption, MatchResult};
+ghost use Rattle.std.specs.Prelude.{◌≡◌, ℕ, ◌<◌, ◌≤◌, List, [], ◌∷◌, ◌++◌, true, false, IfOk, IfErr, MatchOption, MatchResult};
 ghost use Rattle.std.specs.Arc.{arc_value};
-ghost use Rattle.crossbeam_queue.specs.Passes.{view, IsPassOf};
-ghost use Rattle.rapid_line.specs.Line.{post, StartsWith};
+ghost use Rattle.crossbeam_queue.specs.Passes.{view, IsPassOf, ruled_capacity};
+ghost use Rattle.rapid_line.specs.Line.{post, StartsWith, Untaken};
 
 use crate::{Compares, Note, Order, Post, Puts, Queue, Roles, Takes};
 use crossbeam_queue::{Pass, RuledArrayQueue};
@@ -11,7 +11,8 @@ use std::alloc::{AllocError, Global};
 use std::marker::Model;
 use std::sync::{Arc, Wait};
 
-/// The end that puts. Contracts see the queue and what was put.
+/// The end that puts. Contracts see the queue, what was put, what is known to be taken of it, and
+/// for how many items there is room.
 #[derive(Drop)]
 pub struct Sink<T: Drop, P: Order<T>> {
     queue: Arc<Queue<T, P>>,
@@ -19,14 +20,14 @@ pub struct Sink<T: Drop, P: Order<T>> {
 }
 
 impl<T: Drop, P: Order<T>> Model for Sink<T, P> {
-    ghost use Rattle.std.specs.Prelude.{◌≡◌, List, true, false};
+    ghost use Rattle.std.specs.Prelude.{◌≡◌, ℕ, List, true, false};
     ghost use Rattle.std.specs.Arc.{arc_value};
     ghost use Rattle.atomic_table.specs.Seated.{TableId};
-    ghost use Rattle.crossbeam_queue.specs.Passes.{view as pass_view, IsPassOf};
+    ghost use Rattle.crossbeam_queue.specs.Passes.{view as pass_view, IsPassOf, ruled_capacity};
 
-    ghost Value = { TableId × List T };
+    ghost Value = { TableId × List T × List T × ℕ };
 
-    ghost view = { λ s. (s.pass.table_id, (pass_view s.pass).put) };
+    ghost view = { λ s. (s.pass.table_id, (pass_view s.pass).put, (pass_view s.pass).taken, ruled_capacity (arc_value s.queue)) };
 
     ghost invariant = { λ s. IsPassOf (arc_value s.queue) s.pass × ((pass_view s.pass).puts ≡ true) × ((pass_view s.pass).takes ≡ false) };
 }
@@ -57,7 +58,8 @@ pub fn line<T: Drop, P: Order<T>>(
     capacity: usize,
 ) -> Result<(Sink<T, P>, Source<T, P>), AllocError>
     requires { 0 < capacity }
-    ensures { IfOk result (λ r. (r.0.0 ≡ r.1.0) × (r.0.1 ≡ []) × (r.1.1 ≡ [])) }
+    ensures empty { IfOk result (λ r. (r.0.0 ≡ r.1.0) × (r.0.1 ≡ []) × (r.1.1 ≡ [])) }
+    ensures room { IfOk result (λ r. (r.0.2 ≡ []) × (r.0.3 ≡ capacity)) }
 {
     let (queue, mut writer) = RuledArrayQueue::ruled(alloc, capacity)?;
     let reader = queue.another::<Roles>(&mut writer);
@@ -75,19 +77,21 @@ pub fn line<T: Drop, P: Order<T>>(
 }
 
 impl<T: Drop, P: Order<T>> Sink<T, P> {
-    /// Puts an item where there is room.
+    /// Puts an item if there is room. The item comes back only if at one moment of the call the
+    /// queue was full: as many items as it has room for were still to be taken.
     pub fn put<R: Wait>(&mut self, rt: &R, item: T) -> Result<(), T>
         requires { P.next self.old.1 item }
-        ensures queue { self.new.0 ≡ self.old.0 }
+        ensures queue { (self.new.0 ≡ self.old.0) × (self.new.2 ≡ self.old.2) × (self.new.3 ≡ self.old.3) }
         ensures put { MatchResult result (λ _. self.new.1 ≡ self.old.1 ++ item ∷ []) (λ x. (x ≡ item) × (self.new.1 ≡ self.old.1)) }
+        ensures full { IfErr result (λ _. Untaken self.old.1 self.old.2 self.old.3) }
     {
         push(rt, &self.queue, &mut self.pass, item)
     }
 
-    /// Puts an item, and waits for room where there is none.
+    /// Puts an item, and waits for room if there is none.
     pub fn put_when_free<R: Wait>(&mut self, rt: &R, item: T)
         requires { P.next self.old.1 item }
-        ensures queue { self.new.0 ≡ self.old.0 }
+        ensures queue { (self.new.0 ≡ self.old.0) × (self.new.2 ≡ self.old.2) × (self.new.3 ≡ self.old.3) }
         ensures put { self.new.1 ≡ self.old.1 ++ item ∷ [] }
     {
         let mut item = item;
@@ -100,17 +104,19 @@ impl<T: Drop, P: Order<T>> Sink<T, P> {
         unreachable!()
     }
 
-    /// How many items were in the queue at one moment of the call.
+    /// How many items were in the queue at one moment of the call. So many were still to be taken.
     pub fn len<R: Wait>(&mut self, rt: &R) -> usize
-        ensures { self.new ≡ self.old }
+        ensures same { self.new ≡ self.old }
+        ensures untaken { (result ≤ self.old.3) × Untaken self.old.1 self.old.2 result }
     {
         count(rt, &self.queue, &mut self.pass)
     }
 
-    /// What was taken is a beginning of what was put.
+    /// What was taken is a beginning of what was put, and is known to be taken from then on.
     pub fn compare(&mut self, source: &mut Source<T, P>)
         requires { self.old.0 ≡ source.old.0 }
-        ensures same { (self.new ≡ self.old) × (source.new ≡ source.old) }
+        ensures same { (self.new.0 ≡ self.old.0) × (self.new.1 ≡ self.old.1) × (self.new.3 ≡ self.old.3) × (source.new ≡ source.old) }
+        ensures known { self.new.2 ≡ source.old.1 }
         ensures order { StartsWith self.old.1 source.old.1 }
     {
         compare(&self.queue, &mut self.pass, &mut source.pass);
@@ -140,6 +146,7 @@ fn push<T: Drop, P: Order<T>, R: Wait>(
     ensures queue { IsPassOf queue.now pass.new }
     ensures same { ((view pass.new).puts ≡ (view pass.old).puts) × ((view pass.new).takes ≡ (view pass.old).takes) }
     ensures put { MatchResult result (λ _. view pass.new ≡ post (view pass.old).puts (view pass.old).takes ((view pass.old).put ++ item ∷ []) (view pass.old).taken) (λ x. (x ≡ item) × (view pass.new ≡ view pass.old)) }
+    ensures full { IfErr result (λ _. Untaken (view pass.old).put (view pass.old).taken (ruled_capacity queue.now)) }
 {
     queue.push_as::<Puts, R>(rt, pass, item)
 }
@@ -184,9 +191,11 @@ fn count<T: Drop, P: Order<T>, R: Wait>(
     queue: &Queue<T, P>,
     pass: &mut Pass<T, Post<T>>,
 ) -> usize
-    requires { IsPassOf queue.now pass.old }
+    requires queue { IsPassOf queue.now pass.old }
+    requires puts { (view pass.old).puts ≡ true }
     ensures queue { IsPassOf queue.now pass.new }
     ensures same { view pass.new ≡ view pass.old }
+    ensures untaken { (result ≤ ruled_capacity queue.now) × Untaken (view pass.old).put (view pass.old).taken result }
 {
     queue.len_as::<Puts, R>(rt, pass)
 }

@@ -82,7 +82,9 @@ impl<T> Outcome<T, Post<T>> for Puts {
 }
 
 impl<T> Lesson<T, Post<T>> for Puts {
-    ghost fact = { λ v items. Unit {0} };
+    ghost use Rattle.rapid_line.specs.Line.{Waiting};
+
+    ghost fact = { λ v items. Waiting v.put v.taken items };
 }
 
 pub(crate) struct Takes<P> {

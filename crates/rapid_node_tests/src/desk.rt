@@ -1,5 +1,7 @@
 // Tests of desks, and of the published view alone.
 
+mod checkpoints;
+mod ending;
 mod founding;
 mod journal;
 mod memory;

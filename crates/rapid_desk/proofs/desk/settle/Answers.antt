@@ -21,3 +21,7 @@ returns-clause-keeps g c =
 pub returns-clause-advances : goal.returns-clause-advances
 returns-clause-advances g c =
     (after_keep c.args.held.now c.keep.new.self c.args.board.now (event_of c.args.event) c.requires.keeps c.requires.tried (sym c.installs.ensures ∙ c.if-installs.false) c.in_ok-keep.ensures.same c.in_ok-keep.ensures.ok).1
+
+pub returns-then-installs-clause-refused : goal.returns-then-installs-clause-refused
+returns-then-installs-clause-refused g c =
+    (after_enter c.enter.result c.args.held.now c.enter.new.held c.args.board.now c.enter.new.board (event_of c.args.event) c.requires.keeps c.requires.tried (sym c.installs.ensures ∙ c.if-installs.true) c.enter.ensures.held c.enter.ensures.published c.enter.ensures.refused c.enter.ensures.unchanged).2

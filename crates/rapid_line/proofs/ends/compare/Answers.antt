@@ -1,4 +1,4 @@
-use Rattle.std.proofs.Common.{◌∙◌, ap, subst, sym}
+use Rattle.std.proofs.Common.{◌∙◌, ap}
 use Rattle.rapid_line.proofs.Moves.{notes, hears, compares}
 use Rattle.rapid_line.proofs.ends.compare.Goals as goal
 

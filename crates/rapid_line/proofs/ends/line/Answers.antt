@@ -1,4 +1,4 @@
-use Rattle.std.proofs.Common.{rules, ap, ◌∙◌, ◌≡◌, true}
+use Rattle.std.proofs.Common.{rules}
 use Rattle.rapid_line.proofs.Moves.{begins, parts}
 use Rattle.rapid_line.proofs.ends.line.Goals as goal
 

@@ -1,7 +1,7 @@
 use Rattle.std.proofs.Common.{◌∙◌, sym, arith}
 use Rattle.std.proofs.lemmas.Grind.{common_steps}
-use Rattle.rapid_desk.proofs.Marks.{state_of_now, height_now}
+use Rattle.rapid_desk.proofs.Marks.{state_of_now}
 use Rattle.rapid_desk.proofs.outlet.Outlet.close.Goals as goal
 
 pub invariant_of-self : goal.invariant_of-self
-invariant_of-self g c = (grind (arith, common_steps, state_of_now), c.self.invariant.1 ∙ sym (height_now _ _ _ _ c.put_when_free.ensures.put))
+invariant_of-self g c = (grind (arith, common_steps, state_of_now), c.put_when_free.ensures.queue.2 ∙ c.self.invariant.1)

@@ -1,4 +1,4 @@
-use Rattle.std.proofs.Common.{ap, ◌∙◌, ◌≡◌}
+use Rattle.std.proofs.Common.{ap, ◌∙◌}
 use Rattle.rapid_line.proofs.ends.Source.take.Goals as goal
 
 pub invariant_of-self : goal.invariant_of-self
