@@ -9,6 +9,8 @@ mod devices;
 #[cfg(test)]
 mod memory;
 #[cfg(test)]
+mod repeats;
+#[cfg(test)]
 mod rows;
 #[cfg(test)]
 mod transport;
