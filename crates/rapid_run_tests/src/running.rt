@@ -4,5 +4,6 @@ mod clusters;
 mod devices;
 mod ends;
 mod memory;
+mod repeats;
 mod rows;
 mod scarce;

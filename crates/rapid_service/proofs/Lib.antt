@@ -1,2 +1,4 @@
 pub mod Written
 pub mod Refusing
+pub mod Sames
+pub mod Keeping

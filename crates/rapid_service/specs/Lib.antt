@@ -3,3 +3,5 @@ pub mod ViewText
 pub mod Options
 pub mod Statuses
 pub mod Watching
+pub mod Repeating
+pub mod Remembering

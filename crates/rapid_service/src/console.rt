@@ -1,11 +1,16 @@
 // What is printed, as whole lines.
 
-ghost use Rattle.std.specs.Prelude.{◌≡◌};
+ghost use Rattle.std.specs.Prelude.{◌≡◌, ◌⊎◌, ◌+◌, ◌≤◌, ◌<◌, ◌++◌, length, nat_le, IfErr, OnOk, OnErr};
+ghost use Rattle.rapid_service.specs.declared.fault.NodeFault.TheVariants.{OutOfMemory, Write as CannotWrite};
 
-use std::alloc::{AllocError, Global};
+use crate::fault::NodeFault;
+use std::alloc::Global;
 use std::io::Write;
 use std::mem;
 use std::sync::{Condvar, Mutex, Wait};
+
+/// How many bytes wait to be printed at most, where the output takes none.
+const MOST_WAITING: usize = 1_048_576;
 
 /// The lines that are to be printed. Many threads add lines, each of them whole, and one prints
 /// them in that order, so that no thread waits for the output.
@@ -23,7 +28,30 @@ struct Pending {
     closed: bool,
 }
 
+/// Whether lines of this length may wait beside those that wait.
+fn has_room(waiting: usize, added: usize) -> bool
+    ensures { result ≡ nat_le (waiting + added) 1048576 }
+{
+    waiting <= MOST_WAITING && added <= MOST_WAITING - waiting
+}
+
 impl Pending {
+    /// Adds lines, if so many may wait.
+    fn add(&mut self, lines: &[u8]) -> Result<(), NodeFault>
+        ensures waits { OnOk result ((self.new.lines.items ≡ self.old.lines.items ++ lines.now) × (length self.new.lines.items ≤ 1048576)) }
+        ensures refused { IfErr result (λ e. ((e ≡ CannotWrite) × (1048576 < length self.old.lines.items + length lines.now)) ⊎ (e ≡ OutOfMemory)) }
+        ensures unchanged { OnErr result (self.new.lines.items ≡ self.old.lines.items) }
+        ensures open { self.new.closed ≡ self.old.closed }
+    {
+        if !has_room(self.lines.len(), lines.len()) {
+            return Err(NodeFault::Write);
+        }
+        match self.lines.extend_from_slice(lines) {
+            Ok(()) => Ok(()),
+            Err(_) => Err(NodeFault::OutOfMemory),
+        }
+    }
+
     /// Takes the lines out.
     fn take(&mut self, alloc: Global) -> Vec<u8> {
         mem::replace(&mut self.lines, Vec::new(alloc))
@@ -43,14 +71,15 @@ impl Console {
         }
     }
 
-    /// Adds lines. A console that is closed prints nothing more.
-    pub fn add<R: Wait>(&self, rt: &R, lines: &[u8]) -> Result<(), AllocError> {
+    /// Adds lines. A console that is closed prints nothing more. `Write` if more than 1 MiB would
+    /// wait then, since the output takes nothing; the lines are not added.
+    pub fn add<R: Wait>(&self, rt: &R, lines: &[u8]) -> Result<(), NodeFault> {
         if lines.is_empty() {
             return Ok(());
         }
         let mut pending = self.pending.lock(rt);
         if !pending.closed {
-            pending.lines.extend_from_slice(lines)?;
+            pending.add(lines)?;
         }
         drop(pending);
         self.changed.notify_all();

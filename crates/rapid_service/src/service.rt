@@ -4,6 +4,7 @@ ghost use Rattle.std.specs.Prelude.{◌≡◌, ◌<◌};
 
 use crate::fault::NodeFault;
 use crate::post::Post;
+use crate::repeats::Repeats;
 use crate::rounds::Rounds;
 use crate::view_text::write_view;
 use crate::watch::Watch;
@@ -11,7 +12,7 @@ use bytes::Bytes;
 use rapid_config::{ConfigId, Configuration, Params};
 use rapid_desk::{Desk, Probing, Subscription, Taken};
 use rapid_endpoint::{Endpoint, Process};
-use rapid_node::{Body, Destination, Event, Message, Output};
+use rapid_node::{Body, Destination, Event, Message, Output, Outputs};
 use rapid_view::{View, ViewSeat};
 use rapid_wire::encode;
 use std::alloc::{AllocError, Global};
@@ -38,11 +39,13 @@ pub struct Service<R: Wait + Copy + Drop, P: Post + Drop> {
     post: P,
 }
 
-/// The present view, and what is done about those who are observed in it.
+/// The present view, what is done about those who are observed in it, and which messages repeat
+/// others that came since it was entered.
 #[derive(Drop)]
 struct Present {
     view: View,
     watch: Watch,
+    repeats: Repeats,
 }
 
 /// The probe of a configuration, which anyone can say.
@@ -166,18 +169,38 @@ impl<R: Wait + Copy + Drop, P: Post + Drop> Service<R, P> {
     /// too many probes were not acknowledged are handed to the node.
     pub fn tick(&mut self) -> Result<(), NodeFault> {
         self.step(Event::Tick)?;
+        self.count_tick();
         if self.rounds.tick() {
             self.probe()?;
         }
         Ok(())
     }
 
-    /// A message has come.
+    /// A message has come. It is dropped if it repeats one that came before in the present view and
+    /// changes nothing: a step would only take room in the journal of the desk.
     pub fn receive(&mut self, message: Message) -> Result<(), NodeFault> {
         if let Body::ProbeAck(_) = message.body() {
             self.ack(&message.sender());
         }
+        if !self.admits(&message) {
+            return Ok(());
+        }
         self.step(Event::Receive(message))
+    }
+
+    /// Whether a message is handed to the desk: before the first view each is.
+    fn admits(&mut self, message: &Message) -> bool {
+        match &mut self.present {
+            Some(present) => present.repeats.admits(message),
+            None => true,
+        }
+    }
+
+    /// A tick was made in the present view.
+    fn count_tick(&mut self) {
+        if let Some(present) = &mut self.present {
+            present.repeats.tick();
+        }
     }
 
     /// A seat at the published view, once there is a view.
@@ -204,11 +227,23 @@ impl<R: Wait + Copy + Drop, P: Post + Drop> Service<R, P> {
 
     /// One event at the desk: what is sent goes out, and a new view is entered.
     fn step(&mut self, event: Event) -> Result<(), NodeFault> {
-        let sent = self.desk.step(event)?;
+        let sent = self.at_desk(event)?;
         for output in sent.as_slice() {
             self.send(output)?;
         }
         self.follow()
+    }
+
+    /// One event at the desk. If the desk does not go on its subscribers are told: they get what
+    /// was put for them, and then that it is closed.
+    fn at_desk(&mut self, event: Event) -> Result<Outputs, NodeFault> {
+        match self.desk.step(event) {
+            Ok(sent) => Ok(sent),
+            Err(error) => {
+                self.desk.close();
+                Err(NodeFault::from(error))
+            }
+        }
     }
 
     /// Sends a message to where it goes: the other members are those of the view before the step.
@@ -249,12 +284,26 @@ impl<R: Wait + Copy + Drop, P: Post + Drop> Service<R, P> {
     /// Enters a view: its line is shown, and probes begin anew.
     fn enter(&mut self, view: View) -> Result<(), NodeFault> {
         write_view(view.configuration(), &mut self.lines)?;
-        let watch = Watch::new(self.alloc, view.configuration(), &self.me)?;
-        self.present = Some(Present { view, watch });
+        let watch = self.watch(view.configuration())?;
+        let repeats = Repeats::new(self.alloc, view.configuration())?;
+        self.present = Some(Present {
+            view,
+            watch,
+            repeats,
+        });
         if let Some(mut seats) = self.desk.take_seats() {
             self.seat = seats.pop();
         }
         Ok(())
+    }
+
+    /// What is done about those who are observed in a view. The rings are made of those of the view
+    /// before: keys are computed of newcomers only.
+    fn watch(&self, configuration: &Configuration) -> Result<Watch, AllocError> {
+        match &self.present {
+            Some(present) => present.watch.next(self.alloc, configuration, &self.me),
+            None => Watch::new(self.alloc, configuration, &self.me),
+        }
     }
 
     /// A round of probes.

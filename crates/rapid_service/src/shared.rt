@@ -7,7 +7,7 @@ use crate::post::Post;
 use crate::service::Service;
 use rapid_node::Message;
 use rapid_view::ViewSeat;
-use std::alloc::{AllocError, Global};
+use std::alloc::Global;
 use std::sync::{Mutex, Wait};
 
 /// What the threads of a node share: its service under a lock, what is printed, and whether it goes
@@ -41,7 +41,7 @@ impl<R: Wait + Copy + Drop, P: Post + Drop> Shared<R, P> {
 
     /// Prints the views that the service has entered, while its lock is held: views are printed in
     /// the order in which they were entered.
-    fn show<W: Wait>(&self, rt: &W, service: &mut Service<R, P>) -> Result<(), AllocError> {
+    fn show<W: Wait>(&self, rt: &W, service: &mut Service<R, P>) -> Result<(), NodeFault> {
         let lines = service.take_lines();
         self.console.add(rt, lines.as_slice())
     }

@@ -21,6 +21,7 @@ const MOST_RINGS: usize = 16;
 /// edge by what was acknowledged.
 #[derive(Drop)]
 pub struct Watch {
+    rings: Rings,
     monitors: Monitors,
     book: ProbeBook,
     /// Which edges went down, by ring.
@@ -39,9 +40,35 @@ impl Watch {
         ensures book { IfOk result (λ w. w.book ≡ book_when (subjects_of configuration.now me.now) false []) }
     {
         let rings = Rings::new(alloc, configuration)?;
+        Watch::over(alloc, rings, me)
+    }
+
+    /// Of the process in a configuration that follows: nobody has been probed. The rings are made
+    /// of the present ones, and keys are computed of newcomers only.
+    pub fn next(
+        &self,
+        alloc: Global,
+        configuration: &Configuration,
+        me: &Process,
+    ) -> Result<Watch, AllocError>
+        ensures monitors { IfOk result (λ w. w.monitors ≡ fresh_monitors configuration.now me.now) }
+        ensures book { IfOk result (λ w. w.book ≡ book_when (subjects_of configuration.now me.now) false []) }
+    {
+        let rings = self.rings.next(alloc, configuration)?;
+        Watch::over(alloc, rings, me)
+    }
+
+    /// Of a process in the configuration of these rings.
+    fn over(alloc: Global, rings: Rings, me: &Process) -> Result<Watch, AllocError>
+        ensures monitors { IfOk result (λ w. w.monitors ≡ fresh_monitors rings me.now) }
+        ensures book { IfOk result (λ w. w.book ≡ book_when (subjects_of rings me.now) false []) }
+    {
+        let monitors = Monitors::new(alloc, &rings, me)?;
+        let book = ProbeBook::new(alloc, &rings, me)?;
         Ok(Watch {
-            monitors: Monitors::new(alloc, &rings, me)?,
-            book: ProbeBook::new(alloc, &rings, me)?,
+            rings,
+            monitors,
+            book,
             down: [false; MOST_RINGS],
         })
     }

@@ -1,0 +1,145 @@
+// Messages that are dropped since they repeat others.
+
+use bytes::Bytes;
+use rapid_alerts::{Alert, Batch, Kind};
+use rapid_config::{ConfigId, Configuration, Cut, Params};
+use rapid_endpoint::{Endpoint, Process, ProcessId};
+use rapid_member::{Body, Message};
+use rapid_service::{Post, Repeats, Service};
+use std::alloc::Global;
+use std::process::Abort;
+use std::sync::Wait;
+use std::test::Fail;
+
+/// The process of this number.
+fn process(number: u8) -> Process {
+    let id = [0, 0, 0, 0, 0, 0, 0, 0, 0, 0, 0, 0, 0, 0, 0, number];
+    Process::new(
+        ProcessId::new(id),
+        Endpoint::new([127, 0, 0, 1], 7_600 + u16::from(number)),
+    )
+}
+
+/// The configuration of the processes 1 to 3.
+fn three(alloc: Global) -> Result<Configuration, Fail> {
+    let members = [process(1), process(2), process(3)];
+    let configuration = Configuration::seed(alloc, Params::new(3, 3, 1)?, &members)?;
+    Ok(configuration)
+}
+
+/// The fast vote of a process for the cut of another.
+fn vote(alloc: Global, sender: u8, id: ConfigId, joiner: u8) -> Result<Message, Fail> {
+    let mut processes = Vec::new(alloc);
+    processes.push(process(joiner))?;
+    let vote = Body::FastVote(id, Cut::new(processes)?);
+    Ok(Message::new(process(sender), vote)?)
+}
+
+/// A batch of a process with an alert on another.
+fn batch(alloc: Global, sender: u8, id: ConfigId, joiner: u8) -> Result<Message, Fail> {
+    let mut alerts = Vec::new(alloc);
+    alerts.push(Alert {
+        observer: process(sender),
+        subject: process(joiner),
+        ring: 0,
+        kind: Kind::Join,
+        config: id,
+    })?;
+    let batch = Body::Batch(id, Batch::new(alerts)?);
+    Ok(Message::new(process(sender), batch)?)
+}
+
+/// The request of a process on a ring.
+fn request(sender: u8, id: ConfigId, ring: u8) -> Result<Message, Fail> {
+    Ok(Message::new(process(sender), Body::JoinRequest(id, ring))?)
+}
+
+/// The question of a process whether it may join.
+fn question(sender: u8) -> Result<Message, Fail> {
+    Ok(Message::new(process(sender), Body::PreJoin)?)
+}
+
+#[test]
+fn votes_and_batches_of_members_are_taken_once(rt: HostRuntime) -> Result<(), Fail> {
+    let alloc = rt.alloc();
+    let configuration = three(alloc)?;
+    let (here, elsewhere) = (configuration.id(), ConfigId::zero());
+    let mut repeats = Repeats::new(alloc, &configuration)?;
+    for say in [vote, batch] {
+        assert!(rt; repeats.admits(&say(alloc, 2, here, 4)?));
+        assert!(rt; !repeats.admits(&say(alloc, 2, here, 4)?));
+        assert!(rt; repeats.admits(&say(alloc, 3, here, 4)?));
+        assert!(rt; repeats.admits(&say(alloc, 2, here, 5)?));
+        assert!(rt; !repeats.admits(&say(alloc, 2, here, 5)?));
+        for _ in 0..2 {
+            assert!(rt; repeats.admits(&say(alloc, 9, here, 4)?));
+            assert!(rt; repeats.admits(&say(alloc, 2, elsewhere, 4)?));
+        }
+    }
+    Ok(())
+}
+
+#[test]
+fn requests_are_taken_once_and_questions_each_tenth_tick(rt: HostRuntime) -> Result<(), Fail> {
+    let alloc = rt.alloc();
+    let configuration = three(alloc)?;
+    let (here, elsewhere) = (configuration.id(), ConfigId::zero());
+    let mut repeats = Repeats::new(alloc, &configuration)?;
+    for ring in 0..2 {
+        assert!(rt; repeats.admits(&request(7, here, ring)?));
+        assert!(rt; !repeats.admits(&request(7, here, ring)?));
+        for _ in 0..2 {
+            assert!(rt; repeats.admits(&request(7, elsewhere, ring)?));
+        }
+    }
+    for _ in 0..3 {
+        assert!(rt; repeats.admits(&question(7)?));
+        for _ in 0..10 {
+            assert!(rt; !repeats.admits(&question(7)?));
+            repeats.tick();
+        }
+    }
+    assert!(rt; repeats.admits(&question(8)?));
+    Ok(())
+}
+
+#[test]
+fn other_messages_are_taken_each_time(rt: HostRuntime) -> Result<(), Fail> {
+    let configuration = three(rt.alloc())?;
+    let mut repeats = Repeats::new(rt.alloc(), &configuration)?;
+    let here = configuration.id();
+    for _ in 0..2 {
+        let probe = Message::new(process(2), Body::Probe(here))?;
+        assert!(rt; repeats.admits(&probe));
+        let answer = Message::new(process(2), Body::ProbeAck(here))?;
+        assert!(rt; repeats.admits(&answer));
+    }
+    Ok(())
+}
+
+/// Counts the frames that are handed on.
+#[derive(Drop)]
+struct Count {
+    frames: u64,
+}
+
+impl Post for Count {
+    fn post<W: Wait>(&mut self, _rt: &W, _to: Endpoint, _frame: Bytes) {
+        self.frames = self.frames.saturating_add(1);
+    }
+}
+
+#[test]
+fn repeats_by_the_hundred_thousand_leave_a_running_node(rt: HostRuntime) -> Result<(), Fail> {
+    let alloc = rt.alloc();
+    let params = Params::new(3, 3, 1)?;
+    let Ok(mut service) = Service::found(&rt, alloc, params, process(1), Count { frames: 0 }) else {
+        return Err(Fail);
+    };
+    for _ in 0..200_000 {
+        assert!(rt; service.receive(question(2)?).is_ok());
+    }
+    assert_eq!(rt; service.post().frames, 1);
+    assert!(rt; service.tick().is_ok());
+    Ok(())
+}

@@ -1,0 +1,83 @@
+-- Messages that change nothing, since an equal one was let through before in the same configuration.
+use Rattle.std.specs.Prelude.{◌≡◌, ℕ, ◌+◌, ◌<◌, Bool, true, false, List, [], ◌∷◌, ◌++◌, All, Contains}
+use Rattle.std.specs.BTreeMap as tree
+use Rattle.rapid_model.specs.Bytes.{ConfigurationId}
+use Rattle.rapid_model.specs.Message.{Message, Body, Batch, FastVote, Prepare, Promise, Accept, Accepted, Decision, PreJoin, Reply, JoinRequest, Confirm, Probe, ProbeAck}
+
+-- A message that was let through, and how many ticks there had been then.
+pub record Passed : Type 0 where
+  pub message : Message
+  pub ticks : ℕ
+
+-- Within so many ticks a joiner's question is a repeat.
+abbrev pub question_ticks : ℕ
+question_ticks = 10
+
+-- An equal message was let through.
+abbrev pub WasPassed : List Passed → Message → Type 0
+WasPassed passed m = (t : ℕ) × Contains passed (record { message = m; ticks = t })
+
+-- An equal message was let through within these ticks.
+abbrev pub WasPassedWithin : ℕ → ℕ → List Passed → Message → Type 0
+WasPassedWithin within now passed m = (t : ℕ) × Contains passed (record { message = m; ticks = t }) × (now < t + within)
+
+-- In this configuration a message that says this is a repeat, where these were let through since it was entered and there were so many ticks:
+-- a fast vote, a batch and a request for this configuration that were let through before, and a question that was within ten ticks.
+abbrev pub IsRepeatIn : ConfigurationId → ℕ → List Passed → Message → Body → Type 0
+IsRepeatIn here now passed m (Batch id xs) = (id ≡ here) × WasPassed passed m
+IsRepeatIn here now passed m (FastVote id v) = (id ≡ here) × WasPassed passed m
+IsRepeatIn here now passed m (JoinRequest id k) = (id ≡ here) × WasPassed passed m
+IsRepeatIn here now passed m PreJoin = WasPassedWithin question_ticks now passed m
+IsRepeatIn here now passed m (Prepare id b) = ⊥
+IsRepeatIn here now passed m (Promise id b vote) = ⊥
+IsRepeatIn here now passed m (Accept id b v) = ⊥
+IsRepeatIn here now passed m (Accepted id b v) = ⊥
+IsRepeatIn here now passed m (Decision id v) = ⊥
+IsRepeatIn here now passed m (Reply j a) = ⊥
+IsRepeatIn here now passed m (Confirm c) = ⊥
+IsRepeatIn here now passed m (Probe id) = ⊥
+IsRepeatIn here now passed m (ProbeAck id) = ⊥
+
+abbrev pub IsRepeat : ConfigurationId → ℕ → List Passed → Message → Type 0
+IsRepeat here now passed m = IsRepeatIn here now passed m m.body
+
+-- The messages let through, after one more was, or was dropped.
+abbrev pub passed_after : Bool → Message → ℕ → List Passed → List Passed
+passed_after true m now passed = passed ++ record { message = m; ticks = now } ∷ []
+passed_after false m now passed = passed
+
+-- All that a table keeps was let through.
+abbrev pub HoldsOf : {K : Type 0} → List Passed → tree.BTreeMap K Passed → Type 0
+HoldsOf passed kept = All (Contains passed) (tree.values kept)
+
+-- A repeat of what says this is looked for, in this configuration.
+abbrev pub IsSought : ConfigurationId → Body → Type 0
+IsSought here (Batch id xs) = id ≡ here
+IsSought here (FastVote id v) = id ≡ here
+IsSought here (JoinRequest id k) = id ≡ here
+IsSought here PreJoin = Unit {0}
+IsSought here (Prepare id b) = ⊥
+IsSought here (Promise id b vote) = ⊥
+IsSought here (Accept id b v) = ⊥
+IsSought here (Accepted id b v) = ⊥
+IsSought here (Decision id v) = ⊥
+IsSought here (Reply j a) = ⊥
+IsSought here (Confirm c) = ⊥
+IsSought here (Probe id) = ⊥
+IsSought here (ProbeAck id) = ⊥
+
+-- Where it asks to join, it is within so many ticks.
+abbrev pub IsTimely : Body → ℕ → ℕ → Type 0
+IsTimely PreJoin before now = now < before + question_ticks
+IsTimely (Batch id xs) before now = Unit {0}
+IsTimely (FastVote id v) before now = Unit {0}
+IsTimely (JoinRequest id k) before now = Unit {0}
+IsTimely (Prepare id b) before now = Unit {0}
+IsTimely (Promise id b vote) before now = Unit {0}
+IsTimely (Accept id b v) before now = Unit {0}
+IsTimely (Accepted id b v) before now = Unit {0}
+IsTimely (Decision id v) before now = Unit {0}
+IsTimely (Reply j a) before now = Unit {0}
+IsTimely (Confirm c) before now = Unit {0}
+IsTimely (Probe id) before now = Unit {0}
+IsTimely (ProbeAck id) before now = Unit {0}

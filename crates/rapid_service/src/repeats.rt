@@ -1,0 +1,176 @@
+// Messages that change nothing, since an equal one was let through before.
+
+ghost use Rattle.std.specs.Prelude.{◌≡◌, ℕ, ◌+◌, ◌-◌, ◌^◌, ◌≤◌, List, [], true, false, Contains, min, IfOk, IfSome};
+ghost use Rattle.std.specs.BTreeMap.{btree_map_len};
+ghost use Rattle.rapid_model.specs.Configuration.{Configuration as ModelConfiguration, configuration_id};
+ghost use Rattle.rapid_service.specs.Repeating.{Passed, HoldsOf, IsTimely, IsRepeat, passed_after};
+
+use crate::said::{Kind, is_timely, say_same};
+use rapid_config::Configuration;
+use rapid_endpoint::Process;
+use rapid_node::Message;
+use std::alloc::{AllocError, Global};
+use std::collections::BTreeMap;
+use std::marker::Model;
+
+/// How many messages of members are kept at most: a batch and a fast vote of each.
+const MOST_OF_MEMBERS: usize = 2_048;
+
+/// How many messages of others are kept at most.
+const MOST_OF_OTHERS: usize = 4_096;
+
+/// A message that was let through, and how many ticks there had been then.
+#[derive(Drop)]
+struct Kept {
+    message: Message,
+    ticks: u64,
+}
+
+impl Model for Kept {
+    ghost use Rattle.rapid_service.specs.Repeating.{Passed};
+
+    ghost Value = { Passed };
+
+    ghost view = { λ k. record { message = k.message; ticks = k.ticks } };
+}
+
+/// The last message of each sender and kind.
+type Table = BTreeMap<(Process, Kind), Kept>;
+
+/// Whether two messages of the kinds that are kept are equal.
+fn are_equal(one: &Message, other: &Message) -> bool
+    ensures { result ≡ true → one.now ≡ other.now }
+{
+    one.sender() == other.sender() && say_same(one.body(), other.body())
+}
+
+/// Whether a message is equal to the one that is kept, and is not let through again.
+fn is_repeat(kept: &Kept, message: &Message, now: u64) -> bool
+    ensures equal { result ≡ true → kept.now.message ≡ message.now }
+    ensures timely { result ≡ true → IsTimely message.now.body kept.now.ticks now }
+{
+    are_equal(&kept.message, message) && is_timely(message.body(), kept.ticks, now)
+}
+
+/// The message that is kept for this sender and kind.
+fn find<'a>(table: &'a Table, key: &(Process, Kind)) -> Option<&'a Kept>
+    ensures { (passed : List Passed) → HoldsOf passed table.now → IfSome result (λ kept. Contains passed kept.now) }
+{
+    table.get(key)
+}
+
+/// Keeps a message in place of the last of its sender and kind. Where there is no room for another
+/// it is not kept.
+fn keep(table: &mut Table, most: usize, key: (Process, Kind), kept: Kept)
+    ensures holds { (passed : List Passed) → HoldsOf passed table.old → Contains passed kept → HoldsOf passed table.new }
+    ensures few { btree_map_len table.old ≤ most → btree_map_len table.new ≤ most }
+{
+    if table.len() < most || table.contains_key(&key) {
+        let _ = table.insert(key, kept);
+    }
+}
+
+/// Which messages of a configuration change nothing, since an equal one was let through before: a
+/// batch and a fast vote of a member, a joiner's request, and for ten ticks a joiner's question
+/// whether it may join. It keeps the last message of each member and kind, and up to 4,096 of
+/// others, and is made anew at each view.
+#[derive(Drop)]
+pub struct Repeats {
+    alloc: Global,
+    configuration: Configuration,
+    ticks: u64,
+    members: Table,
+    others: Table,
+}
+
+/// Lets a message through, unless it is a repeat of the one that is kept; then it is the one that
+/// is kept, if there is memory and room for it.
+fn passes(
+    alloc: Global,
+    table: &mut Table,
+    most: usize,
+    key: (Process, Kind),
+    message: &Message,
+    now: u64,
+) -> bool
+    ensures dropped { (passed : List Passed) → HoldsOf passed table.old → result ≡ false → (t : ℕ) × Contains passed (record { message = message.now; ticks = t }) × IsTimely message.now.body t now }
+    ensures holds { (passed : List Passed) → HoldsOf passed table.old → HoldsOf (passed_after result message.now now passed) table.new }
+    ensures few { btree_map_len table.old ≤ most → btree_map_len table.new ≤ most }
+{
+    if let Some(kept) = find(table, &key)
+        && is_repeat(kept, message, now)
+    {
+        return false;
+    }
+    if let Ok(message) = message.try_copy(alloc) {
+        keep(
+            table,
+            most,
+            key,
+            Kept {
+                message,
+                ticks: now,
+            },
+        );
+    }
+    true
+}
+
+impl Repeats {
+    ghost use Rattle.rapid_service.specs.Remembering.{Remembers};
+
+    /// In this configuration nothing was let through yet.
+    pub fn new(alloc: Global, configuration: &Configuration) -> Result<Repeats, AllocError>
+        ensures { IfOk result (λ r. Remembers r configuration.now 0 []) }
+    {
+        Ok(Repeats {
+            alloc,
+            configuration: configuration.try_copy(alloc)?,
+            ticks: 0,
+            members: BTreeMap::new(alloc),
+            others: BTreeMap::new(alloc),
+        })
+    }
+
+    /// A tick more.
+    pub fn tick(&mut self)
+        ensures { (c : ModelConfiguration) (now : ℕ) (passed : List Passed) → Remembers self.old c now passed → Remembers self.new c (min (now + 1) (2 ^ 64 - 1)) passed }
+    {
+        self.ticks = self.ticks.saturating_add(1);
+    }
+
+    /// Whether a message is let through. What is not is equal to one that was since the view was
+    /// entered, and a question whether the sender may join to one within ten ticks. Where there is
+    /// no memory or no room to keep a message it is let through.
+    pub fn admits(&mut self, message: &Message) -> bool
+        ensures dropped { (c : ModelConfiguration) (now : ℕ) (passed : List Passed) → Remembers self.old c now passed → result ≡ false → IsRepeat (configuration_id c) now passed message.now }
+        ensures kept { (c : ModelConfiguration) (now : ℕ) (passed : List Passed) → Remembers self.old c now passed → Remembers self.new c now (passed_after result message.now now passed) }
+    {
+        let Some(kind) = Kind::of(message.body(), self.configuration.id()) else {
+            return true;
+        };
+        let key = (message.sender(), kind);
+        if kind.is_of_members() {
+            if !self.configuration.is_member(&key.0) {
+                return true;
+            }
+            passes(
+                self.alloc,
+                &mut self.members,
+                MOST_OF_MEMBERS,
+                key,
+                message,
+                self.ticks,
+            )
+        } else {
+            passes(
+                self.alloc,
+                &mut self.others,
+                MOST_OF_OTHERS,
+                key,
+                message,
+                self.ticks,
+            )
+        }
+    }
+}

@@ -1,0 +1,83 @@
+// What messages say of which a repeat changes nothing.
+
+ghost use Rattle.std.specs.Prelude.{◌≡◌, true, IsSome};
+ghost use Rattle.rapid_member.specs.Bodies.{body_of};
+ghost use Rattle.rapid_service.specs.Repeating.{IsSought, IsTimely};
+
+use rapid_alerts::Batch;
+use rapid_config::ConfigId;
+use rapid_node::Body;
+
+/// Within how many ticks a joiner's question is a repeat.
+const QUESTION_TICKS: u64 = 10;
+
+/// The kinds of messages of which the last of each sender is kept.
+#[derive(Clone, Copy, Debug, PartialEq, Eq, PartialOrd, Ord)]
+pub(crate) enum Kind {
+    /// The alerts of a member.
+    Batch,
+    /// A member's fast vote.
+    Vote,
+    /// That a process wants to join.
+    Question,
+    /// That a process wants to be let in on this ring.
+    Request(u8),
+}
+
+impl Kind {
+    /// The kind of a message that says this, in the configuration with this identifier; none where
+    /// no repeat of it is looked for.
+    pub(crate) fn of(body: &Body, here: ConfigId) -> Option<Kind>
+        ensures { IsSome result → IsSought here (body_of body.now) }
+    {
+        match body {
+            Body::Batch(id, _) if *id == here => Some(Kind::Batch),
+            Body::FastVote(id, _) if *id == here => Some(Kind::Vote),
+            Body::JoinRequest(id, ring) if *id == here => Some(Kind::Request(*ring)),
+            Body::PreJoin => Some(Kind::Question),
+            _ => None,
+        }
+    }
+
+    /// Whether members alone are to say it.
+    pub(crate) fn is_of_members(self) -> bool {
+        matches!(self, Kind::Batch | Kind::Vote)
+    }
+}
+
+/// Whether two batches have the same alerts, in order.
+fn are_same(one: &Batch, other: &Batch) -> bool
+    ensures { result ≡ true → one.now ≡ other.now }
+{
+    one.alerts() == other.alerts()
+}
+
+/// Whether two bodies of the kinds that are kept say the same.
+pub(crate) fn say_same(one: &Body, other: &Body) -> bool
+    ensures { result ≡ true → body_of one.now ≡ body_of other.now }
+{
+    match (one, other) {
+        (Body::Batch(id, batch), Body::Batch(other_id, other_batch)) => {
+            *id == *other_id && are_same(batch, other_batch)
+        }
+        (Body::FastVote(id, cut), Body::FastVote(other_id, other_cut)) => {
+            *id == *other_id && *cut == *other_cut
+        }
+        (Body::JoinRequest(id, ring), Body::JoinRequest(other_id, other_ring)) => {
+            *id == *other_id && *ring == *other_ring
+        }
+        (Body::PreJoin, Body::PreJoin) => true,
+        _ => false,
+    }
+}
+
+/// Whether the last message was let through so shortly before that a repeat is dropped: of joiners'
+/// questions within ten ticks, of others at any time.
+pub(crate) fn is_timely(body: &Body, before: u64, now: u64) -> bool
+    ensures { result ≡ true → IsTimely (body_of body.now) before now }
+{
+    match body {
+        Body::PreJoin => now.saturating_sub(before) < QUESTION_TICKS,
+        _ => true,
+    }
+}
