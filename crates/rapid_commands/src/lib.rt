@@ -2,6 +2,8 @@
 //! ends.
 #![tactic(auto)]
 
+mod explain;
+mod help;
 mod node;
 mod words;
 

@@ -8,9 +8,12 @@ ghost use Rattle.rapid_commands.specs.Jobs.{CanRun, Wrote, WroteFront};
 ghost use Rattle.rapid_commands.specs.NodeWords.{NamesNode};
 ghost use Rattle.rapid_commands.specs.Statuses.{run_status};
 
-use crate::node::{names_node, node, node_words, run_as_node, text};
+use crate::explain::{tell_missing, tell_params, tell_refused};
+use crate::help::{CLUSTER_TURNS, DETECT_LINES, SIM_LINES, STATUSES, VERSION};
+use crate::node::{names_node, node, node_matches, run_as_node, text};
+use clap::builder::ValueParser;
 use clap::error::ErrorKind;
-use clap::{Arg, ArgMatches, Command, Error, value_parser};
+use clap::{Arg, ArgMatches, Command, Error};
 use rapid_cluster::run_cluster;
 use rapid_config::Params;
 use rapid_detect::run_detect;
@@ -37,57 +40,6 @@ pub(crate) const REFUSED: u8 = 2;
 
 /// There was no memory.
 const NO_MEMORY: u8 = 3;
-
-/// What `--help` says of the statuses.
-const STATUSES: &str =
-    "Status: 0 at the end of the input and after help, 1 where standard input or output failed,
-2 where the words were refused, 3 for want of memory. Of node see node --help.";
-
-/// What `detect --help` says of the lines.
-const DETECT_LINES: &str = "Lines:
-  watermarks K H L               once, before all others; numbers from 0 to 255
-  joiner N                       process N is no member; all others are
-  edge RING OBSERVER SUBJECT     an edge of the table of observers
-  remove RING OBSERVER SUBJECT   an alert to remove a member, for the next batch
-  join RING OBSERVER SUBJECT     an alert to let a joiner in, for the next batch
-  batch                          hands the batch to the detector, and prints its cut or none
-Processes are numbers from 1 to 65535. A line that begins with # is passed over. A line that is
-refused prints its reason and has no effect.
-
-Status: 0 at the end of the input and after help, 1 where standard input or output failed,
-2 where the words were refused, 3 for want of memory.";
-
-/// What `sim --help` says of the lines.
-const SIM_LINES: &str = "Lines:
-  params K H L                     first; numbers from 0 to 255
-  found N ..                       second: the founders, ascending; founder N is at port N
-  start N PORT SEEDPORT            process N starts at a port, and asks at the port of a member
-  probe N RING ok|fail [COUNT]     node N has a result of a probe on a ring
-  lose N                           four probes of N fail on each ring on which it is observed
-  tick N [COUNT]                   the clock of node N ticks
-  deliver P                        packet P comes to the node at its endpoint
-  drop P                           packet P is passed over by later flows
-  flow                             delivers packets in order until there are none, or 10,000 were passed
-  crash N                          node N stops for good
-  packets                          prints how many packets were sent
-Processes are numbers from 1 to 65535 at 127.0.0.1, packets are numbered from 1 in the order sent, and
-COUNT is 1 to 1000. A line that begins with # is passed over. A line that is refused prints its
-reason; of a repeated event what came before stands. A view that a node enters prints a line.
-
-Status: 0 at the end of the input and after help, 1 where standard input or output failed,
-2 where the words were refused, 3 for want of memory.";
-
-/// What `cluster --help` says of what it does.
-const CLUSTER_TURNS: &str =
-    "Process 1 is the founder, and the others ask it to let them in. A turn delivers the least packet
-that no turn has delivered or passed over and at whose endpoint a node runs, or where there is none
-lets the clock of the next node tick. At the end it prints
-  events E                       how many starts and turns there were
-  node N height H members ..     for each member; node N joining for one that has no view
-  agree yes|no                   no where two nodes hold different identifiers at one height
-
-Status: 0 at the end and after help, 1 where standard output failed, 2 where the words were refused,
-3 for want of memory.";
 
 /// The most clerks of a cluster.
 const MOST_WORKERS: u16 = 32;
@@ -116,38 +68,71 @@ pub enum Job {
     Cluster(Setting),
 }
 
-/// An option whose value is a number.
-pub(crate) fn number<'a>(alloc: Global, name: &'a str, default: &'a str, help: &'a str) -> Arg<'a> {
-    text(alloc, name, "NUMBER", help).default_value(default)
+/// An option whose value is a number from the least to the most.
+pub(crate) fn number<'a>(
+    alloc: Global,
+    name: &'a str,
+    default: &'a str,
+    least: i64,
+    most: i64,
+    help: &'a str,
+) -> Arg<'a> {
+    text(alloc, name, "NUMBER", help)
+        .default_value(default)
+        .value_parser(ValueParser::signed(least, most))
 }
 
-/// The words that `cluster` takes.
-fn cluster<'a>(alloc: Global) -> Result<Command<'a>, AllocError> {
-    let nodes = number(alloc, "nodes", "3", "How many nodes, 1 to 64");
-    let workers = number(alloc, "workers", "4", "How many threads, 1 to 32");
-    let turns = number(
+/// The command with the options K, H and L. Their order is judged later, so each takes any byte.
+pub(crate) fn with_params<'a>(
+    alloc: Global,
+    command: Command<'a>,
+) -> Result<Command<'a>, AllocError> {
+    let k = number(
         alloc,
-        "turns",
+        "k",
         "10",
-        "How many turns each thread takes, 1 to 10000",
+        0,
+        255,
+        "K, how many rings there are, H to 16",
     );
-    let k = number(alloc, "k", "10", "K, how many rings there are");
-    let h = number(alloc, "h", "9", "H, how many reports make a process stable");
+    let h = number(
+        alloc,
+        "h",
+        "9",
+        0,
+        255,
+        "H, how many reports make a process stable, L to K",
+    );
     let l = number(
         alloc,
         "l",
         "3",
-        "L, how many reports make a process unstable",
+        0,
+        255,
+        "L, how many reports make a process unstable, 1 to H",
     );
-    Command::new(alloc, "cluster")
+    command.arg(k)?.arg(h)?.arg(l)
+}
+
+/// The words that `cluster` takes.
+fn cluster<'a>(alloc: Global) -> Result<Command<'a>, AllocError> {
+    let nodes = number(alloc, "nodes", "3", 1, 64, "How many nodes, 1 to 64");
+    let workers = number(alloc, "workers", "4", 1, 32, "How many threads, 1 to 32");
+    let turns = number(
+        alloc,
+        "turns",
+        "10",
+        1,
+        10_000,
+        "How many turns each thread takes, 1 to 10000",
+    );
+    let command = Command::new(alloc, "cluster")
         .about("Lets threads drive a simulated cluster, and prints what its nodes hold at the end")
         .after_help(CLUSTER_TURNS)
-        .arg(nodes.value_parser(value_parser!(u16).range(1..=64)))?
-        .arg(workers.value_parser(value_parser!(u16).range(1..=32)))?
-        .arg(turns.value_parser(value_parser!(u16).range(1..=10_000)))?
-        .arg(k.value_parser(value_parser!(u8)))?
-        .arg(h.value_parser(value_parser!(u8)))?
-        .arg(l.value_parser(value_parser!(u8)))
+        .arg(nodes)?
+        .arg(workers)?
+        .arg(turns)?;
+    with_params(alloc, command)
 }
 
 /// The words that the program takes.
@@ -162,6 +147,7 @@ fn grammar<'a>(alloc: Global) -> Result<Command<'a>, AllocError> {
         .after_help(SIM_LINES);
     Command::new(alloc, "rapidd")
         .about("Decentralized membership with Fast Paxos views")
+        .version(VERSION)
         .after_help(STATUSES)
         .subcommand_required(true)
         .subcommand(detect)?
@@ -234,25 +220,45 @@ fn run<T: Threads + Wait + Sync, R: Read, O: Write, E: Write>(
     status_of(ran)
 }
 
-/// Tells why there is nothing to run: help, or a fault of the words.
-fn tell<O: Write, E: Write>(error: &Error, out: &mut O, err: &mut E) -> u8
+/// Tells of a fault of the words. What is missing or out of range is named with what is wanted, all
+/// else is told as `clap` has it.
+fn tell_fault<S: AsStr, E: Write>(error: &Error, words: &[S], err: &mut E) {
+    let told = match error.kind() {
+        ErrorKind::ValueValidation | ErrorKind::InvalidValue | ErrorKind::UnknownArgument => {
+            tell_refused(words, err)
+        }
+        ErrorKind::MissingRequiredArgument => {
+            tell_missing(err);
+            true
+        }
+        _ => false,
+    };
+    if !told {
+        let _ = write!(err, "{error}");
+    }
+}
+
+/// Tells why there is nothing to run: help, the version, or a fault of the words.
+fn tell<S: AsStr, O: Write, E: Write>(error: &Error, words: &[S], out: &mut O, err: &mut E) -> u8
     ensures memory { kind_of error.now ≡ ErrorKind.OutOfMemory → result ≡ 3 }
     ensures refused { kind_of error.now ≢ ErrorKind.OutOfMemory → kind_of error.now ≢ ErrorKind.DisplayHelp
         → kind_of error.now ≢ ErrorKind.DisplayVersion → result ≡ 2 }
     ensures status { result ≤ 3 }
     ensures silent { 1 < result → out.new ≡ out.old }
 {
-    if error.use_stderr() {
-        let _ = write!(err, "{error}");
-        return if error.kind() == ErrorKind::OutOfMemory {
+    match error.kind() {
+        ErrorKind::DisplayHelp | ErrorKind::DisplayVersion => match write!(out, "{error}") {
+            Ok(()) => DONE,
+            Err(_) => FAILED,
+        },
+        ErrorKind::OutOfMemory => {
+            let _ = write!(err, "{error}");
             NO_MEMORY
-        } else {
+        }
+        _ => {
+            tell_fault(error, words, err);
             REFUSED
-        };
-    }
-    match write!(out, "{error}") {
-        Ok(()) => DONE,
-        Err(_) => FAILED,
+        }
     }
 }
 
@@ -274,17 +280,27 @@ fn matches_of<'a, S: AsStr>(alloc: Global, words: &'a [S]) -> Result<ArgMatches<
     grammar(alloc)?.try_get_matches_from(words)
 }
 
+/// The number behind an option, where it is a byte.
+fn byte_behind(words: &ArgMatches, option: &str) -> Option<u8> {
+    words.get_one::<u8>(option)
+}
+
+/// The number behind an option, where it has at most 16 bits.
+fn number_behind(words: &ArgMatches, option: &str) -> Option<u16> {
+    words.get_one::<u16>(option)
+}
+
 /// The setting of a cluster, where K, H and L are in order.
 fn setting_of(words: &ArgMatches) -> Option<Setting>
-    ensures { IfSome result (λ setting. setting.workers ≤ 32) }
+    ensures runs { IfSome result (λ setting. setting.workers ≤ 32) }
 {
-    let k = words.get_one::<u8>("k")?;
-    let h = words.get_one::<u8>("h")?;
-    let l = words.get_one::<u8>("l")?;
+    let k = byte_behind(words, "k")?;
+    let h = byte_behind(words, "h")?;
+    let l = byte_behind(words, "l")?;
     let params = Params::new(k, h, l).ok()?;
-    let nodes = words.get_one::<u16>("nodes")?;
-    let turns = words.get_one::<u16>("turns")?;
-    let workers = words.get_one::<u16>("workers")?;
+    let nodes = number_behind(words, "nodes")?;
+    let workers = number_behind(words, "workers")?;
+    let turns = number_behind(words, "turns")?;
     if workers > MOST_WORKERS {
         return None;
     }
@@ -298,24 +314,25 @@ fn setting_of(words: &ArgMatches) -> Option<Setting>
 
 /// The command that the words name, where K, H and L are in order.
 fn job_of(words: &ArgMatches) -> Option<Job>
-    ensures { IfSome result CanRun }
+    ensures runs { IfSome result CanRun }
 {
-    match words.subcommand()? {
-        ("detect", _) => Some(Job::Detect),
-        ("sim", _) => Some(Job::Sim),
-        ("cluster", more) => Some(Job::Cluster(setting_of(more)?)),
-        _ => None,
+    if words.subcommand_matches("detect").is_some() {
+        return Some(Job::Detect);
     }
+    if words.subcommand_matches("sim").is_some() {
+        return Some(Job::Sim);
+    }
+    let setting = setting_of(words.subcommand_matches("cluster")?)?;
+    Some(Job::Cluster(setting))
 }
 
 /// Tells that K, H and L are refused.
-fn refuse<E: Write>(err: &mut E) -> u8
+fn refuse<E: Write>(words: &ArgMatches, err: &mut E) -> u8
     ensures { result ≡ 2 }
 {
-    let _ = writeln!(
-        err,
-        "error: K, H and L are not in order: 1 <= L <= H <= K <= 16"
-    );
+    if let Some((command, words)) = words.subcommand() {
+        tell_params(command, words, err);
+    }
     REFUSED
 }
 
@@ -343,20 +360,20 @@ where
     ensures status { result ≤ 3 }
 {
     match matches_of(alloc, words) {
-        Err(error) => tell(&error, out, err),
-        Ok(matches) => match node_words(&matches) {
+        Err(error) => tell(&error, words, out, err),
+        Ok(matches) => match node_matches(&matches) {
             Some(asked) => run_as_node(rt, alloc, asked, reader, out, err),
-            None => refuse(err),
+            None => refuse(&matches, err),
         },
     }
 }
 
 /// Does what the words ask for, of which the first is the program's name, and answers the status.
-/// Where that is 0, either what the input prints by a command was written, and nothing else, or the
-/// input was not read, as for help. Where it is 1, a beginning of that was written, or the input
-/// was not read and help could not be written. Where it is 2 nothing was written, and where it is 3
-/// a beginning of what the input prints. Of what `node` writes nothing is said, unless it is
-/// refused.
+/// Where that is 0, the words name a command and what the input prints by it was written, and
+/// nothing else, or they ask for help or the version, and the input was not read. Where it is 1, a
+/// beginning of that was written, or help or the version could not be written. Where it is 2
+/// nothing was written, and where it is 3 a beginning of what the input prints by the command that
+/// the words name, or nothing. Of what `node` writes nothing is said, unless it is refused.
 pub fn run_words<T, S, R, O, E>(
     rt: &T,
     alloc: Global,
@@ -377,9 +394,11 @@ where
     O: Write + Send,
     E: Write + Send,
     ensures written { result ≡ 0 → NamesNode S.text words.now ⊎
-        ((job : Job) × Wrote job (R.remaining reader.old) (O.contents out.old) (O.contents out.new)) ⊎ (reader.new ≡ reader.old) }
+        ((job : Job) × Wrote job (R.remaining reader.old) (O.contents out.old) (O.contents out.new)) ⊎
+        (reader.new ≡ reader.old) }
     ensures failed { result ≡ 1 → NamesNode S.text words.now ⊎
-        ((job : Job) × WroteFront job (R.remaining reader.old) (O.contents out.old) (O.contents out.new)) ⊎ (reader.new ≡ reader.old) }
+        ((job : Job) × WroteFront job (R.remaining reader.old) (O.contents out.old) (O.contents out.new)) ⊎
+        (reader.new ≡ reader.old) }
     ensures refused { result ≡ 2 → out.new ≡ out.old }
     ensures memory { result ≡ 3 → NamesNode S.text words.now ⊎
         ((job : Job) × WroteFront job (R.remaining reader.old) (O.contents out.old) (O.contents out.new)) }
@@ -389,10 +408,10 @@ where
         return run_node_words(rt, alloc, words, reader, out, err);
     }
     match matches_of(alloc, words) {
-        Err(error) => tell(&error, out, err),
+        Err(error) => tell(&error, words, out, err),
         Ok(matches) => match job_of(&matches) {
             Some(job) => run(rt, alloc, job, reader, out, err),
-            None => refuse(err),
+            None => refuse(&matches, err),
         },
     }
 }

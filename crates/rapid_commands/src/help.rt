@@ -1,0 +1,100 @@
+// What the helps of the program say.
+
+/// The version of the program.
+pub(crate) const VERSION: &str = "0.1.0";
+
+/// What `--help` says of the statuses.
+pub(crate) const STATUSES: &str =
+    "Status: 0 at the end of the input and after help and the version, 1 if standard input or output
+failed, 2 if the words were refused, 3 if memory ran out. Of node see rapidd node --help.
+Faults go to standard error as error: .., all else to standard output.";
+
+/// What `detect --help` says of the lines.
+pub(crate) const DETECT_LINES: &str = "Lines:
+  watermarks K H L               once, before all others; 1 <= L <= H <= K <= 16
+  joiner N                       process N is no member; all others are
+  edge RING OBSERVER SUBJECT     an edge of the table of observers
+  remove RING OBSERVER SUBJECT   an alert to remove a member, for the next batch
+  join RING OBSERVER SUBJECT     an alert to let a joiner in, for the next batch
+  batch                          hands the batch to the detector, and prints its cut or none
+Processes are numbers from 1 to 65535. A line that begins with # is passed over.
+
+A line that is refused prints refused NAME and has no effect. The run goes on, and its status stays 0.
+NAME is the first of these that holds:
+  BadLine        the line is none of the above, or a second watermarks
+  NoWatermarks   watermarks was not taken yet
+  BadParams      K, H and L are not 1 <= L <= H <= K <= 16
+  TooLate        joiner or edge after the first alert or batch
+  TooMany        more than 512 joiners, 16384 edges, 1024 subjects that are members, or 16384 alerts a batch
+  RingRange      an edge on a ring that is not below K
+  EdgeTwice      the subject has an observer on this ring
+
+Status: 0 at the end of the input and after help, 1 if standard input or output failed, 2 if the words
+were refused, 3 if memory ran out.";
+
+/// What `sim --help` says of the lines.
+pub(crate) const SIM_LINES: &str = "Lines:
+  params K H L                     first; 1 <= L <= H <= K <= 16
+  found N ..                       second: the founders, ascending; founder N is at port N
+  start N PORT SEEDPORT            process N starts at a port, and asks at the port of a member
+  probe N RING ok|fail [COUNT]     node N has a result of a probe on a ring
+  lose N                           four probes of N fail on each ring on which it is observed
+  tick N [COUNT]                   the clock of node N ticks
+  deliver P                        packet P comes to the node at its endpoint
+  drop P                           packet P is passed over by later flows
+  flow                             delivers packets in order until there are none, or 10,000 were passed
+  crash N                          node N stops for good
+  packets                          prints how many packets were sent
+Processes are numbers from 1 to 65535 at 127.0.0.1, packets are numbered from 1 in the order sent, and
+COUNT is 1 to 1000. A line that begins with # is passed over. A view that a node enters prints a line.
+
+A line that is refused prints refused NAME and has no effect; of a repeated event what came before
+stands. The run goes on, and its status stays 0. NAME is one of
+  BadLine          the line is none of the above, a second params or found, or drops a packet never sent
+  NoParams         params or found was not taken yet
+  BadParams        K, H and L are not 1 <= L <= H <= K <= 16
+  IdentifierUsed   process N was started before
+  EndpointBusy     a node runs at the port
+  NoSuchNode       no node N runs, or none at the packet's endpoint
+  NoSuchPacket     no packet P was sent
+  NotObserved      node N observes nobody on the ring
+  EventsFull       1000000 events were accepted
+
+Status: 0 at the end of the input and after help, 1 if standard input or output failed, 2 if the words
+were refused, 3 if memory ran out.";
+
+/// What `cluster --help` says of what it does.
+pub(crate) const CLUSTER_TURNS: &str =
+    "Process 1 is the founder, and the others ask it to let them in. A turn delivers the least packet
+that no turn has delivered or passed over and at whose endpoint a node runs, or if there is none
+lets the clock of the next node tick. At the end it prints
+  events E                       how many starts and turns there were
+  node N height H members ..     for each member; node N joining for one that has no view
+  agree yes|no                   no if two nodes hold different identifiers at one height
+
+Status: 0 at the end and after help, 1 if standard output failed, 2 if the words were refused, 3 if
+memory ran out.";
+
+/// What `node --help` says of the lines.
+pub(crate) const NODE_LINES: &str = "Lines of standard input:
+  tick [COUNT]   the clock ticks so often, 1 to 1000 times
+  view           prints the present view, or no view
+  quit           ends the node, as the end of the input does
+A line that begins with # is passed over, and another prints refused BadLine. Each view that the node
+enters prints
+  height H members ENDPOINT ..
+An ENDPOINT is 127.x.x.x:PORT with a port from 1 to 65535, such as 127.0.0.1:7401. K, H and L are those
+of a cluster that the node founds, 1 <= L <= H <= K <= 16; one that joins takes those of its cluster.
+
+All that a node does by itself it does at its ticks: it asks to be let in, probes those that it observes
+at every tenth tick, reports and votes. With --tick-ms 0, the default, only the lines tick make it tick.
+Such a member neither notices crashes nor takes part in removing them, and may hold up its whole
+cluster. For anything but driving nodes by hand give all nodes of a cluster the same number, such as
+--tick-ms 100.
+
+SIGTERM, SIGINT and SIGHUP are not caught: each ends the node at once, by the signal. The other members
+notice it as a crash. The end of standard input ends the node too, so keep it open while it should run.
+
+Status: 0 at the end of the input, after quit and after help, 1 if standard input or output failed or
+the port is not to be had, 2 if the words were refused, 3 if memory ran out, the node has halted or its
+journal is full.";
