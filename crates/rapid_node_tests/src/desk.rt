@@ -2,7 +2,6 @@
 
 mod founding;
 mod journal;
-mod memory;
 mod published;
 mod subscriptions;
 mod threads;

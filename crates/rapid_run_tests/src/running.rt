@@ -2,5 +2,4 @@
 
 mod clusters;
 mod devices;
-mod memory;
 mod rows;
