@@ -4,7 +4,6 @@ mod checkpoints;
 mod ending;
 mod founding;
 mod journal;
-mod memory;
 mod published;
 mod subscriptions;
 mod threads;

@@ -8,7 +8,6 @@ mod echo;
 mod edges;
 mod founding;
 mod join;
-mod memory;
 mod network;
 mod plays;
 mod probes;

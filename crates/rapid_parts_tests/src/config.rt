@@ -5,5 +5,4 @@ mod configurations;
 mod cuts;
 mod endpoints;
 mod hexadecimal;
-mod memory;
 mod readings;

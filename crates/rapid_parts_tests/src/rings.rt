@@ -1,7 +1,6 @@
 // Tests of who observes whom, of probe windows and of joins.
 
 mod joins;
-mod memory;
 mod monitors;
 mod rings;
 mod tables;

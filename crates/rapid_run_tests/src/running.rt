@@ -3,7 +3,6 @@
 mod clusters;
 mod devices;
 mod ends;
-mod memory;
 mod repeats;
 mod rows;
 mod scarce;

@@ -1,7 +1,6 @@
 // Tests of frames on their way.
 
 mod devices;
-mod memory;
 mod patience;
 mod peers;
 mod places;

@@ -1,6 +1,5 @@
 // Tests of whole worlds.
 
 mod joins;
-mod memory;
 mod refusals;
 mod worlds;

@@ -117,7 +117,7 @@ fn observer(
 }
 
 /// The batch of the one alert of its observer that a process joins.
-pub fn joining(
+fn joining(
     rt: &impl Abort,
     alloc: Global,
     configuration: &Configuration,

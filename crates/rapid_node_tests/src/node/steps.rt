@@ -1,14 +1,11 @@
 // What happens to one node, in order, and what it answers.
 
-use crate::node::assertions::{
-    assert_answers, assert_halted, assert_outputs, assert_phase, assert_shows, told,
-};
+use crate::node::assertions::{assert_answers, assert_outputs, assert_phase, assert_shows, told};
 use crate::node::founding::{member, shown};
-use crate::node::network::joining;
 use crate::node::said::{Said, To};
 use crate::numbered::{cut, process};
 use rapid_config::ConfigId;
-use rapid_node::{Body, Event, Message, Node, NodeFault, Outputs, Phase};
+use rapid_node::{Body, Event, Message, Node, Outputs, Phase};
 use std::alloc::Global;
 use std::process::Abort;
 use std::test::Fail;
@@ -37,21 +34,6 @@ pub enum Word {
     ProbeAck(Which),
     /// The process with this number says that the cut of that process is decided.
     Decision(u16),
-    /// The third process asks to be let in, on ring 0.
-    JoinRequest,
-    /// The batch of the one alert of its observer that the third process joins.
-    Joining,
-}
-
-/// What a node shows after a step that has memory.
-#[derive(Clone, Copy)]
-pub struct Outcome<'a> {
-    /// What it sent: to whom, and what.
-    pub sent: &'a [(To, Said)],
-    /// The height of its configuration.
-    pub height: u64,
-    /// The members of its configuration.
-    pub members: &'a [u16],
 }
 
 /// What happens to a node, or what is seen of it.
@@ -66,8 +48,6 @@ pub enum Step<'a> {
     Shows(u64, &'a [u16]),
     /// It is in this phase.
     Is(Phase),
-    /// It hears this, as one of these founders, and has the outcome, or halts for want of memory.
-    Tries(Word, &'a [u16], Outcome<'a>),
 }
 
 /// The identifier of a configuration, to a node that showed this one at first.
@@ -82,12 +62,6 @@ fn identifier(rt: &impl Abort, node: &Node, first: ConfigId, which: Which) -> Co
 /// A message of a process reaches a node.
 fn heard(number: u16, body: Body) -> Result<Event, Fail> {
     Ok(Event::Receive(Message::new(process(number), body)?))
-}
-
-/// The batch of the one alert of its observer that the third process joins.
-fn batch(rt: &impl Abort, alloc: Global, node: &Node) -> Result<Event, Fail> {
-    let configuration = node.configuration().expect(rt, "a configuration");
-    Ok(Event::Receive(joining(rt, alloc, configuration, process(3))?))
 }
 
 /// The event of what a node hears, where it showed this configuration at first.
@@ -110,8 +84,6 @@ fn event(
             let cut = cut(alloc, number)?;
             heard(number, Body::Decision(shown(rt, node), cut))
         }
-        Word::JoinRequest => heard(3, Body::JoinRequest(shown(rt, node), 0)),
-        Word::Joining => batch(rt, alloc, node),
     }
 }
 
@@ -152,24 +124,6 @@ fn answers(
     expected: &[(To, Said)],
 ) -> Result<(), Fail> {
     assert_answers(rt, node, &event, expected)
-}
-
-/// Checks the step of a founder among so many founders at an event: it has the outcome, or, for
-/// want of memory, the node has halted and shows the founding configuration alone.
-fn tries(rt: &impl Abort, node: &mut Node, event: Event, founders: &[u16], outcome: Outcome) {
-    match told(node, event) {
-        Ok(outputs) => {
-            assert_phase(rt, node, Phase::Member);
-            assert_outputs(rt, &outputs, outcome.sent);
-            assert_shows(rt, node, outcome.height, outcome.members);
-        }
-        Err(fault) => {
-            assert!(rt; fault == NodeFault::OutOfMemory);
-            assert_shows(rt, node, 0, founders);
-            assert!(rt; node.installed().len() == 1);
-            assert_halted(rt, node, &Event::Tick);
-        }
-    }
 }
 
 /// Checks that a node acknowledges a configuration, and decides in another, if one is said.
@@ -213,11 +167,6 @@ fn take(
         }
         Step::Is(phase) => {
             assert_phase(rt, node, phase);
-            Ok(())
-        }
-        Step::Tries(word, founders, outcome) => {
-            let event = event(rt, alloc, &*node, first, word)?;
-            tries(rt, node, event, founders, outcome);
             Ok(())
         }
     }

@@ -65,10 +65,6 @@ enum Call {
     RaiseJoiners(u16, usize),
     /// Alerts on so many members, from 2 on, on each of sixteen rings; all are raised.
     RaiseMembers(u16),
-    /// An alert that is raised, again where a growth is refused.
-    RaiseAgain(Kind, u8, u16, u16),
-    /// A batch of so many alerts, asked for again where a growth is refused.
-    FlushAgain(usize),
 }
 
 /// Raises the alerts on so many joiners, from 2 on, on ring 0; how many of them were raised.
@@ -99,22 +95,6 @@ fn raise_members(outbox: &mut Outbox<Table>, members: u16) -> Result<(), RaiseEr
     Ok(())
 }
 
-/// An alert, raised again where a growth is refused: the outbox is then as it was.
-fn raised_again(outbox: &mut Outbox<Table>, alert: &Alert) -> Result<Raising, RaiseError> {
-    match outbox.raise(*alert) {
-        Err(RaiseError::OutOfMemory) => outbox.raise(*alert),
-        answer => answer,
-    }
-}
-
-/// How many alerts the next batch has, asked for again where a growth is refused.
-fn flushed_again(outbox: &mut Outbox<Table>) -> Result<usize, AllocError> {
-    match flushed(outbox) {
-        Err(_refused) => flushed(outbox),
-        answer => answer,
-    }
-}
-
 /// Whether a call answers as it has to.
 fn answers(outbox: &mut Outbox<Table>, call: &Call) -> Result<bool, AllocError> {
     match call {
@@ -135,11 +115,6 @@ fn answers(outbox: &mut Outbox<Table>, call: &Call) -> Result<bool, AllocError> 
         }
         Call::RaiseJoiners(joiners, raised) => Ok(raise_joiners(outbox, *joiners) == *raised),
         Call::RaiseMembers(members) => Ok(raise_members(outbox, *members).is_ok()),
-        Call::RaiseAgain(kind, ring, observer, subject) => {
-            let joining = alert(*kind, *ring, *observer, *subject);
-            Ok(raised_again(outbox, &joining) == Ok(Raising::Raised))
-        }
-        Call::FlushAgain(count) => Ok(flushed_again(outbox)? == *count),
     }
 }
 
@@ -218,14 +193,6 @@ fn a_batch_has_at_most_2048_alerts(rt: HostRuntime) -> Result<(), Fail> {
     runs(rt.alloc(), &Start::Members(129), &FLUSHES)
 }
 
-const AGAIN: [Call; 2] = [Call::RaiseAgain(Kind::Join, 0, 1, 2), Call::FlushAgain(1)];
-
-/// Where some growth is refused the outbox is as it was, and the next call works.
-#[test]
-fn want_of_memory_leaves_the_outbox_as_it_was(rt: HostRuntime) -> Result<(), Fail> {
-    runs(rt.alloc(), &Start::Joiners(1), &AGAIN)
-}
-
 /// Whether a copy of an outbox over an equal table has raised nothing.
 fn copy_is_empty(outbox: &Outbox<Table>, table: Table) -> Result<bool, AllocError>
     requires { table ≡ outbox.now.table }
@@ -293,18 +260,6 @@ fn refusal_of_none(alloc: Global) -> Option<BatchError> {
 fn a_batch_is_refused_by_the_first_reason(rt: HostRuntime) -> Result<(), Fail> {
     assert!(rt; refusal_of_none(rt.alloc()) == Some(BatchError::EmptyBatch));
     are_refused(rt.alloc(), &REFUSALS)
-}
-
-/// Whether a copy of a batch of two alerts has two.
-fn copy_has_two(alloc: Global) -> Result<bool, BatchError> {
-    let batch = Batch::new(alerts(alloc, 2)?)?;
-    Ok(batch.try_copy(alloc)?.alerts().len() == 2)
-}
-
-#[test]
-fn want_of_memory_in_batches(rt: HostRuntime) -> Result<(), Fail> {
-    assert!(rt; copy_has_two(rt.alloc())?);
-    Ok(())
 }
 
 const RAISING: [(RaiseError, u8); 5] = [

@@ -18,8 +18,6 @@ enum Call<'a> {
     /// A batch that removes, the numbers of its cut, none where it has no cut, and how many alerts
     /// are skipped.
     Remove(&'a [Edge], &'a [u16], usize),
-    /// The same, handed in again where a growth is refused.
-    RemoveAgain(&'a [Edge], &'a [u16], usize),
     /// A batch that lets in, and the same.
     Join(&'a [Edge], &'a [u16], usize),
     /// A batch that lets in so many joiners, from 2 on, whom process 1 observes, by ring 0, has no
@@ -92,19 +90,6 @@ fn cuts(
     has_cut(detector, alerts.as_slice(), cut, skipped)
 }
 
-/// Whether a batch that removes has this cut and skips so many alerts, handed in again where a
-/// growth is refused: the detector is then as it was.
-fn cuts_again(
-    alloc: Global,
-    detector: &mut Detector<Table>,
-    (edges, cut, skipped): (&[Edge], &[u16], usize),
-) -> Result<bool, AllocError> {
-    match cuts(alloc, detector, Kind::Remove, (edges, cut, skipped)) {
-        Err(_refused) => cuts(alloc, detector, Kind::Remove, (edges, cut, skipped)),
-        answer => answer,
-    }
-}
-
 /// Whether a batch that lets in so many joiners, from 2 on, has no cut and skips so many of them.
 fn lets_in(
     alloc: Global,
@@ -127,9 +112,6 @@ fn answers(alloc: Global, detector: &mut Detector<Table>, call: &Call) -> Result
     match call {
         Call::Remove(edges, cut, skipped) => {
             cuts(alloc, detector, Kind::Remove, (edges, cut, *skipped))
-        }
-        Call::RemoveAgain(edges, cut, skipped) => {
-            cuts_again(alloc, detector, (edges, cut, *skipped))
         }
         Call::Join(edges, cut, skipped) => {
             cuts(alloc, detector, Kind::Join, (edges, cut, *skipped))
@@ -240,20 +222,6 @@ const JOIN_512: [Call; 3] = [
 #[test]
 fn a_known_joiner_is_taken_when_512_are_there(rt: HostRuntime) -> Result<(), Fail> {
     runs(rt.alloc(), &JOINERS, &JOIN_512)
-}
-
-/// Two batches, the first with an alert that is skipped, bring the cut of process 5.
-const BRINGS: [Call; 3] = [
-    Call::RemoveAgain(&[(2, 3, 5), (1, 2, 5), (0, 2, 5)], &[], 1),
-    Call::RemoveAgain(&[(0, 1, 5)], &[5], 0),
-    Call::Tally(5, 3),
-];
-
-/// Where some growth is refused the detector is as it was, so that batches handed in again bring
-/// the same cut.
-#[test]
-fn want_of_memory_leaves_the_detector_as_it_was(rt: HostRuntime) -> Result<(), Fail> {
-    runs(rt.alloc(), &FIVE, &BRINGS)
 }
 
 /// Whether a copy of a detector over an equal table skipped nothing.

@@ -30,7 +30,7 @@ fn ask(host: &mut Host, own: ConfigId, joiners: u16) -> Result<bool, AllocError>
 }
 
 /// A first question: an identifier and a port, and the number of the answer.
-pub type Question = (u16, u16, u8);
+type Question = (u16, u16, u8);
 
 /// Whether first questions have their answers.
 fn answers_first(host: &Host, cases: &[Question]) -> Result<bool, AllocError> {
@@ -44,7 +44,7 @@ fn answers_first(host: &Host, cases: &[Question]) -> Result<bool, AllocError> {
 
 /// A request: an identifier and a port, whether it names the host's configuration, a ring, and the
 /// number of the answer.
-pub type Request = (u16, u16, bool, u8, u8);
+type Request = (u16, u16, bool, u8, u8);
 
 /// Whether a request has its answer.
 fn answers(
@@ -68,7 +68,7 @@ fn answers_all(host: &mut Host, own: ConfigId, cases: &[Request]) -> Result<bool
 }
 
 /// A joiner and the number of its answer.
-pub type Waited = (u16, u8);
+type Waited = (u16, u8);
 
 /// Whether it is the answer to the joiner who waited.
 fn is_answer((to, answer): &(Process, HostAnswer), (id, code): &Waited) -> bool {
@@ -139,36 +139,9 @@ fn asks_those_of(
     }
 }
 
-/// The number of the answer to a request, made again where its growth is refused.
-fn asked(host: &mut Host, joiner: u16, id: ConfigId) -> Result<u8, AllocError> {
-    let answer = match host.join_request(&process(joiner), id, 0) {
-        Err(_refused) => host.join_request(&process(joiner), id, 0)?,
-        Ok(answer) => answer,
-    };
-    Ok(number(&answer))
-}
-
-/// How many waited for the change, asked again where a growth is refused.
-fn confirmed(host: &mut Host, next: &Configuration) -> Result<usize, AllocError> {
-    match host.confirms(next) {
-        Err(_refused) => Ok(host.confirms(next)?.len()),
-        Ok(answers) => Ok(answers.len()),
-    }
-}
-
-/// Whether three joiners that ask a host wait there, and then none.
-fn three_wait(host: &mut Host, next: &Configuration) -> Result<bool, AllocError> {
-    for joiner in 2..5 {
-        if asked(host, joiner, next.id())? != 6 {
-            return Ok(false);
-        }
-    }
-    Ok(confirmed(host, next)? == 3 && confirmed(host, next)? == 0)
-}
-
 /// A call of a host, and what it answers.
 #[derive(Clone, Copy, Debug)]
-pub enum Call<'a> {
+enum Call<'a> {
     /// The joiners from 2 on, so many of them, ask for ring 0, and each makes the host raise.
     Ask(u16),
     /// First questions.
@@ -181,11 +154,6 @@ pub enum Call<'a> {
     CopyConfirms(&'a [Name], &'a [Waited]),
     /// A first question of process 6, and the observers that it asks then.
     Observers([u16; 3]),
-    /// Three ask for ring 0 and wait until a change to these members, where some growth may be
-    /// refused.
-    ThreeWait(&'a [Name]),
-    /// First questions at a copy.
-    CopyQuestions(&'a [Question]),
 }
 
 /// Whether those who wait at a host get these answers at a change to these members.
@@ -210,18 +178,6 @@ fn copy_confirms(
     confirms_at(alloc, &mut copy, names, waited)
 }
 
-/// Whether three joiners wait until a change to these members.
-fn three_wait_for(alloc: Global, host: &mut Host, names: &[Name]) -> Result<bool, ConfigError> {
-    let next = founded(alloc, THREE, names)?;
-    Ok(three_wait(host, &next)?)
-}
-
-/// Whether first questions at a copy of a host have their answers.
-fn copy_answers(host: &Host, cases: &[Question]) -> Result<bool, AllocError> {
-    let copy = host.try_copy()?;
-    answers_first(&copy, cases)
-}
-
 /// Whether a call of a host, in the configuration with the identifier, answers as it has to.
 fn answers_call(
     alloc: Global,
@@ -236,8 +192,6 @@ fn answers_call(
         Call::Confirms(names, waited) => confirms_at(alloc, host, names, waited),
         Call::CopyConfirms(names, waited) => copy_confirms(alloc, host, names, waited),
         Call::Observers(ports) => Ok(asks_those_of(alloc, host, own, *ports)?),
-        Call::ThreeWait(names) => three_wait_for(alloc, host, names),
-        Call::CopyQuestions(cases) => Ok(copy_answers(host, cases)?),
     }
 }
 
@@ -253,12 +207,7 @@ fn all_answer(alloc: Global, host: &mut Host, own: ConfigId, calls: &[Call]) -> 
 
 /// Sees that all calls of the host that is this process, in the configuration of these members,
 /// answer as they have to, in order.
-pub fn runs(
-    alloc: Global,
-    names: &[Name],
-    (number, port): Name,
-    calls: &[Call],
-) -> Result<(), Fail> {
+fn runs(alloc: Global, names: &[Name], (number, port): Name, calls: &[Call]) -> Result<(), Fail> {
     let configuration = founded(alloc, THREE, names)?;
     let mut host = Host::new(alloc, &configuration, &at(number, port))?;
     all_answer(alloc, &mut host, configuration.id(), calls)
@@ -461,11 +410,4 @@ fn are_shared(alloc: Global) -> Result<bool, AllocError> {
 #[test]
 fn observers_are_shared(rt: HostRuntime) {
     assert!(rt; matches!(are_shared(rt.alloc()), Ok(true)));
-}
-
-/// Where some growth is refused the host is as it was, so that it answers the same when it is asked
-/// again.
-#[test]
-fn want_of_memory_leaves_the_host_as_it_was(rt: HostRuntime) -> Result<(), Fail> {
-    runs(rt.alloc(), &ONE, (1, 1), &[Call::ThreeWait(&ONE)])
 }

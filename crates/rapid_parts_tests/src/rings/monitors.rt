@@ -4,7 +4,6 @@ use crate::numbered::{THREE, process};
 use crate::rings::rings::{TWO, rings_of};
 use rapid_config::ConfigError;
 use rapid_monitor::{Edge, Monitors, Verdict};
-use rapid_rings::Rings;
 use std::alloc::{AllocError, Global};
 use std::test::Fail;
 
@@ -105,8 +104,6 @@ enum Step<'a> {
     Probe(&'a [Probe]),
     /// Probes of a copy, in order.
     Copy(&'a [Probe]),
-    /// Probes of a copy, in order, where it is made: some growth may be refused.
-    CopyIfMade(&'a [Probe]),
 }
 
 /// Whether a step has its verdicts.
@@ -114,22 +111,13 @@ fn steps(alloc: Global, monitors: &mut Monitors, step: &Step) -> Result<bool, Al
     match step {
         Step::Probe(rows) => Ok(all_probe(monitors, rows)),
         Step::Copy(rows) => copy_probes(alloc, monitors, rows),
-        Step::CopyIfMade(rows) => Ok(copy_probes(alloc, monitors, rows).unwrap_or(true)),
     }
 }
 
-/// The monitors of a process, made again where a growth is refused and that is asked for.
-fn made(alloc: Global, rings: &Rings, me: u16, again: bool) -> Result<Monitors, AllocError> {
-    match Monitors::new(alloc, rings, &process(me)) {
-        Err(_refused) if again => Monitors::new(alloc, rings, &process(me)),
-        made => made,
-    }
-}
-
-/// The monitors of a process among two members, made again if asked for.
-fn monitors_of(alloc: Global, me: u16, again: bool) -> Result<Monitors, ConfigError> {
+/// The monitors of a process among two members.
+fn monitors_of(alloc: Global, me: u16) -> Result<Monitors, ConfigError> {
     let rings = rings_of(alloc, THREE, &TWO)?;
-    Ok(made(alloc, &rings, me, again)?)
+    Ok(Monitors::new(alloc, &rings, &process(me))?)
 }
 
 /// Sees that all steps of monitors have their verdicts, in order.
@@ -143,8 +131,8 @@ fn all_step(alloc: Global, monitors: &mut Monitors, all: &[Step]) -> Result<(), 
 }
 
 /// Sees that all steps of the monitors of a process among two members have their verdicts, in order.
-fn monitors_run(alloc: Global, me: u16, again: bool, all: &[Step]) -> Result<(), Fail> {
-    let mut monitors = monitors_of(alloc, me, again)?;
+fn monitors_run(alloc: Global, me: u16, all: &[Step]) -> Result<(), Fail> {
+    let mut monitors = monitors_of(alloc, me)?;
     all_step(alloc, &mut monitors, all)
 }
 
@@ -171,24 +159,12 @@ const BY_RING: [Step; 3] = [
 
 #[test]
 fn the_edges_of_a_member_are_probed_by_ring(rt: HostRuntime) -> Result<(), Fail> {
-    monitors_run(rt.alloc(), 1, false, &BY_RING)
+    monitors_run(rt.alloc(), 1, &BY_RING)
 }
 
 const NO_EDGE: [Step; 1] = [Step::Probe(&[(0, true, None)])];
 
 #[test]
 fn a_stranger_probes_nothing(rt: HostRuntime) -> Result<(), Fail> {
-    monitors_run(rt.alloc(), 9, false, &NO_EDGE)
-}
-
-const AS_THEY_WERE: [Step; 3] = [
-    Step::Probe(&THREE_FAIL),
-    Step::CopyIfMade(&FOURTH_FAILS),
-    Step::Probe(&EACH_BY_ITSELF),
-];
-
-/// Where some growth is refused the next call works, and what was copied is as it was.
-#[test]
-fn want_of_memory_leaves_the_monitors_as_they_were(rt: HostRuntime) -> Result<(), Fail> {
-    monitors_run(rt.alloc(), 1, true, &AS_THEY_WERE)
+    monitors_run(rt.alloc(), 9, &NO_EDGE)
 }

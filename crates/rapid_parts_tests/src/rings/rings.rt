@@ -14,7 +14,7 @@ pub fn rings_of(alloc: Global, marks: Marks, names: &[Name]) -> Result<Rings, Co
 }
 
 /// A ring, an observer and a subject; 0 stands for nobody.
-pub type Edge = (u8, u16, u16);
+type Edge = (u8, u16, u16);
 
 /// Whether each one observes the other on the ring.
 fn are_edges(rings: &Rings, edges: &[Edge]) -> bool {
@@ -28,7 +28,7 @@ fn are_edges(rings: &Rings, edges: &[Edge]) -> bool {
 
 /// A call of rings, and what it answers.
 #[derive(Clone, Copy, Debug)]
-pub enum Call<'a> {
+enum Call<'a> {
     /// Who observes whom.
     Edges(&'a [Edge]),
     /// The subjects of a process, each a ring and a number.
@@ -128,7 +128,7 @@ fn all_answer(alloc: Global, rings: &Rings, calls: &[Call]) -> Result<(), Fail> 
 }
 
 /// Sees that all calls of the rings of these members answer as they have to.
-pub fn runs(alloc: Global, marks: Marks, names: &[Name], calls: &[Call]) -> Result<(), Fail> {
+fn runs(alloc: Global, marks: Marks, names: &[Name], calls: &[Call]) -> Result<(), Fail> {
     let rings = rings_of(alloc, marks, names)?;
     all_answer(alloc, &rings, calls)
 }
@@ -137,7 +137,7 @@ pub fn runs(alloc: Global, marks: Marks, names: &[Name], calls: &[Call]) -> Resu
 pub const TWO: [Name; 2] = [(1, 1), (2, 2)];
 
 /// Who observes whom of two members.
-pub const OF_TWO: [Edge; 8] = [
+const OF_TWO: [Edge; 8] = [
     (0, 2, 1),
     (1, 2, 1),
     (2, 2, 1),

@@ -8,7 +8,7 @@ use std::test::Fail;
 
 /// A call of a table, and what it answers.
 #[derive(Clone, Copy, Debug)]
-pub enum Call {
+enum Call {
     /// An edge: a ring, an observer and a subject.
     Add(u8, u16, u16, Result<(), TableError>),
     /// A process is made a joiner.
@@ -23,10 +23,6 @@ pub enum Call {
     Bare(u8),
     /// The members 2 to 1,025 are observed by process 1 on ring 0.
     Fill,
-    /// An edge from process 1 to process 5 on a ring, put again where a growth is refused.
-    PutAgain(u8),
-    /// Process 9 is made a joiner, again where a growth is refused.
-    JoinAgain,
 }
 
 /// Has the members 2 to 1,025 observed on ring 0; whether each is.
@@ -37,22 +33,6 @@ fn fill(table: &mut Table) -> bool {
         }
     }
     true
-}
-
-/// Puts an edge from process 1 to process 5 on a ring, again where a growth is refused.
-fn put(table: &mut Table, ring: u8) -> Result<(), TableError> {
-    match table.add(ring, process(1), process(5)) {
-        Err(TableError::OutOfMemory) => table.add(ring, process(1), process(5)),
-        answer => answer,
-    }
-}
-
-/// Whether process 9 is made a joiner, again where a growth is refused.
-fn join(table: &mut Table) -> bool {
-    match table.joiner(process(9)) {
-        Err(_refused) => table.is_member(&process(9)) && table.joiner(process(9)).is_ok(),
-        Ok(()) => true,
-    }
 }
 
 /// Whether a call answers as it has to.
@@ -72,8 +52,6 @@ fn answers(table: &mut Table, call: &Call) -> bool {
         }
         Call::Bare(k) => table.params().k() == *k && table.id() == ConfigId::new([0; 32]),
         Call::Fill => fill(table),
-        Call::PutAgain(ring) => put(table, *ring).is_ok(),
-        Call::JoinAgain => join(table),
     }
 }
 
@@ -88,7 +66,7 @@ fn all_answer(table: &mut Table, calls: &[Call]) -> Result<(), Fail> {
 }
 
 /// Sees that all calls of a table answer as they have to, in order.
-pub fn runs(alloc: Global, (k, h, l): Marks, calls: &[Call]) -> Result<(), Fail> {
+fn runs(alloc: Global, (k, h, l): Marks, calls: &[Call]) -> Result<(), Fail> {
     let mut table = Table::new(alloc, Params::new(k, h, l)?);
     all_answer(&mut table, calls)
 }

@@ -1,7 +1,6 @@
-// Worked cases of the fast round, and growths that are refused.
+// Worked cases of the fast round.
 
 use crate::vote::cuts::{cut, is_cut};
-use rapid_config::Cut;
 use rapid_fast::{FastRound, HearError, PositionSet, fast_size};
 use std::alloc::Global;
 use std::test::Fail;
@@ -93,50 +92,5 @@ fn positions(rt: HostRuntime) -> Result<(), Fail> {
     positions.insert(64);
     let copy = positions.try_copy()?;
     assert!(rt; copy.len() == 2 && copy.contains(1023) && !copy.contains(65));
-    Ok(())
-}
-
-/// A vote, given again where its growth is refused.
-fn heard(round: &mut FastRound, position: usize, cut: &Cut) -> Result<Option<Cut>, HearError> {
-    match round.hear(position, cut) {
-        Err(HearError::OutOfMemory) => round.hear(position, cut),
-        answer => answer,
-    }
-}
-
-/// The position at which a cut is decided, where four vote for it and one for another.
-fn decided_at(round: &mut FastRound, x: &Cut, y: &Cut) -> Result<Option<usize>, HearError> {
-    for (position, cut) in [(0, x), (1, y), (2, x), (3, x), (4, x)] {
-        if heard(round, position, cut)?.is_some() {
-            return Ok(Some(position));
-        }
-    }
-    Ok(None)
-}
-
-/// Where some growth is refused the round is as it was, so that votes given again make the same
-/// decision.
-#[test]
-fn want_of_memory_leaves_the_round_as_it_was(rt: HostRuntime) -> Result<(), Fail> {
-    let x = cut(rt.alloc(), 6)?;
-    let y = cut(rt.alloc(), 7)?;
-    let mut round = FastRound::new(rt.alloc(), 5, 0);
-    assert!(rt; decided_at(&mut round, &x, &y)? == Some(4));
-    Ok(())
-}
-
-/// The own vote, and at a copy the other's, decide.
-fn copy_decides(round: &mut FastRound, x: &Cut) -> Result<bool, Fail> {
-    let own = round.vote(x)?;
-    let mut copy = round.try_copy()?;
-    let decided = copy.hear(1, x)?;
-    Ok(own.is_none() && is_cut(decided.as_ref(), Some(6)))
-}
-
-#[test]
-fn want_of_memory_in_a_copied_round(rt: HostRuntime) -> Result<(), Fail> {
-    let x = cut(rt.alloc(), 6)?;
-    let mut round = FastRound::new(rt.alloc(), 2, 0);
-    assert!(rt; copy_decides(&mut round, &x)?);
     Ok(())
 }

@@ -1,4 +1,4 @@
-// Worked cases of classic recovery, and growths that are refused.
+// Worked cases of classic recovery.
 
 ghost use Rattle.std.specs.Prelude.{◌≡◌, ◌<◌};
 
@@ -254,102 +254,5 @@ fn a_learner_answers_at_a_classic_quorum(rt: HostRuntime) -> Result<(), Fail> {
     assert!(rt; copy_learns(&learner, 0, low, &x, None)?);
     assert!(rt; copy_learns(&learner, 1, high, &x, None)?);
     assert!(rt; learns(&mut learner, 1, low, &x, X)?);
-    Ok(())
-}
-
-/// The same, heard again where a growth is refused.
-fn asks_again(
-    coordinator: &mut Coordinator,
-    position: usize,
-    promise: &Promise,
-    wanted: Option<u8>,
-) -> Result<bool, AllocError>
-    requires { position < coordinator.old.size }
-    ensures { coordinator.new.size ≡ coordinator.old.size }
-{
-    match asks(coordinator, position, promise, None, wanted) {
-        Ok(is_right) => Ok(is_right),
-        Err(AllocError) => asks(coordinator, position, promise, None, wanted),
-    }
-}
-
-/// Where some growth is refused the coordinator is as it was, so that promises heard again make the
-/// same request.
-#[test]
-fn want_of_memory_leaves_the_coordinator_as_it_was(rt: HostRuntime) -> Result<(), Fail> {
-    let mut coordinator = Coordinator::new(rt.alloc(), 5, 0);
-    let ballot = coordinator.begin(Ballot::FAST)?;
-    let six = promise(rt.alloc(), ballot, X)?;
-    let seven = promise(rt.alloc(), ballot, Y)?;
-    assert!(rt; asks_again(&mut coordinator, 0, &seven, None)?);
-    assert!(rt; asks_again(&mut coordinator, 1, &six, None)?);
-    assert!(rt; asks_again(&mut coordinator, 2, &seven, Y)?);
-    Ok(())
-}
-
-/// Whether a learner learns as it has to, where a notice is heard again if a growth is refused.
-fn learns_again(
-    learner: &mut Learner,
-    position: usize,
-    cut: &Cut,
-    wanted: Option<u8>,
-) -> Result<bool, AllocError>
-    requires { position < learner.old.size }
-    ensures { learner.new.size ≡ learner.old.size }
-{
-    match learns(learner, position, Ballot::FAST, cut, wanted) {
-        Ok(is_right) => Ok(is_right),
-        Err(AllocError) => learns(learner, position, Ballot::FAST, cut, wanted),
-    }
-}
-
-/// Where some growth is refused the learner is as it was, so that notices heard again teach the
-/// same cut.
-#[test]
-fn want_of_memory_leaves_the_learner_as_it_was(rt: HostRuntime) -> Result<(), Fail> {
-    let x = cut(rt.alloc(), 6)?;
-    let mut learner = Learner::new(rt.alloc(), 3);
-    assert!(rt; learns_again(&mut learner, 0, &x, None)?);
-    assert!(rt; learns_again(&mut learner, 1, &x, X)?);
-    Ok(())
-}
-
-/// Whether an acceptor votes in the fast round, asked again where a growth is refused.
-fn votes_again(acceptor: &mut Acceptor, cut: &Cut) -> bool {
-    match acceptor.fast_vote(cut) {
-        Err(AcceptError::OutOfMemory) => {
-            acceptor.rnd() == Ballot::FAST && acceptor.fast_vote(cut).is_ok()
-        }
-        answer => answer.is_ok(),
-    }
-}
-
-/// The promise of a ballot, asked for again where a growth is refused.
-fn promised_again(acceptor: &mut Acceptor, ballot: Ballot) -> Result<Promise, PromiseError> {
-    match acceptor.promise(ballot) {
-        Err(PromiseError::OutOfMemory) => acceptor.promise(ballot),
-        answer => answer,
-    }
-}
-
-/// Where some growth is refused the acceptor is as it was, so that it makes its promise and its
-/// vote when it is asked again.
-#[test]
-fn want_of_memory_leaves_the_acceptor_as_it_was(rt: HostRuntime) -> Result<(), Fail> {
-    let x = cut(rt.alloc(), 6)?;
-    let mut acceptor = Acceptor::new(rt.alloc());
-    assert!(rt; votes_again(&mut acceptor, &x));
-    let promise = promised_again(&mut acceptor, classic(2, 0))?;
-    assert!(rt; promise.vote == Some((Ballot::FAST, x)));
-    Ok(())
-}
-
-#[test]
-fn want_of_memory_in_copies(rt: HostRuntime) -> Result<(), Fail> {
-    let x = cut(rt.alloc(), 6)?;
-    let low = classic(2, 0);
-    let mut learner = Learner::new(rt.alloc(), 3);
-    assert!(rt; learns(&mut learner, 0, low, &x, None)?);
-    assert!(rt; copy_learns(&learner, 1, low, &x, X)?);
     Ok(())
 }

@@ -2,8 +2,8 @@
 
 ghost use Rattle.std.specs.Prelude.{◌≡◌, ◌≤◌, ◌<◌};
 
-use crate::clerks::books::{alone, joins};
-use crate::clerks::gates::{Door, Meeting};
+use crate::clerks::books::alone;
+use crate::clerks::gates::Meeting;
 use rapid_clerks::{Gate, run_clerks};
 use std::alloc::Global;
 use std::marker::Brand;
@@ -49,30 +49,5 @@ fn taken<G: Gate + Sync, R: Threads + Wait + Sync>(
 fn two_clerks_meet(rt: HostRuntime) -> Result<(), Fail> {
     let counts = taken(&rt, rt.alloc(), &Meeting::new(), 2, 10)?;
     assert_eq!(rt; counts.as_slice(), [10, 10].as_slice());
-    Ok(())
-}
-
-/// Whether as many events are stored as were done, after one and the turns of two clerks.
-fn adds_up<L: Ledger + Send + Sync, R: Threads + Wait + Sync>(
-    rt: &R,
-    alloc: Global,
-    blank: Blank,
-) -> Result<bool, Fail>
-    requires name { blank.name ≡ L.name }
-    requires parts { blank.parts ≡ L.parts }
-    requires room { 33 ≤ blank.parts }
-{
-    let (mut book, mut share) = alone::<L>(alloc, blank)?;
-    let _reports = book.step(&mut share, &joins())?;
-    let book = Mutex::new(book);
-    let counts = run_clerks(rt, alloc, &book, &Door::until(5), &mut share, 2, 6)?;
-    let stored = book.into_inner().stored(&mut share) as u64;
-    let done: u64 = counts.iter().fold(1, |sum, count| sum.wrapping_add(*count));
-    Ok(stored == done)
-}
-
-#[test]
-fn what_clerks_did_is_stored_with_want_of_memory(rt: HostRuntime) -> Result<(), Fail> {
-    assert!(rt; adds_up::<Brand, HostRuntime>(&rt, rt.alloc(), Blank::new(33))?);
     Ok(())
 }

@@ -61,16 +61,3 @@ fn refused_jobs_are_not_counted(rt: HostRuntime) -> Result<(), Fail> {
     assert_eq!(rt; (door.came(), door.left()), (5, 4));
     Ok(())
 }
-
-/// A clerk that was refused a job for want of memory comes to no further one. The last job is
-/// refused for another reason, so that a clerk which went on would have come to more jobs than
-/// that.
-#[test]
-fn a_clerk_stops_at_want_of_memory(rt: HostRuntime) -> Result<(), Fail> {
-    let door = Door::until(6);
-    let unsent = Job::Event(Deliver(0));
-    let jobs = [joins(), Job::Turn, Job::Turn, Job::Turn, Job::Turn, unsent];
-    let done = done(&rt, rt.alloc(), &door, &jobs)?;
-    assert_eq!(rt; door.came(), done.wrapping_add(1));
-    Ok(())
-}

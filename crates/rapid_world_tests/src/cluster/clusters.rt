@@ -60,13 +60,6 @@ fn a_node_without_a_view_is_joining(rt: HostRuntime) -> Result<(), Fail> {
     Ok(())
 }
 
-#[test]
-fn a_report_may_end_with_want_of_memory(rt: HostRuntime) -> Result<(), Fail> {
-    let text = written(&rt, rt.alloc(), 2, 2, 6)?;
-    assert!(rt; text.as_slice().ends_with(b"\nagree yes\n"));
-    Ok(())
-}
-
 /// A writer that takes three bytes at its first call, and fails at every other one.
 #[derive(Drop)]
 struct Narrow {

@@ -59,28 +59,3 @@ impl Write for Narrow {
         Ok(())
     }
 }
-
-/// A writer that allocates nothing.
-#[derive(Drop)]
-pub struct Fixed<'a> {
-    pub bytes: &'a mut [u8],
-    pub length: usize,
-}
-
-impl Write for Fixed<'_> {
-    fn write(&mut self, buf: &[u8]) -> io::Result<usize> {
-        if self.length > self.bytes.len() {
-            return Ok(0);
-        }
-        let room = self.bytes.len() - self.length;
-        let count = room.min(buf.len());
-        let end = self.length + count;
-        self.bytes[self.length..end].copy_from_slice(&buf[..count]);
-        self.length = end;
-        Ok(count)
-    }
-
-    fn flush(&mut self) -> io::Result<()> {
-        Ok(())
-    }
-}

@@ -1,4 +1,4 @@
-// Faults of the input and the output of `sim`, and want of memory.
+// Faults of the input and the output of `sim`.
 
 use crate::sim::worked::joined;
 use rapid_sim::run_sim;
@@ -77,33 +77,4 @@ fn ends_by_name_where_a_write_fails(rt: HostRuntime) -> Result<(), Fail> {
     assert_eq!(rt; ran, Err(RunFault::Write));
     assert!(rt; VIEWS.starts_with(bytes.as_slice()));
     Ok(())
-}
-
-/// Three founders of whom one crashes: two votes are no fast quorum, and recovery decides.
-const RECOVERED: &[u8] =
-    b"params 3 3 1\nfound 1 2 3\ncrash 3\nlose 3\ntick 1\ntick 2\nflow\ntick 1 20\nflow\n";
-
-const RECOVERED_VIEWS: &[u8] = b"node 1 height 0 members 1 2 3\nnode 2 height 0 members 1 2 3\n\
-      node 3 height 0 members 1 2 3\nnode 2 height 1 members 1 2\nnode 1 height 1 members 1 2\n";
-
-/// Want of memory, wherever it is met, ends a run by name, or is counted: then an event was refused
-/// for it, or a node halted. Where it is not met the output is whole.
-#[test]
-fn ends_by_name_or_counts_want_of_memory(rt: HostRuntime) {
-    let mut output = [0u8; 512];
-    let mut writer = Fixed {
-        bytes: &mut output,
-        length: 0,
-    };
-    let mut input = RECOVERED;
-    let ran = run_sim(rt.alloc(), &mut input, &mut writer);
-    let length = writer.length;
-    assert!(rt; length <= output.len());
-    match ran {
-        Ok(0) => assert_eq!(rt; &output[..length], RECOVERED_VIEWS),
-        Ok(_) => assert_ne!(rt; &output[..length], RECOVERED_VIEWS),
-        Err(fault) => {
-            assert_eq!(rt; fault, RunFault::OutOfMemory);
-        }
-    }
 }

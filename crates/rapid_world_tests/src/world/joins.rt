@@ -9,7 +9,7 @@ use std::process::Abort;
 use std::test::Fail;
 
 /// The events by which the process 2 joins the process 1.
-pub fn join() -> [WorldEvent; 9] {
+fn join() -> [WorldEvent; 9] {
     [
         Start(process(2), endpoint(1)),
         Tick(id(2)),

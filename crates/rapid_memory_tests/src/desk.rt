@@ -1,19 +1,64 @@
-// Want of memory at a desk: each call says so by its name, and leaves what it says. The gate runs
-// these tests once for each allocation, with that one refused.
+// A desk: each call says by its error that memory ran out, and leaves what it says.
 
-use crate::desk::founding::{after, alone, confirmation, decision, founding, step};
-use crate::numbered::process;
+ghost use Rattle.std.specs.Prelude.{◌≤◌, ◌<◌};
+
+use crate::numbered::{cut, process};
+use rapid_config::{ConfigId, Configuration, Params};
 use rapid_desk::{Desk, DeskError, Subscription, Taken};
 use rapid_endpoint::Endpoint;
-use rapid_node::{Event, NodeFault};
+use rapid_node::{Body, Event, Message, MessageError, NodeFault};
 use rapid_view::ViewSeat;
 use std::alloc::{AllocError, Global};
 use std::process::Abort;
 use std::sync::Wait;
 use std::test::*;
 
-/// Hands an event to the desk. After want of memory at the desk it takes the event again; where the
-/// node halted in the step, or its view was not published, the node has halted.
+/// The founding configuration of process 1 alone.
+fn founding(alloc: Global) -> Result<Configuration, Fail> {
+    let params = Params::new(3, 3, 1)?;
+    Ok(Configuration::seed(alloc, params, &[process(1)])?)
+}
+
+/// The configuration after a cut of the process with this number.
+fn after(alloc: Global, configuration: &Configuration, number: u16) -> Result<Configuration, Fail> {
+    Ok(configuration.apply(alloc, &cut(alloc, number)?)?)
+}
+
+/// Process 2 says that in the configuration with this identifier the cut of this process was
+/// decided.
+fn decision(alloc: Global, id: ConfigId, number: u16) -> Result<Event, Fail> {
+    let message = Message::new(process(2), Body::Decision(id, cut(alloc, number)?))?;
+    Ok(Event::Receive(message))
+}
+
+/// Process 1 confirms that the configuration was installed.
+fn confirmation(configuration: Configuration) -> Result<Event, MessageError> {
+    let message = Message::new(process(1), Body::Confirm(configuration))?;
+    Ok(Event::Receive(message))
+}
+
+/// The desk of process 1 alone, with so many seats. If its first view was not published, memory
+/// had run out.
+fn alone<R: Wait + Abort>(rt: &R, alloc: Global, seats: usize) -> Result<Box<Desk<&R>>, Fail>
+    requires { (0 < seats) × (seats ≤ 64) }
+{
+    let configuration = founding(alloc)?;
+    let me = process(1);
+    assert!(rt; configuration.is_member(&me));
+    match Desk::seed(rt, alloc, &configuration, me, seats) {
+        Err(DeskError::Unpublished) => Err(AllocError)?,
+        made => Ok(Box::new(alloc, made?)?),
+    }
+}
+
+/// One event at the desk. What is to be sent after it is dropped.
+fn step<R: Wait>(desk: &mut Desk<&R>, event: Event) -> Result<(), DeskError> {
+    desk.step(event)?;
+    Ok(())
+}
+
+/// Hands an event to the desk. A desk that was out of memory takes the event again. If the node
+/// halted in the step, or its view was not published, the node has halted.
 fn hand_over<R: Wait + Abort>(
     rt: &R,
     desk: &mut Desk<&R>,

@@ -1,14 +1,21 @@
-// Want of memory: an event is refused for it and changes nothing, or the node halts whose step it
-// was. The gate runs these tests once for each allocation, with that one refused.
+// A world out of memory: an event is refused and changes nothing, or the node halts whose step it was.
 
 use crate::numbered::{endpoint, id, process};
-use crate::world::joins::join;
-use crate::world::worlds::alone;
-use rapid_world::WorldEvent::{Start, Tick};
+use rapid_config::{Configuration, Params};
+use rapid_world::WorldEvent::{Deliver, Start, Tick};
 use rapid_world::{Report, World, WorldError, WorldEvent};
+use std::alloc::Global;
 use std::test::Fail;
 
-/// Whether a step by the event is accepted and marked as it reports, or refused for want of memory
+/// A world of the process 1 alone, with 3 rings and the marks 3 and 1.
+fn alone(alloc: Global) -> Result<World, Fail> {
+    let params = Params::new(3, 3, 1)?;
+    let founders = [process(1)];
+    let _configuration = Configuration::seed(alloc, params, &founders)?;
+    Ok(World::new(alloc, params, &founders)?)
+}
+
+/// Whether a step by the event is accepted and marked as it reports, or refused out of memory
 /// and not counted.
 fn is_accounted_for(world: &mut World, event: &WorldEvent) -> bool {
     let before = world.accepted();
@@ -30,6 +37,21 @@ fn want_of_memory_in_a_step(rt: HostRuntime) -> Result<(), Fail> {
     let _started = world.step(&Start(process(2), endpoint(1)))?;
     assert!(rt; is_accounted_for(&mut world, &Tick(id(2))));
     Ok(())
+}
+
+/// The events by which the process 2 joins the process 1.
+fn join() -> [WorldEvent; 9] {
+    [
+        Start(process(2), endpoint(1)),
+        Tick(id(2)),
+        Deliver(1),
+        Deliver(2),
+        Deliver(3),
+        Deliver(4),
+        Deliver(5),
+        Tick(id(1)),
+        Deliver(6),
+    ]
 }
 
 #[test]

@@ -1,0 +1,74 @@
+// Endpoints, cuts and configurations: each call says by its error that memory ran out, or makes what
+// it makes with memory.
+
+use crate::numbered::{Marks, Name, at, named, process, seeded};
+use rapid_config::{ConfigError, Configuration, Cut, Params};
+use rapid_endpoint::{Endpoint, Process};
+use std::alloc::{AllocError, Global};
+use std::test::Fail;
+
+#[test]
+fn want_of_memory_in_texts(rt: HostRuntime) -> Result<(), Fail> {
+    let printed = Endpoint::new([127, 0, 0, 1], 7000).to_string(rt.alloc())?;
+    assert!(rt; printed.as_str() == "127.0.0.1:7000");
+    Ok(())
+}
+
+/// The cut of the processes with these names.
+fn cut(alloc: Global, names: &[Name]) -> Result<Cut, ConfigError> {
+    Cut::new(named(alloc, names)?)
+}
+
+/// Whether these are the processes with these names.
+fn are(processes: &[Process], names: &[Name]) -> bool {
+    processes.len() == names.len()
+        && processes
+            .iter()
+            .zip(names)
+            .all(|(it, (number, port))| *it == at(*number, *port))
+}
+
+#[test]
+fn want_of_memory_in_cuts(rt: HostRuntime) -> Result<(), Fail> {
+    let copy = cut(rt.alloc(), &[(2, 2), (3, 3)])?.try_copy(rt.alloc())?;
+    assert!(rt; are(copy.processes(), &[(2, 2), (3, 3)]));
+    Ok(())
+}
+
+/// The processes from 1 to `n`.
+fn processes(alloc: Global, n: u16) -> Result<Vec<Process>, AllocError> {
+    let mut list = Vec::new(alloc);
+    for i in 0..n {
+        list.push(process(i.wrapping_add(1)))?;
+    }
+    Ok(list)
+}
+
+/// The founding configuration of the processes from 1 to `n`, at least one, with these parameters.
+fn founded(alloc: Global, (k, h, l): Marks, n: u16) -> Result<Configuration, ConfigError> {
+    let params = Params::new(k, h, l)?;
+    let founders = processes(alloc, n)?;
+    seeded(alloc, params, founders.as_slice())
+}
+
+/// Whether the bytes of a configuration are read as it, and so is the copy of what was read.
+fn is_read_again(alloc: Global, configuration: &Configuration) -> Result<bool, Fail> {
+    let bytes = configuration.to_bytes(alloc)?;
+    let copy = Configuration::from_bytes(alloc, bytes.as_slice())?.try_copy(alloc)?;
+    Ok(copy.id() == configuration.id())
+}
+
+#[test]
+fn want_of_memory_in_readings(rt: HostRuntime) -> Result<(), Fail> {
+    let two = founded(rt.alloc(), (3, 3, 1), 2)?;
+    assert!(rt; is_read_again(rt.alloc(), &two)?);
+    Ok(())
+}
+
+#[test]
+fn want_of_memory_in_changes(rt: HostRuntime) -> Result<(), Fail> {
+    let cut = cut(rt.alloc(), &[(2, 2), (3, 3)])?;
+    let next = founded(rt.alloc(), (3, 3, 1), 2)?.apply(rt.alloc(), &cut)?;
+    assert!(rt; are(next.members(), &[(1, 1), (3, 3)]));
+    Ok(())
+}

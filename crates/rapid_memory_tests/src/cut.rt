@@ -1,0 +1,136 @@
+// The cut detector over a table of explicit edges: a batch for which memory runs out changes nothing.
+
+use crate::numbered::process;
+use crate::tables::{Edge, table};
+use rapid_alerts::{Alert, Kind};
+use rapid_config::{ConfigId, Cut};
+use rapid_cut::Detector;
+use rapid_endpoint::Process;
+use rapid_rings::Table;
+use std::alloc::{AllocError, Global};
+use std::test::Fail;
+
+/// A call of a detector, and what it answers.
+#[derive(Clone, Copy, Debug)]
+enum Call<'a> {
+    /// A batch that removes, the numbers of its cut, none where it has no cut, and how many alerts
+    /// are skipped. It is handed in again if no memory was to be had.
+    RemoveAgain(&'a [Edge], &'a [u16], usize),
+    /// How many reports there are on a process.
+    Tally(u16, usize),
+}
+
+/// The alert that removes the subject of an edge.
+fn alert(edge: &Edge) -> Alert {
+    Alert {
+        observer: process(edge.1),
+        subject: process(edge.2),
+        ring: edge.0,
+        kind: Kind::Remove,
+        config: ConfigId::zero(),
+    }
+}
+
+/// An alert on each of these edges.
+fn alerts(alloc: Global, edges: &[Edge]) -> Result<Vec<Alert>, AllocError> {
+    let mut alerts = Vec::new(alloc);
+    for edge in edges {
+        alerts.push(alert(edge))?;
+    }
+    Ok(alerts)
+}
+
+/// Whether these are the processes with these numbers.
+fn are_numbered(processes: &[Process], numbers: &[u16]) -> bool {
+    for (found, number) in processes.iter().zip(numbers) {
+        if *found != process(*number) {
+            return false;
+        }
+    }
+    processes.len() == numbers.len()
+}
+
+/// Whether a cut is that of the processes with these numbers; none stands for no cut.
+fn is_cut_of(cut: &Option<Cut>, numbers: &[u16]) -> bool {
+    match cut {
+        Some(cut) => are_numbered(cut.processes(), numbers),
+        None => numbers.is_empty(),
+    }
+}
+
+/// Whether a batch has this cut and skips so many alerts.
+fn has_cut(
+    detector: &mut Detector<Table>,
+    alerts: &[Alert],
+    cut: &[u16],
+    skipped: usize,
+) -> Result<bool, AllocError> {
+    let found = detector.batch(alerts)?;
+    Ok(is_cut_of(&found, cut) && detector.skipped() == skipped)
+}
+
+/// Whether a batch that removes has this cut and skips so many alerts.
+fn cuts(
+    alloc: Global,
+    detector: &mut Detector<Table>,
+    (edges, cut, skipped): (&[Edge], &[u16], usize),
+) -> Result<bool, AllocError> {
+    let alerts = alerts(alloc, edges)?;
+    has_cut(detector, alerts.as_slice(), cut, skipped)
+}
+
+/// Whether a batch that removes has this cut and skips so many alerts, handed in again if no memory
+/// was to be had: the detector is then as it was.
+fn cuts_again(
+    alloc: Global,
+    detector: &mut Detector<Table>,
+    (edges, cut, skipped): (&[Edge], &[u16], usize),
+) -> Result<bool, AllocError> {
+    match cuts(alloc, detector, (edges, cut, skipped)) {
+        Err(_refused) => cuts(alloc, detector, (edges, cut, skipped)),
+        answer => answer,
+    }
+}
+
+/// Whether a call answers as it has to.
+fn answers(alloc: Global, detector: &mut Detector<Table>, call: &Call) -> Result<bool, AllocError> {
+    match call {
+        Call::RemoveAgain(edges, cut, skipped) => {
+            cuts_again(alloc, detector, (edges, cut, *skipped))
+        }
+        Call::Tally(number, reports) => Ok(detector.tally(&process(*number)) == *reports),
+    }
+}
+
+/// Sees that all calls answer as they have to, in order.
+fn all_answer(alloc: Global, detector: &mut Detector<Table>, calls: &[Call]) -> Result<(), Fail> {
+    for call in calls {
+        if !answers(alloc, detector, call)? {
+            return Err(Fail::new(format_args!("answered otherwise: {call:?}")));
+        }
+    }
+    Ok(())
+}
+
+/// Who observes process 5, on four rings.
+const FIVE: [Edge; 4] = [(0, 1, 5), (1, 2, 5), (2, 3, 5), (3, 4, 5)];
+
+/// Sees that all calls of a detector over the edges to process 5 answer as they have to, in order.
+fn runs(alloc: Global, calls: &[Call]) -> Result<(), Fail> {
+    let mut detector = Detector::new(alloc, table(alloc, (4, 3, 2), &[], &FIVE)?);
+    all_answer(alloc, &mut detector, calls)
+}
+
+/// Two batches, the first with an alert that is skipped, bring the cut of process 5.
+const BRINGS: [Call; 3] = [
+    Call::RemoveAgain(&[(2, 3, 5), (1, 2, 5), (0, 2, 5)], &[], 1),
+    Call::RemoveAgain(&[(0, 1, 5)], &[5], 0),
+    Call::Tally(5, 3),
+];
+
+/// After a refused growth the detector is as it was, so that batches handed in again bring the same
+/// cut.
+#[test]
+fn want_of_memory_leaves_the_detector_as_it_was(rt: HostRuntime) -> Result<(), Fail> {
+    runs(rt.alloc(), &BRINGS)
+}

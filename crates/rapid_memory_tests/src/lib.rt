@@ -1,0 +1,37 @@
+//! Tests of what each layer does when memory runs out: a call answers with the error that says so and
+//! changes nothing, or works as it does with memory. The gate runs each of these tests once for each
+//! allocation, with that one refused. That needs a program built by LLVM, so they are proved, and in a
+//! crate of their own. The other tests are in `rapid_parts_tests`, `rapid_node_tests`,
+//! `rapid_world_tests` and `rapid_run_tests`.
+#![tactic(auto)]
+
+#[cfg(test)]
+mod alerts;
+#[cfg(test)]
+mod clerks;
+#[cfg(test)]
+mod config;
+#[cfg(test)]
+mod cut;
+#[cfg(test)]
+mod desk;
+#[cfg(test)]
+mod joins;
+#[cfg(test)]
+mod node;
+#[cfg(test)]
+mod numbered;
+#[cfg(test)]
+mod rings;
+#[cfg(test)]
+mod running;
+#[cfg(test)]
+mod tables;
+#[cfg(test)]
+mod text;
+#[cfg(test)]
+mod vote;
+#[cfg(test)]
+mod wire;
+#[cfg(test)]
+mod world;

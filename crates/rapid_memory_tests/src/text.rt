@@ -1,0 +1,121 @@
+// The engines of `detect`, `sim` and `cluster`: a run ends with an error that says that memory ran
+// out, and has written a beginning of its output.
+
+ghost use Rattle.std.specs.Prelude.{◌≤◌};
+
+use rapid_cluster::run_cluster;
+use rapid_config::Params;
+use rapid_detect::run_detect;
+use rapid_sim::run_sim;
+use rapid_text::RunFault;
+use std::alloc::Global;
+use std::io;
+use std::io::Write;
+use std::sync::Wait;
+use std::test::*;
+use std::thread::Threads;
+
+/// A writer that allocates nothing. It has room for so many bytes, and takes none beyond.
+#[derive(Drop)]
+struct Fixed<'a> {
+    bytes: &'a mut [u8],
+    length: usize,
+}
+
+impl Write for Fixed<'_> {
+    fn write(&mut self, buf: &[u8]) -> io::Result<usize> {
+        if self.length > self.bytes.len() {
+            return Ok(0);
+        }
+        let room = self.bytes.len() - self.length;
+        let count = room.min(buf.len());
+        let end = self.length + count;
+        self.bytes[self.length..end].copy_from_slice(&buf[..count]);
+        self.length = end;
+        Ok(count)
+    }
+
+    fn flush(&mut self) -> io::Result<()> {
+        Ok(())
+    }
+}
+
+/// Two processes of which the first is an observer of the second on two rings.
+const IMPLIED_INPUT: &[u8] =
+    b"bad\nwatermarks 4 3 2\nedge 0 1 5\nedge 1 2 5\nedge 2 3 5\nedge 3 4 5\nedge 0 1 6\n\
+      edge 1 2 6\nedge 2 5 6\nedge 3 5 6\nremove 0 1 5\nremove 1 2 5\nremove 2 3 5\nremove 0 1 6\n\
+      remove 1 2 6\nbatch\n";
+
+/// Wherever memory runs out, the run ends by name, with a beginning of its output.
+#[test]
+fn ends_by_name_for_want_of_memory(rt: HostRuntime) {
+    let whole = b"refused BadLine\ncut 5 6\n";
+    let mut output = [0u8; 64];
+    let mut writer = Fixed {
+        bytes: &mut output,
+        length: 0,
+    };
+    let mut input = IMPLIED_INPUT;
+    let ran = run_detect(rt.alloc(), &mut input, &mut writer);
+    let length = writer.length;
+    assert!(rt; length <= whole.len() && output[..length] == whole[..length]);
+    match ran {
+        Ok(()) => assert_eq!(rt; length, whole.len()),
+        Err(fault) => assert_eq!(rt; fault, RunFault::OutOfMemory),
+    }
+}
+
+/// Three founders of whom one crashes: two votes are no fast quorum, and recovery decides.
+const RECOVERED: &[u8] =
+    b"params 3 3 1\nfound 1 2 3\ncrash 3\nlose 3\ntick 1\ntick 2\nflow\ntick 1 20\nflow\n";
+
+const RECOVERED_VIEWS: &[u8] = b"node 1 height 0 members 1 2 3\nnode 2 height 0 members 1 2 3\n\
+      node 3 height 0 members 1 2 3\nnode 2 height 1 members 1 2\nnode 1 height 1 members 1 2\n";
+
+/// Wherever memory runs out, the run ends by name, or counts it: then an event was refused for it,
+/// or a node halted. If memory never runs out the output is whole.
+#[test]
+fn ends_by_name_or_counts_want_of_memory(rt: HostRuntime) {
+    let mut output = [0u8; 512];
+    let mut writer = Fixed {
+        bytes: &mut output,
+        length: 0,
+    };
+    let mut input = RECOVERED;
+    let ran = run_sim(rt.alloc(), &mut input, &mut writer);
+    let length = writer.length;
+    assert!(rt; length <= output.len());
+    match ran {
+        Ok(0) => assert_eq!(rt; &output[..length], RECOVERED_VIEWS),
+        Ok(_) => assert_ne!(rt; &output[..length], RECOVERED_VIEWS),
+        Err(fault) => {
+            assert_eq!(rt; fault, RunFault::OutOfMemory);
+        }
+    }
+}
+
+/// The reports here have fewer bytes than this, so that a text with room for so many does not grow.
+const ROOM: usize = 200;
+
+/// What is written of a cluster of so many nodes, with 10 rings and the marks 9 and 3.
+fn written<R: Threads + Wait + Sync>(
+    rt: &R,
+    alloc: Global,
+    nodes: u16,
+    workers: usize,
+    turns: usize,
+) -> Result<Vec<u8>, Fail>
+    requires { workers ≤ 32 }
+{
+    let mut text = Vec::with_capacity(alloc, ROOM)?;
+    let params = Params::new(10, 9, 3)?;
+    run_cluster(rt, alloc, &mut text, params, nodes, workers, turns)?;
+    Ok(text)
+}
+
+#[test]
+fn a_report_may_end_with_want_of_memory(rt: HostRuntime) -> Result<(), Fail> {
+    let text = written(&rt, rt.alloc(), 2, 2, 6)?;
+    assert!(rt; text.as_slice().ends_with(b"\nagree yes\n"));
+    Ok(())
+}

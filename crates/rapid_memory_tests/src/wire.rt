@@ -1,0 +1,94 @@
+// Frames: a piece is taken again after memory ran out, and a message asked for again.
+
+use rapid_member::Message;
+use rapid_wire::{Feed, WireFault, encode};
+use std::alloc::{AllocError, Global};
+use std::test::Fail;
+
+/// The processes with the numbers 1, 2 and 3: the identifier n, and the endpoint 127.0.0.1:n.
+const ONE: [u8; 22] = [
+    0, 0, 0, 0, 0, 0, 0, 0, 0, 0, 0, 0, 0, 0, 0, 1, 0x7f, 0, 0, 1, 0, 1,
+];
+
+const TWO: [u8; 22] = [
+    0, 0, 0, 0, 0, 0, 0, 0, 0, 0, 0, 0, 0, 0, 0, 2, 0x7f, 0, 0, 1, 0, 2,
+];
+
+const THREE: [u8; 22] = [
+    0, 0, 0, 0, 0, 0, 0, 0, 0, 0, 0, 0, 0, 0, 0, 3, 0x7f, 0, 0, 1, 0, 3,
+];
+
+/// The identifier of a configuration.
+const ID: [u8; 32] = [7; 32];
+
+/// The bytes of a configuration in front of its members, with the parameters 3, 3 and 1, at height
+/// 0.
+const HEAD: [u8; 47] = [
+    0x52, 0x50, 0x43, 0x31, 0, 0, 0, 0, 0, 0, 0, 0, 0, 0, 0, 0, 0, 0, 0, 0, 0, 0, 0, 0, 0, 0, 0, 0,
+    0, 0, 0, 0, 0, 0, 0, 0, 0, 0, 0, 0, 0, 0, 0, 0, 3, 3, 1,
+];
+
+/// Puts these pieces behind the bytes.
+fn append(bytes: &mut Vec<u8>, pieces: &[&[u8]]) -> Result<(), AllocError> {
+    for piece in pieces {
+        bytes.extend_from_slice(piece)?;
+    }
+    Ok(())
+}
+
+/// A kind, and the parts of a body.
+type Parts<'a> = (u8, &'a [&'a [u8]]);
+
+/// The frame of a body from the process with the number 1.
+fn frame(alloc: Global, (kind, parts): &Parts) -> Result<Vec<u8>, Fail> {
+    let mut payload = Vec::new(alloc);
+    append(&mut payload, &[&[1, *kind], &ONE])?;
+    append(&mut payload, parts)?;
+    let length = u32::try_from(payload.len())?.to_be_bytes();
+    let mut frame = Vec::new(alloc);
+    append(&mut frame, &[&length, payload.as_slice()])?;
+    Ok(frame)
+}
+
+/// Whether a message is written as this frame.
+fn writes(alloc: Global, message: &Message, frame: &[u8]) -> Result<bool, AllocError> {
+    let written = encode(alloc, message)?;
+    Ok(written.as_slice() == frame)
+}
+
+/// The next message of a stream after a piece, fed and asked for again if no memory was to be had.
+fn fed_again(feed: &mut Feed, piece: &[u8]) -> Result<Option<Message>, WireFault> {
+    if feed.feed(piece).is_err() {
+        feed.feed(piece)?;
+    }
+    match feed.next() {
+        Err(WireFault::OutOfMemory) => feed.next(),
+        answer => answer,
+    }
+}
+
+/// Whether a body comes, with one growth refused.
+fn survives(alloc: Global, body: &Parts) -> Result<bool, Fail> {
+    let bytes = frame(alloc, body)?;
+    match fed_again(&mut Feed::new(alloc), &bytes)? {
+        Some(message) => Ok(writes(alloc, &message, &bytes)?),
+        None => Ok(false),
+    }
+}
+
+const GROWING: [Parts; 4] = [
+    (1, &[&ID, &[0, 1], &[3, 1], &TWO]),
+    (2, &[&ID, &[0, 2], &TWO, &THREE]),
+    (9, &[&TWO, &[1], &ID, &[2], &ONE, &ONE]),
+    (11, &[&HEAD, &[0, 2], &ONE, &TWO]),
+];
+
+/// After a refused growth the feed is as it was: the piece is fed again, and the message comes when
+/// it is asked for again.
+#[test]
+fn want_of_memory_leaves_the_feed_as_it_was(rt: HostRuntime) -> Result<(), Fail> {
+    for body in &GROWING {
+        assert!(rt; survives(rt.alloc(), body)?, "at {body:?}");
+    }
+    Ok(())
+}
