@@ -18,6 +18,7 @@ import sys
 import time
 from pathlib import Path
 
+sys.dont_write_bytecode = True  # no folder of compiled scripts beside these
 import soak_cluster
 import soak_scenarios
 from soak_cluster import (BATCH, GREATEST, JOIN, PRE_JOIN, PREPARE, VOTE, Cluster, Failed, batch, check_frames,
