@@ -49,6 +49,15 @@ fn batch(alloc: Global, sender: u8, id: ConfigId, joiner: u8) -> Result<Message,
     Ok(Message::new(process(sender), batch)?)
 }
 
+/// A fast vote or a batch of a process that speaks of another.
+fn said(alloc: Global, votes: bool, sender: u8, id: ConfigId, joiner: u8) -> Result<Message, Fail> {
+    if votes {
+        vote(alloc, sender, id, joiner)
+    } else {
+        batch(alloc, sender, id, joiner)
+    }
+}
+
 /// The request of a process on a ring.
 fn request(sender: u8, id: ConfigId, ring: u8) -> Result<Message, Fail> {
     Ok(Message::new(process(sender), Body::JoinRequest(id, ring))?)
@@ -65,15 +74,15 @@ fn votes_and_batches_of_members_are_taken_once(rt: HostRuntime) -> Result<(), Fa
     let configuration = three(alloc)?;
     let (here, elsewhere) = (configuration.id(), ConfigId::zero());
     let mut repeats = Repeats::new(alloc, &configuration)?;
-    for say in [vote, batch] {
-        assert!(rt; repeats.admits(&say(alloc, 2, here, 4)?));
-        assert!(rt; !repeats.admits(&say(alloc, 2, here, 4)?));
-        assert!(rt; repeats.admits(&say(alloc, 3, here, 4)?));
-        assert!(rt; repeats.admits(&say(alloc, 2, here, 5)?));
-        assert!(rt; !repeats.admits(&say(alloc, 2, here, 5)?));
+    for votes in [true, false] {
+        assert!(rt; repeats.admits(&said(alloc, votes, 2, here, 4)?));
+        assert!(rt; !repeats.admits(&said(alloc, votes, 2, here, 4)?));
+        assert!(rt; repeats.admits(&said(alloc, votes, 3, here, 4)?));
+        assert!(rt; repeats.admits(&said(alloc, votes, 2, here, 5)?));
+        assert!(rt; !repeats.admits(&said(alloc, votes, 2, here, 5)?));
         for _ in 0..2 {
-            assert!(rt; repeats.admits(&say(alloc, 9, here, 4)?));
-            assert!(rt; repeats.admits(&say(alloc, 2, elsewhere, 4)?));
+            assert!(rt; repeats.admits(&said(alloc, votes, 9, here, 4)?));
+            assert!(rt; repeats.admits(&said(alloc, votes, 2, elsewhere, 4)?));
         }
     }
     Ok(())
@@ -133,9 +142,7 @@ impl Post for Count {
 fn repeats_by_the_hundred_thousand_leave_a_running_node(rt: HostRuntime) -> Result<(), Fail> {
     let alloc = rt.alloc();
     let params = Params::new(3, 3, 1)?;
-    let Ok(mut service) = Service::found(&rt, alloc, params, process(1), Count { frames: 0 }) else {
-        return Err(Fail);
-    };
+    let mut service = Service::found(&rt, alloc, params, process(1), Count { frames: 0 })?;
     for _ in 0..200_000 {
         assert!(rt; service.receive(question(2)?).is_ok());
     }
