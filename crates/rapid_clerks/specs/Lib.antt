@@ -1,2 +1,4 @@
 pub mod Clusters
+pub mod Jobs
 pub mod Turns
+pub mod Verdicts

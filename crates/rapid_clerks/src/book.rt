@@ -8,8 +8,8 @@ ghost use Rattle.rapid_model.specs.StoredWorld.{world_of, accepted};
 ghost use Rattle.rapid_world.specs.Events.{report_of};
 ghost use Rattle.rapid_clerks.specs.Clusters.{DoesJob, RefusesJob, new_cluster};
 
-use crate::Job;
 use crate::cluster::Cluster;
+use crate::{DoJob, Job, TurnJob};
 use rapid_config::Params;
 use rapid_endpoint::Process;
 use rapid_world::{Report, World, WorldError};
@@ -131,5 +131,17 @@ impl<L: Ledger> ClusterBook<L> {
     {
         self.stored.audit(all);
         self.cluster.world().accepted()
+    }
+}
+
+impl<L: Ledger> DoJob<L, Job> for ClusterBook<L> {
+    fn do_job(&mut self, share: &mut Share<L>, job: &Job) -> Result<Vec<Report>, WorldError> {
+        self.step(share, job)
+    }
+}
+
+impl<L: Ledger> DoJob<L, TurnJob> for ClusterBook<L> {
+    fn do_job(&mut self, share: &mut Share<L>, _job: &TurnJob) -> Result<Vec<Report>, WorldError> {
+        self.step(share, &Job::Turn)
     }
 }

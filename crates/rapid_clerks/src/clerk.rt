@@ -1,59 +1,80 @@
 // One who does jobs.
 
-ghost use Rattle.std.specs.Prelude.{◌≡◌, ◌+◌, ◌<◌, ◌≤◌, length};
+ghost use Rattle.std.specs.Prelude.{◌≡◌, ◌≢◌, ◌+◌, ◌<◌, ◌≤◌, length};
+ghost use Rattle.rapid_clerks.specs.declared.verdict.Ended.TheVariants as ended;
 
-use crate::{ClusterBook, Gate, Job};
-use rapid_world::WorldError;
+use crate::verdict::{Verdict, judge};
+use crate::{DoJob, Ended, Gate};
 use std::sync::ledger::{Ledger, Share};
 use std::sync::{Mutex, Wait};
 
-/// One who does jobs, with a share of the ledger that counts them.
+/// One who does jobs, with a share of the ledger that counts them, and what became of those that it
+/// was given last.
 #[derive(Drop)]
 pub struct Clerk<L: Ledger> {
     /// The number by which the gate knows it.
     pub worker: usize,
     /// Its share: each event that it stores raises the amount by one.
     pub share: Share<L>,
+    /// How many jobs were refused and passed over.
+    pub passed: u64,
+    /// Why it ended.
+    pub ended: Ended,
 }
 
 impl<L: Ledger> Clerk<L> {
-    /// A clerk with this number and this share.
+    /// A clerk with this number and this share, that was given no job yet.
     pub fn new(worker: usize, share: Share<L>) -> Clerk<L>
-        ensures { (result.worker ≡ worker) × (result.share ≡ share) }
+        ensures made { (result.worker ≡ worker) × (result.share ≡ share) }
+        ensures fresh { (result.passed ≡ 0) × (result.ended ≡ ended.Through) }
     {
-        Clerk { worker, share }
+        Clerk {
+            worker,
+            share,
+            passed: 0,
+            ended: Ended::Through,
+        }
     }
 
     /// Does these jobs in order, each under the lock, and says how many were done. A job that is
     /// refused counts as none; where no further event is accepted, or there is no memory, the clerk
     /// stops. Before each job and after it the clerk calls the gate, while it holds no lock, and
-    /// where that does not let it in it stops.
-    pub fn run<G: Gate, R: Wait>(
+    /// where that does not let it in it stops. Afterwards `passed` and `ended` say what became of
+    /// the jobs that were not done.
+    pub fn run<J, B: DoJob<L, J>, G: Gate, R: Wait>(
         &mut self,
         rt: &R,
-        book: &Mutex<ClusterBook<L>>,
+        book: &Mutex<B>,
         gate: &G,
-        jobs: &[Job],
+        jobs: &[J],
     ) -> u64
         requires { 0 < self.old.share.parts }
         ensures done { self.new.share.amount ≡ self.old.share.amount + result }
-        ensures most { result ≤ length jobs.now }
+        ensures most { result + self.new.passed ≤ length jobs.now }
+        ensures through { self.new.ended ≡ ended.Through → result + self.new.passed ≡ length jobs.now }
+        ensures early { self.new.ended ≢ ended.Through → result + self.new.passed < length jobs.now }
         ensures parts { self.new.share.parts ≡ self.old.share.parts }
         ensures worker { self.new.worker ≡ self.old.worker }
     {
         let mut done = 0;
         let mut turn = 0;
+        self.passed = 0;
+        self.ended = Ended::Through;
         for job in jobs {
             turn += 1;
             if !gate.enter(self.worker, turn) {
+                self.ended = Ended::Shut;
                 return done;
             }
-            let answer = book.lock(rt).step(&mut self.share, job);
+            let answer = book.lock(rt).do_job(&mut self.share, job);
             gate.left(self.worker, turn);
-            match answer {
-                Ok(_) => done += 1,
-                Err(WorldError::EventsFull | WorldError::OutOfMemory) => return done,
-                Err(_) => {}
+            match judge(answer) {
+                Verdict::Done => done += 1,
+                Verdict::Passed => self.passed += 1,
+                Verdict::Ends(ended) => {
+                    self.ended = ended;
+                    return done;
+                }
             }
         }
         done

@@ -1,44 +1,60 @@
 // Clerks in threads of their own.
 
-ghost use Rattle.std.specs.Prelude.{◌≡◌, ◌+◌, ◌<◌, sum, vec_len, IfOk, OnErr};
+ghost use Rattle.std.specs.Prelude.{◌≡◌, ℕ, ◌+◌, ◌<◌, ◌≤◌, All, sum, vec_len, length, IfOk, OnErr};
 
-use crate::{Clerk, ClusterBook, Gate, Job};
+use crate::{Clerk, DoJob, Gate, TurnJob};
 use std::alloc::{AllocError, Global};
+use std::marker::{Brand, PhantomData};
 use std::sync::ledger::{Ledger, Share};
 use std::sync::{Mutex, Wait};
 use std::thread;
 use std::thread::Threads;
 
+/// How many jobs each clerk is given. It is known only where clerks are started, so a type stands
+/// for it in the types of what threads hand back.
+trait Given {
+    ghost given: { ℕ };
+}
+
+impl Given for Brand {
+    ghost given = { 0 };
+}
+
 /// A clerk's place while the threads run: the clerk, with one part of the ledger, and how many jobs
 /// it did.
 #[derive(Drop)]
-struct Place<L: Ledger> {
+struct Place<L: Ledger, N: Given> {
     clerk: Clerk<L>,
     done: u64,
+    of: PhantomData<N>,
     ghost one_part: { clerk.share.parts ≡ 1 },
     ghost counted: { clerk.share.amount ≡ done },
+    ghost most: { done ≤ N.given },
 }
 
-impl<L: Ledger> Place<L> {
+impl<L: Ledger, N: Given> Place<L, N> {
     /// The place of a clerk that did nothing yet.
-    fn new(worker: usize, share: Share<L>) -> Place<L>
+    fn new(worker: usize, share: Share<L>) -> Place<L, N>
         requires { (share.parts ≡ 1) × (share.amount ≡ 0) }
     {
         Place {
             clerk: Clerk::new(worker, share),
             done: 0,
+            of: PhantomData,
         }
     }
 
     /// Does the jobs, where none was done yet.
-    fn work<G: Gate, R: Wait>(
+    fn work<B: DoJob<L, TurnJob>, G: Gate, R: Wait>(
         &mut self,
         rt: &R,
-        book: &Mutex<ClusterBook<L>>,
+        book: &Mutex<B>,
         gate: &G,
-        jobs: &[Job],
-    ) {
-        let Place { clerk, done } = self;
+        jobs: &[TurnJob],
+    )
+        requires { length jobs.now ≡ N.given }
+    {
+        let Place { clerk, done, of: _ } = self;
         if *done == 0 {
             *done = clerk.run(rt, book, gate, jobs);
         }
@@ -46,30 +62,91 @@ impl<L: Ledger> Place<L> {
 }
 
 /// Does the jobs at a place.
-fn work<L: Ledger, G: Gate, R: Wait>(
+fn work<L: Ledger, N: Given, B: DoJob<L, TurnJob>, G: Gate, R: Wait>(
     rt: &R,
-    book: &Mutex<ClusterBook<L>>,
+    book: &Mutex<B>,
     gate: &G,
-    place: &Mutex<Place<L>>,
-    jobs: &[Job],
-) {
+    place: &Mutex<Place<L, N>>,
+    jobs: &[TurnJob],
+)
+    requires { length jobs.now ≡ N.given }
+{
     place.lock(rt).work(rt, book, gate, jobs);
 }
 
 /// Starts a thread for each place, and returns once all have ended. Where a thread is not to be had
 /// nothing is done at its place.
-fn start_all<L: Ledger + Send + Sync, G: Gate + Sync, R: Threads + Wait + Sync>(
+fn start_all<
+    L: Ledger + Send + Sync,
+    N: Given + Send + Sync,
+    B: DoJob<L, TurnJob> + Send,
+    G: Gate + Sync,
+    R: Threads + Wait + Sync,
+>(rt: &R, book: &Mutex<B>, gate: &G, places: &[Mutex<Place<L, N>>], jobs: &[TurnJob])
+    requires { length jobs.now ≡ N.given }
+{
+    thread::scope(
+        thread::scope_env(),
+        rt,
+        |scope|
+            requires { length jobs.now ≡ N.given }
+        {
+            for place in places {
+                let _ = scope.spawn(
+                    move ||
+                        requires { length jobs.now ≡ N.given }
+                    { work(rt, book, gate, place, jobs) },
+                );
+            }
+        },
+    );
+}
+
+/// Starts clerks that take so many turns each, where a type stands for that number.
+fn run_given<
+    L: Ledger + Send + Sync,
+    N: Given + Send + Sync,
+    B: DoJob<L, TurnJob> + Send,
+    G: Gate + Sync,
+    R: Threads + Wait + Sync,
+>(
     rt: &R,
-    book: &Mutex<ClusterBook<L>>,
+    alloc: Global,
+    book: &Mutex<B>,
     gate: &G,
-    places: &[Mutex<Place<L>>],
-    jobs: &[Job],
-) {
-    thread::scope(thread::scope_env(), rt, |scope| {
-        for place in places {
-            let _ = scope.spawn(move || work(rt, book, gate, place, jobs));
-        }
-    });
+    share: &mut Share<L>,
+    workers: usize,
+    turns: usize,
+) -> Result<Vec<u64>, AllocError>
+    requires given { turns ≡ N.given }
+    requires every { share.old.parts ≡ L.parts }
+    requires more { workers < share.old.parts }
+    ensures every { share.new.parts ≡ L.parts }
+    ensures each { IfOk result (λ counts. vec_len counts ≡ workers) }
+    ensures most { IfOk result (λ counts. All (λ count. count ≤ turns) counts.items) }
+    ensures raised { IfOk result (λ counts. share.new.amount ≡ share.old.amount + sum counts.items) }
+    ensures kept { OnErr result (share.new.amount ≡ share.old.amount) }
+{
+    let jobs = vec![in alloc; TurnJob; turns]?;
+    let mut counts = Vec::with_capacity(alloc, workers)?;
+    let mut places = Vec::with_capacity(alloc, workers)?;
+    for worker in 0..workers {
+        let mine = share.split_off(1, 0);
+        places.push_reserved(Mutex::new(Place::<L, N>::new(worker, mine)));
+    }
+    start_all(rt, book, gate, places.as_slice(), jobs.as_slice());
+    for place in places {
+        let Place { clerk, done, of: _ } = place.into_inner();
+        let Clerk {
+            worker: _,
+            share: mine,
+            passed: _,
+            ended: _,
+        } = clerk;
+        share.merge(mine);
+        counts.push_reserved(done);
+    }
+    Ok(counts)
 }
 
 /// Starts so many clerks, numbered from 0, each in a thread of its own with so many turns to take,
@@ -81,10 +158,15 @@ fn start_all<L: Ledger + Send + Sync, G: Gate + Sync, R: Threads + Wait + Sync>(
 /// # Errors
 ///
 /// Want of memory, where no clerk was started and the share is as it was.
-pub fn run_clerks<L: Ledger + Send + Sync, G: Gate + Sync, R: Threads + Wait + Sync>(
+pub fn run_clerks<
+    L: Ledger + Send + Sync,
+    B: DoJob<L, TurnJob> + Send,
+    G: Gate + Sync,
+    R: Threads + Wait + Sync,
+>(
     rt: &R,
     alloc: Global,
-    book: &Mutex<ClusterBook<L>>,
+    book: &Mutex<B>,
     gate: &G,
     share: &mut Share<L>,
     workers: usize,
@@ -94,25 +176,9 @@ pub fn run_clerks<L: Ledger + Send + Sync, G: Gate + Sync, R: Threads + Wait + S
     requires more { workers < share.old.parts }
     ensures every { share.new.parts ≡ L.parts }
     ensures each { IfOk result (λ counts. vec_len counts ≡ workers) }
+    ensures most { IfOk result (λ counts. All (λ count. count ≤ turns) counts.items) }
     ensures raised { IfOk result (λ counts. share.new.amount ≡ share.old.amount + sum counts.items) }
     ensures kept { OnErr result (share.new.amount ≡ share.old.amount) }
 {
-    let jobs = vec![in alloc; Job::Turn; turns]?;
-    let mut counts = Vec::with_capacity(alloc, workers)?;
-    let mut places = Vec::with_capacity(alloc, workers)?;
-    for worker in 0..workers {
-        let mine = share.split_off(1, 0);
-        places.push_reserved(Mutex::new(Place::new(worker, mine)));
-    }
-    start_all(rt, book, gate, places.as_slice(), jobs.as_slice());
-    for place in places {
-        let Place { clerk, done } = place.into_inner();
-        let Clerk {
-            worker: _,
-            share: mine,
-        } = clerk;
-        share.merge(mine);
-        counts.push_reserved(done);
-    }
-    Ok(counts)
+    run_given::<L, Brand, B, G, R>(rt, alloc, book, gate, share, workers, turns)
 }

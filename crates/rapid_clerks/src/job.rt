@@ -1,6 +1,9 @@
 // What clerks are given to do.
 
-use rapid_world::WorldEvent;
+ghost use Rattle.std.specs.Prelude.{◌≡◌, ◌+◌, ◌<◌, OnOk, OnErr};
+
+use rapid_world::{Report, WorldError, WorldEvent};
+use std::sync::ledger::{Ledger, Share};
 
 /// What a clerk is given to do.
 #[derive(Clone, Copy, Debug)]
@@ -12,4 +15,22 @@ pub enum Job {
     /// Where there is none, the clock ticks of the next node that runs, by identifier, going round
     /// from the least.
     Turn,
+}
+
+/// A job that is a turn. By its type, who is given such jobs takes turns and does nothing else.
+#[derive(Clone, Copy, Debug)]
+pub struct TurnJob;
+
+/// What clerks work on: it does jobs of this type, and counts them in a ledger.
+pub trait DoJob<L: Ledger, J> {
+    /// Does a job. If it was done the share is raised by one, else it is as it was.
+    ///
+    /// # Errors
+    ///
+    /// Why the job was refused.
+    fn do_job(&mut self, share: &mut Share<L>, job: &J) -> Result<Vec<Report>, WorldError>
+        requires { 0 < share.old.parts }
+        ensures raised { OnOk result (share.new.amount ≡ share.old.amount + 1) }
+        ensures kept { OnErr result (share.new.amount ≡ share.old.amount) }
+        ensures parts { share.new.parts ≡ share.old.parts };
 }

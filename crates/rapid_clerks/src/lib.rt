@@ -9,9 +9,11 @@ mod crew;
 mod gate;
 mod job;
 mod turn;
+mod verdict;
 
 pub use book::ClusterBook;
 pub use clerk::Clerk;
 pub use crew::run_clerks;
 pub use gate::Gate;
-pub use job::Job;
+pub use job::{DoJob, Job, TurnJob};
+pub use verdict::Ended;

@@ -2,5 +2,7 @@
 
 mod books;
 mod crews;
+mod ends;
 mod gates;
 mod jobs;
+mod relays;

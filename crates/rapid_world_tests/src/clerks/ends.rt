@@ -1,0 +1,84 @@
+// Why a clerk ended.
+
+ghost use Rattle.std.specs.Prelude.{◌≡◌, ◌≤◌};
+
+use crate::clerks::books::{alone, joins};
+use crate::clerks::gates::Door;
+use rapid_clerks::{Clerk, Ended, Job};
+use rapid_world::WorldEvent::Deliver;
+use std::alloc::Global;
+use std::marker::Brand;
+use std::sync::ledger::{Blank, Ledger};
+use std::sync::{Mutex, Wait};
+use std::test::*;
+
+/// Of these jobs, which a clerk of this ledger was given in a world of process 1: how many it did,
+/// how many it passed over, and why it ended.
+fn told_in<L: Ledger, R: Wait>(
+    rt: &R,
+    alloc: Global,
+    blank: Blank,
+    door: &Door,
+    jobs: &[Job],
+) -> Result<(u64, u64, Ended), Fail>
+    requires name { blank.name ≡ L.name }
+    requires parts { blank.parts ≡ L.parts }
+    requires room { 33 ≤ blank.parts }
+{
+    let (book, share) = alone::<L>(alloc, blank)?;
+    let book = Mutex::new(book);
+    let mut clerk = Clerk::new(0, share);
+    let done = clerk.run(rt, &book, door, jobs);
+    Ok((done, clerk.passed, clerk.ended))
+}
+
+/// What a clerk says of these jobs in a world of process 1.
+fn told<R: Wait>(
+    rt: &R,
+    alloc: Global,
+    door: &Door,
+    jobs: &[Job],
+) -> Result<(u64, u64, Ended), Fail> {
+    told_in::<Brand, R>(rt, alloc, Blank::new(33), door, jobs)
+}
+
+/// A packet that was never sent is passed over.
+#[test]
+fn a_clerk_that_came_to_all_its_jobs_is_through(rt: HostRuntime) -> Result<(), Fail> {
+    let jobs = [joins(), Job::Event(Deliver(1)), Job::Turn];
+    let told = told(&rt, rt.alloc(), &Door::until(3), &jobs)?;
+    assert_eq!(rt; told, (2, 1, Ended::Through));
+    Ok(())
+}
+
+#[test]
+fn a_clerk_that_is_not_let_in_says_so(rt: HostRuntime) -> Result<(), Fail> {
+    let door = Door::until(2);
+    let jobs = [Job::Event(Deliver(1)), Job::Turn, Job::Turn, Job::Turn];
+    assert_eq!(rt; told(&rt, rt.alloc(), &door, &jobs)?, (1, 1, Ended::Shut));
+    assert_eq!(rt; (door.came(), door.left()), (3, 2));
+    Ok(())
+}
+
+/// A clerk ends before its last job for want of memory alone, and then at the job that it came to.
+#[test]
+fn a_clerk_says_why_it_stops_at_want_of_memory(rt: HostRuntime) -> Result<(), Fail> {
+    let door = Door::until(6);
+    let jobs = [
+        joins(),
+        Job::Turn,
+        Job::Turn,
+        Job::Turn,
+        Job::Turn,
+        Job::Turn,
+    ];
+    let (done, passed, ended) = told(&rt, rt.alloc(), &door, &jobs)?;
+    let expected = if done == 6 {
+        Ended::Through
+    } else {
+        Ended::OutOfMemory
+    };
+    assert_eq!(rt; (passed, ended), (0, expected));
+    assert_eq!(rt; door.came(), done.wrapping_add(u64::from(done != 6)));
+    Ok(())
+}
