@@ -17,7 +17,7 @@ FOLDERS = r"(?:crates|docs|examples|bench|\.ci|rapid\w*/(?:src|specs|proofs|must
 QUOTED = re.compile(rf"`(?:\./)?({FOLDERS}/[\w./*-]+?)/?`")
 IN_CODE = re.compile(r"(?<![\w/$.>])((?:docs|examples|bench)/[\w./-]+\.(?:txt|sh|py|rs|service))\b")
 LINK = re.compile(r"\]\(([^()\s]+)\)")
-NOT_THERE = re.compile(r"/out/|/my_|[A-Z]{4,}\b")  # built files, and places for names
+NOT_THERE = re.compile(r"/out/|/my_|\bNAME\b")  # built files, and places for names
 BLOCK = re.compile(r"^```.*?^```$", re.M | re.S)
 
 
