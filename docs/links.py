@@ -44,7 +44,8 @@ def is_there(path):
 def main():
     """Looks through all pages."""
     bad = []
-    for page in [TOP / "README.md", TOP / "bench/README.md", *sorted((TOP / "docs").rglob("*.md"))]:
+    tops = [TOP / "README.md", TOP / "bench/README.md", *TOP.glob(".ci/README.md")]
+    for page in [*tops, *sorted((TOP / "docs").rglob("*.md"))]:
         text, code = BLOCK.sub("", page.read_text()), "\n".join(BLOCK.findall(page.read_text()))
         names = [link for link in LINK.findall(text) if not leads(page, link)]
         names += [p for p in QUOTED.findall(text) + IN_CODE.findall(code) if not is_there(p)]
