@@ -17,7 +17,7 @@ FOLDERS = r"(?:crates|docs|examples|bench|\.ci|rapid\w*/(?:src|specs|proofs|must
 QUOTED = re.compile(rf"`(?:\./)?({FOLDERS}/[\w./*-]+?)/?`")
 IN_CODE = re.compile(r"(?<![\w/$.>])((?:docs|examples|bench)/[\w./-]+\.(?:txt|sh|py|rs|service))\b")
 LINK = re.compile(r"\]\(([^()\s]+)\)")
-NOT_THERE = re.compile(r"/out/|/my_|[A-Z]{4,}\b")  # built files, and places for names
+NOT_THERE = re.compile(r"/out/|/my_|\bNAME\b")  # built files, and places for names
 BLOCK = re.compile(r"^```.*?^```$", re.M | re.S)
 
 
@@ -44,7 +44,8 @@ def is_there(path):
 def main():
     """Looks through all pages."""
     bad = []
-    for page in [TOP / "README.md", TOP / "bench/README.md", *sorted((TOP / "docs").rglob("*.md"))]:
+    tops = [TOP / "README.md", TOP / "bench/README.md", *TOP.glob(".ci/README.md")]
+    for page in [*tops, *sorted((TOP / "docs").rglob("*.md"))]:
         text, code = BLOCK.sub("", page.read_text()), "\n".join(BLOCK.findall(page.read_text()))
         names = [link for link in LINK.findall(text) if not leads(page, link)]
         names += [p for p in QUOTED.findall(text) + IN_CODE.findall(code) if not is_there(p)]

@@ -214,7 +214,8 @@ def print_type(found, out):
 
 def wrapped(line):
     """A line in pieces of at most the width. What stands in backquotes is kept whole if it fits."""
-    glued = re.sub(r"`[^`]{1,90}`", lambda code: code[0].replace(" ", "\0"), line)
+    kept = re.compile(r"`[^`]*`")
+    glued = kept.sub(lambda it: it[0].replace(" ", "\0" if len(it[0]) < 92 else " "), line)
     indent = re.match(r" *(- )?", line)[0]
     how = {"break_long_words": False, "break_on_hyphens": False}
     pieces = textwrap.wrap(glued, WIDTH, subsequent_indent=" " * len(indent), **how)
