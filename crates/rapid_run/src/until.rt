@@ -1,5 +1,7 @@
 // Streams that are given up when the node ends.
 
+ghost use Rattle.std.specs.Prelude.{◌≡◌, IfOk, Ok};
+
 use rapid_service::Ending;
 use std::io::{self, ErrorKind, Read, Write};
 use std::sync::Wait;
@@ -42,7 +44,9 @@ impl<'a, W: Wait + Clock, S: Drop> Until<'a, W, S> {
     }
 
     /// The outcome of a call, which is not to be made again once the node has ended for so long.
-    fn settle(&mut self, outcome: io::Result<usize>, longest: Duration) -> io::Result<usize> {
+    fn settle(&mut self, outcome: io::Result<usize>, longest: Duration) -> io::Result<usize>
+        ensures kept { IfOk result (λ n. outcome ≡ Ok n) }
+    {
         if let Err(error) = &outcome
             && error.kind() == ErrorKind::Interrupted
             && self.is_over(longest)?
