@@ -14,24 +14,9 @@ use std::time::Clock;
 type Row = (&'static str, u8, &'static str, &'static str);
 
 const ROWS: [Row; 36] = [
-    (
-        "--version",
-        0,
-        "rapidd 0.1.0\n",
-        "",
-    ),
-    (
-        "-V",
-        0,
-        "rapidd 0.1.0\n",
-        "",
-    ),
-    (
-        "detect",
-        0,
-        "",
-        "",
-    ),
+    ("--version", 0, "rapidd 0.1.0\n", ""),
+    ("-V", 0, "rapidd 0.1.0\n", ""),
+    ("detect", 0, "", ""),
     (
         "cluster --nodes 1 --workers 1 --turns 1 --k 1 --h 1 --l 1",
         0,
@@ -380,7 +365,14 @@ fn words_are_answered(rt: HostRuntime) -> Result<(), Fail> {
 const HELPS: [(&str, &[&str]); 6] = [
     (
         "--help",
-        &["  detect ", "  sim ", "  cluster ", "  node ", "--version", "Status: 0 at"],
+        &[
+            "  detect ",
+            "  sim ",
+            "  cluster ",
+            "  node ",
+            "--version",
+            "Status: 0 at",
+        ],
     ),
     (
         "detect --help",
@@ -458,7 +450,8 @@ fn a_port_in_use_is_named(rt: HostRuntime) -> Result<(), Fail> {
     let (status, out, err) = answer(&rt, rt.alloc(), "node --listen 127.0.0.1:7443")?;
     assert!(rt; status == 1 && out.is_empty(), "{status}");
     assert!(rt;
-        err.as_str() == "error: the port is not to be had\n  --listen 127.0.0.1:7443: Address already in use (os error 98)\n",
+        err.as_str()
+            == "error: the port is not to be had\n  --listen 127.0.0.1:7443: Address already in use (os error 98)\n",
         "{err}"
     );
     Ok(())
