@@ -74,7 +74,7 @@ def refuse_each(words, given, judge, most, room):
 def tasks():
     """What is run: a name, the words, the input, how it is judged, and at most how many runs."""
     for crate in tree.NATIVE:
-        program = tree.TOP / "crates" / crate / "out" / crate
+        program = tree.TOP / "crates" / crate / "out" / f"{crate}_tests"
         listed = subprocess.run([program, "--list"], capture_output=True, text=True, check=True).stdout
         for name in (line.partition(": ")[0] for line in listed.splitlines()):
             if "want_of_memory" in name:
@@ -91,7 +91,11 @@ def growths():
         tree.note("refused growths: PASSED OVER, since no C compiler (cc, gcc, clang) is there")
         return 0, 0
     resource.setrlimit(resource.RLIMIT_CORE, (0, 0))
-    failed, listed = 0, list(tasks())
+    try:
+        failed, listed = 0, list(tasks())
+    except OSError as error:
+        print(f"check: refused growths: FAILED: {error.filename} is not built: ./check builds it", flush=True)
+        return 0, 1
     with tempfile.TemporaryDirectory(prefix="check-") as room, ThreadPoolExecutor(os.cpu_count()) as pool:
         source = str(Path(__file__).parent / "refuse.c")
         subprocess.run([compiler, "-O1", "-shared", "-fPIC", "-o", f"{room}/refuse.so", source, "-ldl"], check=True)
