@@ -5,6 +5,7 @@
 #![tactic(auto)]
 
 use rapid_commands::{run_words, without_words};
+use rapid_run::Polled;
 use std::process::ExitCode;
 use std::{env, io};
 
@@ -14,9 +15,10 @@ fn main(rt: HostRuntime) -> ExitCode {
             &rt,
             rt.alloc(),
             words.as_slice(),
-            &mut rt.reader(),
-            &mut io::writer(&rt),
-            &mut rt.stderr(),
+            // so that a node that ends waits for none of them
+            &mut Polled::new(rt.reader()),
+            &mut Polled::new(rt.stdout()),
+            &mut Polled::new(rt.stderr()),
         )),
         Err(error) => ExitCode::from(without_words(&error, &mut rt.stderr())),
     }
