@@ -1,9 +1,8 @@
 """Tries the mutants crates/NAME/must-fail/*.edit: the prover has to refuse each.
 
-All twins of a crate (twins.py) are tried by one check of these alone. Its last line tells how many
-functions it read, with those that they call, and how many are proved: those that are not have to be
-as many as the twins. A twin with the body as it is stands among them and has to be proved, or the
-twins show nothing. If the numbers differ, and for a mutant without a twin, each is tried alone.
+All twins of a crate (twins.py) are tried by one check of these alone, which tells of each whether it
+is proved. A twin with the body as it is stands among them and has to be proved, or the twins show
+nothing. A mutant without a twin, or whose twin is not refused, is tried alone.
 
 mutants.txt has a line for each crate: how many mutants were refused, and a sum of all that this rests
 on: the crate's files, those of the crates that it stands on but for their proofs, and the kit's name."""
@@ -18,7 +17,8 @@ import twins
 
 RECORD = tree.TOP / "mutants.txt"
 STATEMENTS = ("src", "specs")
-ONLY = re.compile(r"only=(\d+) proved=(\d+)")
+ONLY = re.compile(r"only=\d+ proved=\d+")
+VERDICT = re.compile(r"^fn (?:\S+::)?(\w+): (proved|not proved|no proof)\b", re.M)
 
 
 def mutants_of(name):
@@ -51,17 +51,19 @@ def restore(crate, name):
 
 
 def try_twins(crate, made):
-    """Whether the prover refuses each twin, and proves that of the first with its body as it is."""
-    with_proofs = [it for it in made if it[0].folder.is_dir()] or made
+    """The mutants that the prover refuses as twins; none if it does not prove one of them, the
+    control, with its body as it is."""
+    with_proofs = [it for it in made.values() if it[0].folder.is_dir()] or list(made.values())
     _, pairs = min(with_proofs, key=lambda it: len(it[0].text))
     control = twins.twin_of(crate, "control", [(pairs[0][0], pairs[0][1], pairs[0][1])])
-    all_twins = [control, *(it for it, _ in made)]
+    all_twins = [control, *(it for it, _ in made.values())]
     twins.write(crate, all_twins)
     only = [word for it in all_twins for word in ("--only", it.name)]
     ran = tree.rt(["check", "--jobs", "1", *only], crate)
-    count = ONLY.fullmatch(tree.last_line(ran.stdout))
-    is_proved = re.search(rf"^fn \S+::{control.name}: proved$", ran.stdout, re.M)
-    return bool(count and is_proved) and int(count[1]) - int(count[2]) == len(made)
+    verdicts = dict(VERDICT.findall(ran.stdout))
+    if not ONLY.fullmatch(tree.last_line(ran.stdout)) or verdicts.get(control.name) != "proved":
+        return set()
+    return {stem for stem, (it, _) in made.items() if verdicts.get(it.name) in ("not proved", "no proof")}
 
 
 def try_alone(crate, pairs):
@@ -89,8 +91,8 @@ def try_mutants(room, name):
         readable = pairs and all((crate / it[0]).is_file() for it in pairs)
         twin = readable and twins.twin_of(crate, stem, pairs)
         made |= {stem: (twin, pairs)} if twin else {}
-    if made and try_twins(crate, list(made.values())):
-        left = {stem: pairs for stem, pairs in left.items() if stem not in made}
+    refused = try_twins(crate, made) if made else set()
+    left = {stem: pairs for stem, pairs in left.items() if stem not in refused}
     bad = {}
     for stem, pairs in left.items():
         restore(crate, name)
