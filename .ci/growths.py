@@ -1,5 +1,6 @@
-"""Refuses each allocation in turn: of each test whose name has want_of_memory, and of the program over each
-of examples/. refuse.c, loaded before the C library, refuses the one whose number is in REFUSE.
+"""Refuses each allocation in turn: of the program over each of examples/, and of each test
+whose name has want_of_memory and that is built, by ./check all, since only proved tests are. refuse.c,
+loaded before the C library, refuses the one whose number is in REFUSE.
 
 A test then passes, or ends by an error that says so. The program writes what it writes otherwise, or a
 beginning of that and ends with status 3, or says in a line's place that it was refused for memory."""
@@ -73,8 +74,7 @@ def refuse_each(words, given, judge, most, room):
 
 def tasks():
     """What is run: a name, the words, the input, how it is judged, and at most how many runs."""
-    for crate in tree.NATIVE:
-        program = tree.TOP / "crates" / crate / "out" / f"{crate}_tests"
+    for program in sorted(tree.TOP.glob("crates/*/out/*_tests_tests")):
         listed = subprocess.run([program, "--list"], capture_output=True, text=True, check=True).stdout
         for name in (line.partition(": ")[0] for line in listed.splitlines()):
             if "want_of_memory" in name:
@@ -91,11 +91,10 @@ def growths():
         tree.note("refused growths: PASSED OVER, since no C compiler (cc, gcc, clang) is there")
         return 0, 0
     resource.setrlimit(resource.RLIMIT_CORE, (0, 0))
-    try:
-        failed, listed = 0, list(tasks())
-    except OSError as error:
-        print(f"check: refused growths: FAILED: {error.filename} is not built: ./check builds it", flush=True)
+    if not PROGRAM.is_file():
+        print("check: refused growths: FAILED: the program is not built: ./check builds it", flush=True)
         return 0, 1
+    failed, listed = 0, list(tasks())
     with tempfile.TemporaryDirectory(prefix="check-") as room, ThreadPoolExecutor(os.cpu_count()) as pool:
         source = str(Path(__file__).parent / "refuse.c")
         subprocess.run([compiler, "-O1", "-shared", "-fPIC", "-o", f"{room}/refuse.so", source, "-ldl"], check=True)

@@ -7,7 +7,13 @@ from pathlib import Path
 import tree
 
 RESULT = re.compile(r"test result: \w+\. (\d+) passed; (\d+) failed;")
-SECONDS = {"rapid_run_tests": 140, "rapid_node_tests": 120, "rapid_world_tests": 100, "rapid_parts_tests": 70}
+SECONDS = {
+    "rapid_memory_tests": 200,
+    "rapid_run_tests": 140,
+    "rapid_node_tests": 120,
+    "rapid_world_tests": 100,
+    "rapid_parts_tests": 70,
+}
 MAIN = """//! One command of the program.
 #![tactic(auto)]
 

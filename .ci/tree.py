@@ -13,7 +13,7 @@ from pathlib import Path
 TOP = Path(__file__).resolve().parent.parent
 SOURCES = ("src", "specs", "proofs")
 MEMORY = 4_000_000_000  # of one check, in bytes
-NATIVE = ("rapid_slow_tests", "rapid_memory_tests")  # tests that LLVM builds
+NATIVE = ("rapid_slow_tests",)  # tests that ./check has LLVM build
 APART = ("rapid_bench", "rapid_reference")  # programs on which no promise rests
 
 
