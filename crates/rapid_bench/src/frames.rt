@@ -5,7 +5,7 @@ use crate::messages::{batch, on_rings, vote};
 use crate::work::Work;
 use anyhow::{Result, bail};
 use rapid_config::ConfigId;
-use rapid_node::Message;
+use rapid_message::Message;
 use rapid_wire::{Feed, encode};
 use std::alloc::Global;
 use std::hint::black_box;

@@ -4,7 +4,7 @@ use crate::members::{cut, process};
 use anyhow::{Context, Result, bail};
 use rapid_config::ConfigId;
 use rapid_endpoint::Process;
-use rapid_node::{Body, Message};
+use rapid_message::{Body, Message};
 use rapid_wire::Feed;
 use std::alloc::Global;
 

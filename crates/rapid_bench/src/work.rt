@@ -3,7 +3,7 @@ use crate::frames::{encode_often, feed_often};
 use crate::votes::vote;
 use anyhow::Result;
 use rapid_config::{Configuration, Cut};
-use rapid_node::Message;
+use rapid_message::Message;
 use rapid_rings::Rings;
 use std::alloc::Global;
 use std::hint::black_box;

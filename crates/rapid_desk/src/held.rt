@@ -10,7 +10,8 @@ ghost use Rattle.rapid_desk.specs.Desks.{is_refused, HasNoRoom, NotTaken, NoChec
 
 use crate::DeskError;
 use crate::journal::{self, JournalRecord};
-use rapid_node::{Event, Node, Outputs};
+use rapid_message::Outputs;
+use rapid_node::{Event, Node};
 use std::alloc::{AllocError, Global};
 use std::marker::Model;
 use std::mem;

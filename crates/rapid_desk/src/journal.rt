@@ -2,11 +2,12 @@
 
 ghost use Rattle.std.specs.Prelude.{◌≡◌, ◌≤◌, ◌++◌, [], ◌∷◌, true, OnOk, OnErr};
 ghost use Rattle.rapid_model.specs.Journal as model;
-ghost use Rattle.rapid_member.specs.Bodies.{body_of};
+ghost use Rattle.rapid_message.specs.Bodies.{body_of};
 ghost use Rattle.rapid_node.specs.Steps.{event_of};
 ghost use Rattle.rapid_desk.specs.Records.{records, joins, added_by};
 
-use rapid_node::{Body, Event};
+use rapid_message::Body;
+use rapid_node::Event;
 use std::alloc::AllocError;
 
 /// How many records a journal has at most.

@@ -10,7 +10,7 @@ use Rattle.rapid_model.specs.Node.{MemberState}
 use Rattle.rapid_model.specs.Tick.{send_alerts, sends_batch}
 use Rattle.rapid_member.specs.Saying.{says_batch}
 use Rattle.rapid_model.proofs.Orders.{same_bytes_decides}
-use Rattle.rapid_member.specs.Bodies.{IsFrom}
+use Rattle.rapid_message.specs.Bodies.{IsFrom}
 use Rattle.rapid_alerts.specs.Outboxes.{AreRaised, is_sound}
 use Rattle.rapid_model.specs.Batch.{batch_of}
 

@@ -1,5 +1,4 @@
 pub mod Ballots
-pub mod Batches
 pub mod Echoing
 pub mod Flushing
 pub mod Hosts

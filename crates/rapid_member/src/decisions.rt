@@ -6,10 +6,10 @@ ghost use Rattle.rapid_model.specs.NodeStep.{last_64};
 ghost use Rattle.rapid_model.specs.Node.{outputs};
 ghost use Rattle.rapid_model.specs.Receive as receive;
 
-use crate::Body;
-use crate::output::{Output, answer};
+use crate::sending::answer;
 use rapid_config::{ConfigId, Cut};
 use rapid_endpoint::Process;
+use rapid_message::{Body, Output};
 use std::alloc::{AllocError, Global};
 use std::marker::Model;
 use std::sync::ArcSlice;

@@ -7,11 +7,12 @@ ghost use Rattle.rapid_model.specs.Node.{To, Says, outputs};
 ghost use Rattle.rapid_model.specs.Receive.{answer_to};
 ghost use Rattle.rapid_join.specs.Answers.{AnswersObservers, answered_of, host_answer_of, request_of, sent_by};
 
-use crate::output::{Output, answer, say_to};
-use crate::{Body, MemberState};
+use crate::MemberState;
+use crate::sending::{answer, say_to};
 use rapid_config::Configuration;
 use rapid_endpoint::Process;
 use rapid_join::{HostAnswer, JoinRequest, JoinerAnswer};
+use rapid_message::{Body, Output};
 use std::alloc::{AllocError, Global};
 
 /// Says what a host answers to a joiner. What is long is shared.

@@ -1,10 +1,11 @@
 // Steps of a node: if memory runs out in one the node halts, sends nothing and shows what it showed.
 
 use crate::numbered::{Marks, cut, process};
-use rapid_alerts::{Alert, Kind};
+use rapid_alerts::{Alert, Batch, Kind};
 use rapid_config::{ConfigId, Configuration, Cut, Params};
 use rapid_endpoint::Process;
-use rapid_node::{Batch, Body, Destination, Event, Message, Node, NodeFault, Outputs, Phase};
+use rapid_message::{Body, Destination, Message, Outputs};
+use rapid_node::{Event, Node, NodeFault, Phase};
 use rapid_rings::{ObserverTable, Rings};
 use std::alloc::Global;
 use std::process::Abort;

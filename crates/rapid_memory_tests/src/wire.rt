@@ -1,6 +1,6 @@
 // Frames: a piece is taken again after memory ran out, and a message asked for again.
 
-use rapid_member::Message;
+use rapid_message::Message;
 use rapid_wire::{Feed, WireFault, encode};
 use std::alloc::{AllocError, Global};
 use std::test::Fail;

@@ -1,8 +1,8 @@
 // What happens to a node.
 
-use crate::Message;
 use rapid_config::ConfigId;
 use rapid_endpoint::Process;
+use rapid_message::Message;
 
 /// What happens to a node.
 #[derive(Debug, Drop)]

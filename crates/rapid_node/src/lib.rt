@@ -15,7 +15,4 @@ pub use event::Event;
 pub use fault::NodeFault;
 pub use node::Node;
 pub use phase::Phase;
-pub use rapid_alerts::Batch;
-pub use rapid_join::{Reply, RingObservers};
-pub use rapid_member::{Body, Destination, Message, MessageError, Output, Outputs};
 pub use views::Views;

@@ -31,9 +31,8 @@ use rapid_alerts::{Alert, Kind};
 use rapid_config::{ConfigId, Configuration, Cut, Stamp};
 use rapid_endpoint::{Endpoint, Process};
 use rapid_join::{Joiner, Reply};
-use rapid_member::{
-    Body, Decisions, MemberState, Message, Output, Outputs, confirm_pending, send_joining,
-};
+use rapid_member::{Decisions, MemberState, confirm_pending, send_joining};
+use rapid_message::{Body, Message, Output, Outputs};
 use rapid_rings::Rings;
 use std::alloc::{AllocError, Global};
 use std::marker::Model;
@@ -575,7 +574,7 @@ impl Node {
     }
 
     /// One step, and what is to be sent after it, in order. What goes to
-    /// [`rapid_member::Destination::Others`] goes to the other members of the configuration in
+    /// [`rapid_message::Destination::Others`] goes to the other members of the configuration in
     /// which the node was a member *before* the step: a driver asks for [`Node::configuration`]
     /// before it makes the step, since a step that installs leaves it.
     ///

@@ -1,6 +1,6 @@
 // Messages from the peers.
 
-use rapid_node::Message;
+use rapid_message::Message;
 use rapid_service::{Post, Shared};
 use rapid_transport::{Inbox, is_local};
 use std::sync::Wait;

@@ -7,9 +7,9 @@ use Rattle.rapid_model.specs.Process.{same_bytes}
 use Rattle.rapid_model.proofs.Orders.{same_bytes_decides, same_cut_decides}
 use Rattle.rapid_model.specs.Cut.{Cut, same_cut}
 use Rattle.rapid_model.specs.Message as said
-use Rattle.rapid_member.specs.Bodies.{body_of}
-use Rattle.rapid_member.specs.declared.message.Body.{Body}
-use Rattle.rapid_member.specs.declared.message.Body.TheVariants.{Batch, FastVote, JoinRequest}
+use Rattle.rapid_message.specs.Bodies.{body_of}
+use Rattle.rapid_message.specs.declared.message.Body.{Body}
+use Rattle.rapid_message.specs.declared.message.Body.TheVariants.{Batch, FastVote, JoinRequest}
 use Rattle.rapid_alerts.specs.declared.alert.Kind.{Kind}
 use Rattle.rapid_alerts.specs.declared.alert.Kind.TheVariants.{Remove, Join}
 use Rattle.rapid_alerts.specs.declared.alert.Alert.{Alert}

@@ -8,7 +8,7 @@ ghost use Rattle.rapid_service.specs.Repeating.{Passed, HoldsOf, IsTimely, IsRep
 use crate::said::{Kind, is_timely, say_same};
 use rapid_config::Configuration;
 use rapid_endpoint::Process;
-use rapid_node::Message;
+use rapid_message::Message;
 use std::alloc::{AllocError, Global};
 use std::collections::BTreeMap;
 use std::marker::Model;

@@ -1,12 +1,12 @@
 // What messages say of which a repeat changes nothing.
 
 ghost use Rattle.std.specs.Prelude.{◌≡◌, true, IsSome};
-ghost use Rattle.rapid_member.specs.Bodies.{body_of};
+ghost use Rattle.rapid_message.specs.Bodies.{body_of};
 ghost use Rattle.rapid_service.specs.Repeating.{IsSought, IsTimely};
 
 use rapid_alerts::Batch;
 use rapid_config::ConfigId;
-use rapid_node::Body;
+use rapid_message::Body;
 
 /// Within how many ticks a joiner's question is a repeat.
 const QUESTION_TICKS: u64 = 10;

@@ -5,7 +5,7 @@ use crate::ending::Ending;
 use crate::fault::NodeFault;
 use crate::post::Post;
 use crate::service::Service;
-use rapid_node::Message;
+use rapid_message::Message;
 use rapid_view::ViewSeat;
 use std::alloc::Global;
 use std::sync::{Mutex, Wait};

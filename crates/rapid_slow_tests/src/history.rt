@@ -2,7 +2,8 @@
 
 use crate::numbered::process;
 use rapid_config::{Configuration, Cut, Params};
-use rapid_node::{Body, Event, Message, Node, NodeFault, Phase};
+use rapid_message::{Body, Message};
+use rapid_node::{Event, Node, NodeFault, Phase};
 use std::alloc::Global;
 use std::process::Abort;
 use std::test::Fail;

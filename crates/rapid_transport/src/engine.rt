@@ -10,7 +10,7 @@ ghost use Rattle.rapid_transport.specs.Sending.{WritesPart};
 use crate::TransportError;
 use crate::counted::{CountedRead, CountedWrite};
 use bytes::Bytes;
-use rapid_member::Message;
+use rapid_message::Message;
 use rapid_wire::Feed;
 use std::sync::Wait;
 

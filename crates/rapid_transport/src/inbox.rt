@@ -1,6 +1,6 @@
 // What takes the messages that come in.
 
-use rapid_member::Message;
+use rapid_message::Message;
 use std::sync::Wait;
 
 /// What takes the messages that come in.

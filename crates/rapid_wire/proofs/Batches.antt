@@ -8,7 +8,7 @@ use Rattle.rapid_model.specs.Batch.{batch_fault, is_alike}
 use Rattle.rapid_model.proofs.Orders.{same_bytes_decides}
 use Rattle.rapid_alerts.specs.declared.alert.Alert as code
 use Rattle.rapid_alerts.specs.Alerts.{alert_of}
-use Rattle.rapid_member.specs.Bodies.{IsFrom}
+use Rattle.rapid_message.specs.Bodies.{IsFrom}
 
 both : (a b : Bool) → a ≡ true → b ≡ true → (a && b) ≡ true
 both true b h k = k

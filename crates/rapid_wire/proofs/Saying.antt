@@ -2,11 +2,11 @@
 use Rattle.std.proofs.Common.{◌≡◌, ap, arith}
 use Rattle.rapid_model.specs.Process.{Process}
 use Rattle.rapid_model.specs.Ballot.{Ballot, IsClassicBallot, fast_ballot}
-use Rattle.rapid_member.specs.Bodies.{CanSay, CannotSay}
-use Rattle.rapid_member.specs.declared.error.MessageError.{MessageError}
-use Rattle.rapid_member.specs.declared.error.MessageError.TheVariants.{OtherObserver, OtherConfiguration, FastBallot, NoObserver}
-use Rattle.rapid_member.specs.declared.message.Body.{Body}
-use Rattle.rapid_member.specs.declared.message.Body.TheVariants.{Batch, Prepare, Promise, Accept, Accepted, Reply}
+use Rattle.rapid_message.specs.Bodies.{CanSay, CannotSay}
+use Rattle.rapid_message.specs.declared.error.MessageError.{MessageError}
+use Rattle.rapid_message.specs.declared.error.MessageError.TheVariants.{OtherObserver, OtherConfiguration, FastBallot, NoObserver}
+use Rattle.rapid_message.specs.declared.message.Body.{Body}
+use Rattle.rapid_message.specs.declared.message.Body.TheVariants.{Batch, Prepare, Promise, Accept, Accepted, Reply}
 
 -- a classic ballot is not the fast one
 not_fast : (b : Ballot) → IsClassicBallot b → b ≡ fast_ballot → ⊥

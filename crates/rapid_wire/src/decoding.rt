@@ -3,7 +3,7 @@
 ghost use Rattle.std.specs.Prelude.{◌≡◌, ◌<◌, ◌∷◌, All, IfOk, IfErr};
 ghost use Rattle.rapid_model.specs.Frame.{IsMessage, version, payload};
 ghost use Rattle.rapid_model.specs.Feed.{IsKind};
-ghost use Rattle.rapid_member.specs.Bodies.{CanSay, body_of};
+ghost use Rattle.rapid_message.specs.Bodies.{CanSay, body_of};
 ghost use Rattle.rapid_wire.specs.Faults.{Gives, IsFaultOf};
 ghost use Rattle.rapid_wire.specs.Reading.{message_in};
 
@@ -13,7 +13,7 @@ use crate::kinds::read_body;
 use crate::reading::{PROCESS_BYTES, process_in, read_front};
 use crate::told::tell_message;
 use rapid_endpoint::Process;
-use rapid_member::{Body, Message};
+use rapid_message::{Body, Message};
 use std::alloc::Global;
 
 /// Each byte is below 256. It does nothing: what it ensures is for proofs.

@@ -6,7 +6,7 @@ ghost use Rattle.rapid_model.specs.Frame.{IsFrame, payload};
 use crate::numbers::write_length;
 use crate::told::tell_message;
 use crate::writing::{kind_of_body, put_body};
-use rapid_member::Message;
+use rapid_message::Message;
 use std::alloc::{AllocError, Global};
 
 /// The version of the format.

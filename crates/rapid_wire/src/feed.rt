@@ -9,7 +9,7 @@ use crate::WireFault;
 use crate::decoding::{decode, tell_bytes};
 use crate::numbers::length_in;
 use bytes::BytesMut;
-use rapid_member::Message;
+use rapid_message::Message;
 use std::alloc::{AllocError, Global};
 use std::marker::Model;
 

@@ -4,7 +4,7 @@ ghost use Rattle.std.specs.Prelude.{◌≡◌, IfOk};
 ghost use Rattle.rapid_model.specs.Ballot.{IsClassicBallot};
 ghost use Rattle.rapid_model.specs.Process as process;
 ghost use Rattle.rapid_model.specs.Message as model;
-ghost use Rattle.rapid_member.specs.Bodies.{CanSay, body_of};
+ghost use Rattle.rapid_message.specs.Bodies.{CanSay, body_of};
 ghost use Rattle.rapid_wire.specs.Faults.{Gives};
 ghost use Rattle.rapid_wire.specs.Reading.{both, made, all_of, byte_at, process_at, id_at, cut_at, classic_at, report_at, items_at, answer_at, choice_at, confirmed_in, body_in};
 
@@ -15,7 +15,7 @@ use crate::reading::{
 };
 use rapid_config::{ConfigError, ConfigId, Configuration, Cut};
 use rapid_endpoint::Process;
-use rapid_member::Body;
+use rapid_message::Body;
 use rapid_paxos::Ballot;
 use std::alloc::Global;
 

@@ -7,7 +7,7 @@ ghost use Rattle.rapid_model.specs.Message.{item_of};
 ghost use Rattle.rapid_alerts.specs.Alerts.{alert_of, kind_of};
 ghost use Rattle.rapid_paxos.specs.Reported.{last_of};
 ghost use Rattle.rapid_join.specs.Answers.{NamesObservers, answer_of};
-ghost use Rattle.rapid_member.specs.Bodies.{IsFrom};
+ghost use Rattle.rapid_message.specs.Bodies.{IsFrom};
 ghost use Rattle.rapid_wire.specs.Faults.{Gives};
 ghost use Rattle.rapid_wire.specs.Reading.{both, all_of, many, front_at, byte_at, number_at, process_at, cut_at, is_cut, is_classic, is_ballot, numbers_at, ballot_at, report_at, kind_at, item_at, items_at, observers_at, made, id_at, safe_from, answer_at};
 

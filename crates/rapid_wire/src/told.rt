@@ -8,13 +8,13 @@ ghost use Rattle.rapid_model.specs.Frame.{IsItem, IsAnswer, IsBody, IsMessage, I
 ghost use Rattle.rapid_alerts.specs.Alerts.{alert_of};
 ghost use Rattle.rapid_paxos.specs.Reported.{last_of};
 ghost use Rattle.rapid_join.specs.Answers.{NamesObservers, answer_of};
-ghost use Rattle.rapid_member.specs.Bodies.{CanSay, body_of};
+ghost use Rattle.rapid_message.specs.Bodies.{CanSay, body_of};
 
 use rapid_alerts::{Alert, Batch};
 use rapid_config::Cut;
 use rapid_endpoint::Process;
 use rapid_join::Reply;
-use rapid_member::{Body, Message};
+use rapid_message::{Body, Message};
 use rapid_paxos::Ballot;
 
 /// Each value is a process.

@@ -9,14 +9,14 @@ ghost use Rattle.std.specs.Int.{w16, to_be_bytes};
 ghost use Rattle.rapid_alerts.specs.Alerts.{alert_of, kind_of};
 ghost use Rattle.rapid_paxos.specs.Reported.{last_of};
 ghost use Rattle.rapid_join.specs.Answers.{answer_of};
-ghost use Rattle.rapid_member.specs.Bodies.{body_of};
+ghost use Rattle.rapid_message.specs.Bodies.{body_of};
 
 use crate::numbers::two_bytes;
 use rapid_alerts::{Alert, Batch, Kind};
 use rapid_config::{ConfigId, Cut};
 use rapid_endpoint::Process;
 use rapid_join::Reply;
-use rapid_member::Body;
+use rapid_message::Body;
 use rapid_paxos::Ballot;
 use std::alloc::{AllocError, Global};
 

@@ -7,7 +7,7 @@ ghost use Rattle.rapid_world.specs.Sent.{AreNumbered, all_packets, numbered_pack
 
 use crate::sending::Sending;
 use rapid_endpoint::Endpoint;
-use rapid_node::Message;
+use rapid_message::Message;
 use std::alloc::{AllocError, Global};
 use std::marker::Model;
 

@@ -6,7 +6,7 @@ ghost use Rattle.rapid_model.specs.Packets.{packets_of, packet_to};
 
 use crate::recipients::Recipients;
 use rapid_endpoint::Endpoint;
-use rapid_node::{Destination, Message, Output, Outputs};
+use rapid_message::{Destination, Message, Output, Outputs};
 use std::marker::Model;
 
 /// What a node sent in one step, as the step gave it out: a message to many is kept once.

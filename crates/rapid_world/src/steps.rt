@@ -17,7 +17,8 @@ use crate::report::Report;
 use crate::{World, WorldError, WorldEvent};
 use rapid_config::ConfigId;
 use rapid_endpoint::{Endpoint, Process, ProcessId};
-use rapid_node::{Event, Message};
+use rapid_message::Message;
+use rapid_node::Event;
 use std::alloc::AllocError;
 use std::mem;
 

@@ -13,7 +13,8 @@ use crate::recipients::Recipients;
 use crate::report::Report;
 use crate::sending::Sending;
 use rapid_endpoint::ProcessId;
-use rapid_node::{Node, Outputs};
+use rapid_message::Outputs;
+use rapid_node::Node;
 use std::alloc::{AllocError, Global};
 
 /// What comes of an event that a node takes.

@@ -14,7 +14,7 @@ ghost use Rattle.rapid_model.specs.Ring.{observers_of};
 ghost use Rattle.rapid_alerts.specs.Alerts.{alert_of};
 ghost use Rattle.rapid_alerts.specs.Refusals.{Refuses};
 ghost use Rattle.rapid_join.specs.Hosts.{fresh_host};
-ghost use Rattle.rapid_member.specs.Bodies.{IsFrom};
+ghost use Rattle.rapid_message.specs.Bodies.{IsFrom};
 ghost use Rattle.rapid_member.specs.Parts.{IsContext};
 ghost use Rattle.rapid_paxos.specs.Reported.{last_of};
 ghost use Rattle.std.specs.FinMap as map;

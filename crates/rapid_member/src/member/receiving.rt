@@ -7,18 +7,18 @@ ghost use Rattle.rapid_model.specs.Host as host;
 ghost use Rattle.rapid_model.specs.Node.{outputs};
 ghost use Rattle.rapid_model.specs.Receive as receive;
 ghost use Rattle.rapid_join.specs.Answers.{host_answer_of};
-ghost use Rattle.rapid_member.specs.Bodies.{CanSay, body_of};
+ghost use Rattle.rapid_message.specs.Bodies.{CanSay, body_of};
 ghost use Rattle.rapid_join.specs.Answers.{AnswersObservers};
 ghost use Rattle.rapid_member.specs.Members.{IsSameMember};
 
 use super::MemberState;
 use crate::decisions::Decisions;
 use crate::joining::say_answer;
-use crate::output::{Output, answer};
-use crate::{Body, Message};
+use crate::sending::answer;
 use rapid_config::{ConfigId, Cut};
 use rapid_endpoint::Process;
 use rapid_join::HostAnswer;
+use rapid_message::{Body, Message, Output};
 use rapid_paxos::{Ballot, Promise, copy_vote};
 use std::alloc::AllocError;
 use std::sync::Arc;
@@ -35,7 +35,7 @@ impl MemberState {
     }
 
     /// Takes a message that is about the configuration.
-    #[tactic(auto, using(crate::proofs::Batches::batch_alerts_are), unfolding(rapid_model::specs::Receive::take))]
+    #[tactic(auto, using(rapid_message::proofs::Batches::batch_alerts_are), unfolding(rapid_model::specs::Receive::take))]
     #[inline(always)]
     fn take(
         &mut self,

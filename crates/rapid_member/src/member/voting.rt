@@ -9,12 +9,12 @@ ghost use Rattle.rapid_member.specs.Members.{IsSameMember};
 ghost use Rattle.rapid_paxos.specs.Reported.{last_of};
 
 use super::MemberState;
-use crate::Body;
-use crate::output::{Output, answer, say};
+use crate::sending::{answer, say};
 use rapid_alerts::{Alert, RaiseError};
 use rapid_config::Cut;
 use rapid_endpoint::Process;
 use rapid_fast::HearError;
+use rapid_message::{Body, Output};
 use rapid_paxos::{AcceptError, Ballot, Promise};
 use std::alloc::AllocError;
 use std::sync::Arc;

@@ -5,7 +5,8 @@ use crate::node::said::{Said, To, said_by, whom};
 use crate::numbered::process;
 use rapid_config::ConfigId;
 use rapid_endpoint::Process;
-use rapid_node::{Event, Node, NodeFault, Outputs, Phase};
+use rapid_message::Outputs;
+use rapid_node::{Event, Node, NodeFault, Phase};
 use std::process::Abort;
 use std::test::Fail;
 

@@ -2,7 +2,8 @@
 
 use crate::numbered::{cut, process};
 use rapid_config::{ConfigId, Configuration, Params};
-use rapid_node::{Body, Event, Message, Node};
+use rapid_message::{Body, Message};
+use rapid_node::{Event, Node};
 use std::alloc::Global;
 use std::process::Abort;
 use std::test::Fail;

@@ -2,7 +2,8 @@
 
 use rapid_config::Cut;
 use rapid_endpoint::Endpoint;
-use rapid_node::{Body, Destination, Reply};
+use rapid_join::Reply;
+use rapid_message::{Body, Destination};
 use rapid_paxos::Ballot;
 
 /// A ballot: its round and the position of its coordinator.

@@ -1,7 +1,7 @@
 // Frames alone: messages as bytes, and back.
 
 use anyhow::Result;
-use rapid_node::Message;
+use rapid_message::Message;
 use rapid_wire::{Feed, encode};
 use std::alloc::Global;
 

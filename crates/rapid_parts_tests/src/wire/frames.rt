@@ -2,7 +2,7 @@
 
 use crate::numbered::process;
 use rapid_join::Reply;
-use rapid_member::{Body, Message};
+use rapid_message::{Body, Message};
 use rapid_wire::{Feed, WireFault, encode};
 use std::alloc::{AllocError, Global};
 use std::test::Fail;

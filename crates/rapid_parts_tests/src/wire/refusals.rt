@@ -4,7 +4,7 @@ use crate::numbered::process;
 use rapid_alerts::{Alert, Batch, Kind};
 use rapid_config::{ConfigId, Cut};
 use rapid_join::{Reply, RingObservers};
-use rapid_member::{Body, Message, MessageError};
+use rapid_message::{Body, Message, MessageError};
 use rapid_paxos::Ballot;
 use std::alloc::Global;
 use std::test::Fail;

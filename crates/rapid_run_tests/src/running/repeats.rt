@@ -4,7 +4,7 @@ use bytes::Bytes;
 use rapid_alerts::{Alert, Batch, Kind};
 use rapid_config::{ConfigId, Configuration, Cut, Params};
 use rapid_endpoint::{Endpoint, Process, ProcessId};
-use rapid_member::{Body, Message};
+use rapid_message::{Body, Message};
 use rapid_service::{Post, Repeats, Service};
 use std::alloc::Global;
 use std::process::Abort;

@@ -3,7 +3,7 @@
 use crate::transport::worked::{PRE_JOIN, asks_to_join};
 use bytes::Bytes;
 use rapid_endpoint::Endpoint;
-use rapid_member::Message;
+use rapid_message::Message;
 use rapid_transport::{Inbox, Peers, TransportError};
 use std::alloc::Global;
 use std::io::{self, Read, Write};

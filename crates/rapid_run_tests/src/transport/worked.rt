@@ -1,7 +1,7 @@
 // A worked frame.
 
 use rapid_endpoint::{Endpoint, Process, ProcessId};
-use rapid_member::{Body, Message};
+use rapid_message::{Body, Message};
 
 /// The frame in which the process with the number 2 asks to join.
 pub(crate) const PRE_JOIN: [u8; 28] = [

@@ -6,7 +6,7 @@ use Rattle.std.proofs.lemmas.List.Elements.{All-append, All-from_recursion}
 use Rattle.rapid_model.specs.Message.{AlertItem, item_of}
 use Rattle.rapid_alerts.specs.declared.alert.Alert.{Alert as CodeAlert}
 use Rattle.rapid_alerts.specs.Alerts.{alert_of, kind_of}
-use Rattle.rapid_member.specs.Bodies.{IsFrom}
+use Rattle.rapid_message.specs.Bodies.{IsFrom}
 use Rattle.rapid_wire.specs.Reading.{many, item_at}
 use Rattle.rapid_wire.proofs.Loops.{with_front, goes_on, ends, is_done}
 use Rattle.rapid_wire.proofs.reading.read_alerts.Goals as goal

@@ -2,7 +2,7 @@ use Rattle.std.proofs.Common.{◌≡◌, ◌-◌}
 use Rattle.std.specs.Prelude.{All, map}
 use Rattle.rapid_model.specs.Message.{item_of}
 use Rattle.rapid_alerts.specs.Alerts.{alert_of}
-use Rattle.rapid_member.specs.Bodies.{IsFrom}
+use Rattle.rapid_message.specs.Bodies.{IsFrom}
 use Rattle.rapid_wire.specs.Reading.{many, item_at}
 use Rattle.rapid_wire.proofs.Loops.{with_front}
 use Rattle.rapid_wire.proofs.reading.read_alerts.Given as goal

@@ -2,7 +2,7 @@ use Rattle.std.proofs.Common.{sym, ap, subst, ◌∙◌, OnOk, Some}
 use Rattle.rapid_model.specs.Message.{Body}
 use Rattle.rapid_model.specs.Node.{Joining}
 use Rattle.rapid_model.specs.Receive.{receive_as_joiner}
-use Rattle.rapid_member.specs.Bodies.{body_of}
+use Rattle.rapid_message.specs.Bodies.{body_of}
 use Rattle.rapid_node.specs.Steps.{in_phase, Continues}
 use Rattle.rapid_node.proofs.node.Node.joiner_receive.Goals as goal
 

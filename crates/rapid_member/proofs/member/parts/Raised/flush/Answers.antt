@@ -1,7 +1,7 @@
 use Rattle.std.proofs.Common.{All, IfSome, subst}
 use Rattle.rapid_model.specs.Configuration.{Configuration, configuration_id}
 use Rattle.rapid_alerts.specs.Outboxes.{OwnedOutbox}
-use Rattle.rapid_member.specs.Bodies.{IsFrom}
+use Rattle.rapid_message.specs.Bodies.{IsFrom}
 use Rattle.rapid_member.proofs.Flushing.{flushed_from}
 use Rattle.rapid_member.proofs.member.parts.Raised.flush.Goals as goal
 

@@ -5,7 +5,7 @@ use Rattle.rapid_model.specs.Alert.{Alert}
 use Rattle.rapid_model.specs.Batch.{batch_fault}
 use Rattle.rapid_model.specs.Message.{item_of, alert_of, batch_alerts}
 use Rattle.rapid_endpoint.specs.Same.{equal_when_same, same_when_equal}
-use Rattle.rapid_member.specs.Bodies.{IsFrom}
+use Rattle.rapid_message.specs.Bodies.{IsFrom}
 
 read_back : (from : Process) (id : List ℕ) (a : Alert) → IsFrom from id a → alert_of from id (item_of a) ≡ a
 read_back from id a is =

@@ -4,9 +4,9 @@ ghost use Rattle.std.specs.Prelude.{◌≡◌, None, All, OnOk, IfErr};
 ghost use Rattle.rapid_model.specs.Ballot.{IsClassicBallot, fast_ballot};
 ghost use Rattle.rapid_model.specs.Batch.{batch_fault};
 ghost use Rattle.rapid_join.specs.Answers.{NamesObservers};
-ghost use Rattle.rapid_member.specs.Bodies.{IsFrom, CanSay, CannotSay};
-ghost use Rattle.rapid_member.specs.declared.message.Body.TheVariants.{Batch as SaysBatch};
-ghost use Rattle.rapid_member.specs.declared.error.MessageError.TheVariants.{FastBallot as IsFast, NoObserver as NamesNone};
+ghost use Rattle.rapid_message.specs.Bodies.{IsFrom, CanSay, CannotSay};
+ghost use Rattle.rapid_message.specs.declared.message.Body.TheVariants.{Batch as SaysBatch};
+ghost use Rattle.rapid_message.specs.declared.error.MessageError.TheVariants.{FastBallot as IsFast, NoObserver as NamesNone};
 
 use crate::{Body, MessageError};
 use rapid_alerts::Batch;

@@ -1,7 +1,7 @@
 // Why a message is refused.
 
 ghost use Rattle.std.specs.Prelude.{◌≡◌};
-ghost use Rattle.rapid_member.specs.Bodies.{message_code};
+ghost use Rattle.rapid_message.specs.Bodies.{message_code};
 
 use thiserror::Error;
 

@@ -1,7 +1,7 @@
 -- Destinations as the definitions see them.
 use Rattle.rapid_model.specs.Node as model
-use Rattle.rapid_member.specs.declared.output.Destination.{Destination}
-use Rattle.rapid_member.specs.declared.output.Destination.TheVariants.{To, Others}
+use Rattle.rapid_message.specs.declared.output.Destination.{Destination}
+use Rattle.rapid_message.specs.declared.output.Destination.TheVariants.{To, Others}
 
 -- A destination.
 abbrev pub destination_of : Destination → model.Destination

@@ -1,7 +1,7 @@
 // Messages between nodes.
 
 ghost use Rattle.std.specs.Prelude.{◌≡◌, IfOk, OnOk, IfErr};
-ghost use Rattle.rapid_member.specs.Bodies.{CanSay, CannotSay, body_of};
+ghost use Rattle.rapid_message.specs.Bodies.{CanSay, CannotSay, body_of};
 ghost use Rattle.rapid_model.specs.Message.{caught_up_by};
 
 use crate::MessageError;
@@ -103,7 +103,7 @@ pub struct Message {
 
 impl Model for Message {
     ghost use Rattle.rapid_model.specs.Message.{Message as ModelMessage};
-    ghost use Rattle.rapid_member.specs.Bodies.{CanSay, body_of};
+    ghost use Rattle.rapid_message.specs.Bodies.{CanSay, body_of};
 
     ghost Value = { ModelMessage };
 
@@ -128,7 +128,7 @@ impl Message {
     }
 
     /// The message of a sender that can say this.
-    pub(crate) fn of(sender: Process, body: Body) -> Message
+    pub fn of(sender: Process, body: Body) -> Message
         requires { CanSay sender body }
         ensures { result ≡ record { sender = sender; body = body_of body } }
     {

@@ -7,10 +7,10 @@ use Rattle.rapid_model.specs.Ballot.{IsClassicBallot, fast_ballot}
 use Rattle.rapid_model.specs.Message as model
 use Rattle.rapid_paxos.specs.Reported.{last_of}
 use Rattle.rapid_join.specs.Answers.{NamesObservers, answer_of}
-use Rattle.rapid_member.specs.declared.error.MessageError.{MessageError}
-use Rattle.rapid_member.specs.declared.error.MessageError.TheVariants.{OtherObserver, OtherConfiguration, FastBallot, NoObserver}
-use Rattle.rapid_member.specs.declared.message.Body.{Body}
-use Rattle.rapid_member.specs.declared.message.Body.TheVariants.{Batch, FastVote, Prepare, Promise, Accept, Accepted, Decision, PreJoin, Reply, JoinRequest, Confirm, Probe, ProbeAck}
+use Rattle.rapid_message.specs.declared.error.MessageError.{MessageError}
+use Rattle.rapid_message.specs.declared.error.MessageError.TheVariants.{OtherObserver, OtherConfiguration, FastBallot, NoObserver}
+use Rattle.rapid_message.specs.declared.message.Body.{Body}
+use Rattle.rapid_message.specs.declared.message.Body.TheVariants.{Batch, FastVote, Prepare, Promise, Accept, Accepted, Decision, PreJoin, Reply, JoinRequest, Confirm, Probe, ProbeAck}
 
 -- What a message says.
 abbrev pub body_of : Body → model.Body

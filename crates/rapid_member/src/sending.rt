@@ -1,0 +1,49 @@
+// What a member adds to what goes out of its node.
+
+ghost use Rattle.std.specs.Prelude.{◌≡◌, ◌++◌, ◌∷◌, [], OnOk, OnErr};
+ghost use Rattle.rapid_model.specs.Process.{endpoint};
+ghost use Rattle.rapid_model.specs.Node.{To as ModelTo, Others as ModelOthers, Says, outputs};
+ghost use Rattle.rapid_message.specs.Bodies.{CanSay, body_of};
+
+use rapid_endpoint::{Endpoint, Process};
+use rapid_message::{Body, Destination, Message, Output};
+use std::alloc::AllocError;
+
+/// Says something to the other members. If out of memory it says nothing.
+pub(crate) fn say(out: &mut Vec<Output>, me: Process, body: Body) -> Result<(), AllocError>
+    requires { CanSay me body }
+    ensures said { OnOk result (out.new.items ≡ out.old.items ++ outputs me (Says ModelOthers (body_of body) ∷ [])) }
+    ensures unchanged { OnErr result (out.new.items ≡ out.old.items) }
+{
+    out.push(Output::new(Destination::Others, Message::of(me, body)))?;
+    Ok(())
+}
+
+/// Says something to an endpoint. If out of memory it says nothing.
+pub(crate) fn say_to(
+    out: &mut Vec<Output>,
+    me: Process,
+    to: Endpoint,
+    body: Body,
+) -> Result<(), AllocError>
+    requires { CanSay me body }
+    ensures said { OnOk result (out.new.items ≡ out.old.items ++ outputs me (Says (ModelTo to) (body_of body) ∷ [])) }
+    ensures unchanged { OnErr result (out.new.items ≡ out.old.items) }
+{
+    out.push(Output::new(Destination::To(to), Message::of(me, body)))?;
+    Ok(())
+}
+
+/// Says something to the endpoint of a process. If out of memory it says nothing.
+pub(crate) fn answer(
+    out: &mut Vec<Output>,
+    me: Process,
+    to: &Process,
+    body: Body,
+) -> Result<(), AllocError>
+    requires { CanSay me body }
+    ensures said { OnOk result (out.new.items ≡ out.old.items ++ outputs me (Says (ModelTo (endpoint to.now)) (body_of body) ∷ [])) }
+    ensures unchanged { OnErr result (out.new.items ≡ out.old.items) }
+{
+    say_to(out, me, to.endpoint(), body)
+}
