@@ -105,8 +105,9 @@ def processors():
 def in_lanes(tasks, seconds, done=lambda key, left: None):
     """Runs tasks side by side, each after those that it waits for, the longest chain first.
 
-    A task is the keys that it waits for and a call, which gets how many jobs it may use: the lanes
-    that nothing else is ready for. Gives what each call gave, and the seconds that it took."""
+    A task is the keys that it waits for and a call, which gets how many jobs it may use: two if the
+    chain above it is the longest work that is left, and the lanes that nothing else is ready for.
+    Gives what each call gave, and the seconds that it took."""
     lanes, behind = processors(), dict.fromkeys(tasks, 0)
     for key in reversed(list(tasks)):
         behind[key] += seconds.get(key, 10)
@@ -122,8 +123,11 @@ def in_lanes(tasks, seconds, done=lambda key, left: None):
         while waiting or running:
             ready = [it for it in waiting if all(low in given for low in tasks[it][0])]
             idle = lanes - sum(jobs for _, jobs in running.values())
+            todo = sum(seconds.get(it, 10) for it in [*waiting, *(key for key, _ in running.values())])
             for at, key in enumerate(ready[: max(idle, 0)]):
-                jobs = max(1, min(3, idle // (len(ready) - at)))
+                # a chain that would outlast all the rest is what everything waits for in the end
+                least = 2 if lanes > 3 and behind[key] * lanes > todo else 1
+                jobs = min(idle, max(least, min(3, idle // (len(ready) - at))))
                 idle -= jobs
                 waiting.remove(key)
                 running[pool.submit(timed, tasks[key][1], jobs)] = key, jobs
@@ -132,7 +136,7 @@ def in_lanes(tasks, seconds, done=lambda key, left: None):
             for it in wait(running, return_when=FIRST_COMPLETED).done:
                 key, _ = running.pop(it)
                 given[key], took[key] = it.result()
-                todo = [key for key, _ in running.values()] + waiting
-                work = sum(seconds.get(it, 10) for it in todo) / lanes
-                done(key, max([work, *(behind[it] for it in todo)]))
+                left = [key for key, _ in running.values()] + waiting
+                work = sum(seconds.get(it, 10) for it in left) / lanes
+                done(key, max([work, *(behind[it] for it in left)]))
     return given, took
