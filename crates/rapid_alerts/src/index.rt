@@ -75,7 +75,7 @@ impl Index {
         }
     }
 
-    /// Adds an alert that is not there. Want of memory leaves the index as it was.
+    /// Adds an alert that is not there. If out of memory the index is as it was.
     pub(crate) fn add(&mut self, alert: &Alert) -> Result<(), AllocError>
         requires { set.contains self.old.reports (report_of (alert_of alert.now)) ≡ false }
         ensures added { OnOk result (self.new ≡ indexed self.old (alert_of alert.now)) }

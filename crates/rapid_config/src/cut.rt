@@ -63,9 +63,9 @@ impl Cut {
     /// The most processes of a cut.
     pub const MOST: usize = 1536;
 
-    /// The cut of these processes. The first that holds: `EmptyCut` where there is none, `TooMany`
-    /// where there are more than 1,536, `NotSorted` where they do not strictly ascend.
-    /// `OutOfMemory` comes only where none of them holds.
+    /// The cut of these processes. The first that holds: `EmptyCut` if there is none, `TooMany` if
+    /// there are more than 1,536, `NotSorted` if they do not strictly ascend. `OutOfMemory` comes
+    /// only if none of them holds.
     pub fn new(processes: Vec<Process>) -> Result<Cut, ConfigError>
         ensures value { IfOk result (λ cut. cut ≡ processes.items) }
         ensures valid { IfOk result IsCut }

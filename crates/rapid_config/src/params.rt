@@ -29,7 +29,7 @@ impl Model for Params {
 }
 
 impl Params {
-    /// The parameters K, H and L. `BadParams` exactly where they are not in order.
+    /// The parameters K, H and L. `BadParams` exactly if they are not in order.
     pub fn new(k: u8, h: u8, l: u8) -> Result<Params, ConfigError>
         ensures exactly { OkIff result (AreParams (record { k = k; h = h; l = l })) (record { k = k; h = h; l = l }) }
         ensures refused { IfErr result (λ e. e ≡ ConfigError.BadParams) }

@@ -176,7 +176,7 @@ impl<R: Wait + Copy + Drop> Desk<R> {
     ///
     /// # Errors
     ///
-    /// `OutOfMemory`, and `Unpublished` where the view could not be published: there is no desk.
+    /// `OutOfMemory`, and `Unpublished` if the view could not be published. There is no desk then.
     #[tactic(auto, using(crate::proofs::Keeping::keeps_seed_held, crate::proofs::Keeping::seed_is))]
     pub fn seed(
         rt: R,
@@ -208,8 +208,7 @@ impl<R: Wait + Copy + Drop> Desk<R> {
     }
 
     /// The desk of a process that joins by the seed at this endpoint. It publishes nothing until it
-    /// is in a configuration. The caller asks for 1 to 64 seats. `OutOfMemory` where there was
-    /// none.
+    /// is in a configuration. The caller asks for 1 to 64 seats. `OutOfMemory` if there was none.
     pub fn joiner(
         rt: R,
         alloc: Global,
@@ -231,7 +230,7 @@ impl<R: Wait + Copy + Drop> Desk<R> {
         })
     }
 
-    /// The node is the replay of the journal from its entry and what it installed is published, or
+    /// The node is the replay of the journal from its entry, and what it installed is published; or
     /// it has halted. While it joins nothing is published. It does nothing: what it ensures is for
     /// proofs.
     #[inline(always)]
@@ -275,16 +274,17 @@ impl<R: Wait + Copy + Drop> Desk<R> {
     }
 
     /// One event at the node, and what is to be sent after it, in order. Afterwards the journal has
-    /// the event, or begins anew where a configuration was entered, which is published then and put
-    /// for each subscriber.
+    /// the event. If a configuration was entered, the journal begins anew, and the view is
+    /// published and put for each subscriber.
     ///
     /// # Errors
     ///
-    /// Checked first: `JournalFull` where 65,536 records are kept and the event needs another, and
-    /// from then on. `OutOfMemory` where there was none for what the desk keeps. Both leave node,
-    /// journal and published list. `Node` where the node has halted, or does in this step: it sends
-    /// nothing of the step. `Unpublished` where the new view could not be published: the node halts
-    /// and sends nothing of the step, and its installed list is one longer than the published one.
+    /// Checked first: `JournalFull` if 65,536 records are kept and the event needs another, and
+    /// from then on. `OutOfMemory` if there was none for what the desk keeps. Both leave node,
+    /// journal and published list. `Node` if the node has halted, or does in this step: it sends
+    /// nothing of the step. `Unpublished` if the new view could not be published. The node halts
+    /// then and sends nothing of the step, and its installed list is one longer than the published
+    /// one.
     pub fn step(&mut self, event: Event) -> Result<Outputs, DeskError>
         ensures outputs { IfOk result (λ sent. HasOutcome self.old.state.node.me (node_step self.old.state.node (event_of event)) self.new.state.node sent.items) }
         ensures advances { OnOk result (Advances self.old.state (event_of event) self.new.state) }
@@ -320,12 +320,12 @@ impl<R: Wait + Copy + Drop> Desk<R> {
         self.board.take_seats()
     }
 
-    /// A subscription to the views that come after the one that is published last, with room for so
-    /// many that wait.
+    /// A subscription to the views that come after the one that is published last, with room for
+    /// `capacity` of them to wait.
     ///
     /// # Errors
     ///
-    /// `BadCapacity` where the capacity is not 1 to 1,024, else `TooManySubscribers` where the desk
+    /// `BadCapacity` if the capacity is not 1 to 1,024, else `TooManySubscribers` if the desk
     /// serves 64, else `OutOfMemory`.
     pub fn subscribe(&mut self, capacity: usize) -> Result<Subscription, DeskError>
         ensures same { (self.new.state ≡ self.old.state) × (self.new.seats ≡ self.old.seats) × (self.new.count ≡ self.old.count) }
@@ -349,8 +349,9 @@ impl<R: Wait + Copy + Drop> Desk<R> {
         }
     }
 
-    /// Ends the subscriptions made so far, which count no more: what is there is still taken. Who
-    /// owns a desk whose node has halted closes it, else its subscribers wait for ever.
+    /// Ends the subscriptions made so far, which count no more; what waits in them can still be
+    /// taken. Whoever owns a desk whose node has halted closes it, else its subscribers wait for
+    /// ever.
     pub fn close(&mut self)
         ensures { self.new ≡ record self.old { subscriptions = [] } }
     {

@@ -42,7 +42,7 @@ impl Model for Held {
     ghost view = { λ h. record { entry = h.entry.value; journal = records h.journal.items; full = h.full; node = h.node.value; next = h.next.value } };
 }
 
-/// Gets room for the records of an event. `JournalFull` where it had to be refused before, or the
+/// Gets room for the records of an event. `JournalFull` if one was refused so before, or if the
 /// event needs a record more than the journal may have.
 #[tactic(auto, using(crate::proofs::Stepping::full_is))]
 fn get_room(
@@ -73,7 +73,8 @@ fn copy_into(place: &mut Node, node: &Node) -> Result<(), AllocError>
 }
 
 impl Held {
-    /// Where nothing has happened since the node was at its entry.
+    /// What is held of this node before any event: the journal has no record, and its entry is the
+    /// node.
     pub(crate) fn new(alloc: Global, node: Node) -> Result<Held, AllocError>
         ensures { IfOk result (λ h. (h.entry ≡ node) × (h.journal ≡ []) × (h.full ≡ false) × (h.node ≡ node)) }
     {
@@ -90,7 +91,7 @@ impl Held {
         })
     }
 
-    /// Makes the step in a copy of the node. The copy takes its place where it has halted.
+    /// Makes the step in a copy of the node. If the copy has halted it takes the node's place.
     pub(crate) fn prepare(&mut self, event: &Event) -> Result<Outputs, DeskError>
         requires { length self.old.journal ≤ 65536 }
         ensures same { (self.new.entry ≡ self.old.entry) × (self.new.journal ≡ self.old.journal) }

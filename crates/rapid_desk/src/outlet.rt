@@ -36,7 +36,7 @@ impl Model for Outlet {
     ghost invariant = { λ o. (o.state ≡ state_of o.sink.1) × (o.sink.3 ≡ o.capacity + 1) };
 }
 
-/// A subscription with room for so many changes, from a view of this height on.
+/// A subscription with room for this many changes, from a view of this height on.
 pub(crate) fn subscribe(
     alloc: Global,
     capacity: usize,

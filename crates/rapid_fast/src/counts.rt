@@ -42,7 +42,7 @@ fn place(counts: &[(Cut, usize)], cut: &Cut) -> Result<usize, usize>
     counts.binary_search_by(|count| count.0.cmp(cut))
 }
 
-/// A copy of a cut, where one is wanted.
+/// A copy of a cut, if one is wanted.
 pub(crate) fn copy_where(wanted: bool, alloc: Global, cut: &Cut) -> Result<Option<Cut>, AllocError>
     ensures { IfOk result (λ copy. copy ≡ (if wanted then Some cut.now else None)) }
 {
@@ -81,19 +81,19 @@ impl CutCounts {
         self.counts.as_slice()
     }
 
-    /// Counts one more for a cut. Want of memory leaves the counters as they were.
+    /// Counts one more for a cut. If out of memory the counters are as they were.
     pub fn add(&mut self, cut: &Cut) -> Result<(), AllocError>
         requires room { count_of self.old cut.now ≤ 1024 }
         ensures ok { OnOk result (self.new ≡ one_more self.old cut.now) }
         ensures unchanged { OnErr result (self.new ≡ self.old) }
     {
-        // a cut that was counted has one at least, so none is answered
+        // a cut that was counted has at least one, so none is answered
         self.add_up_to(cut, 0)?;
         Ok(())
     }
 
-    /// Counts one more for a cut; the cut, where there are then just so many. Want of memory leaves
-    /// the counters as they were.
+    /// Counts one more for a cut; the cut, if there are then exactly this many. If out of memory
+    /// the counters are as they were.
     pub fn add_up_to(&mut self, cut: &Cut, enough: usize) -> Result<Option<Cut>, AllocError>
         requires room { count_of self.old cut.now ≤ 1024 }
         ensures ok { OnOk result (self.new ≡ one_more self.old cut.now) }

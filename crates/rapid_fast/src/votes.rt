@@ -45,8 +45,8 @@ impl VoteCounts {
         }
     }
 
-    /// Counts one more vote for a cut; the cut, where there are then just so many. Want of memory
-    /// leaves the counters as they were.
+    /// Counts one more vote for a cut; the cut, if there are then exactly this many. If out of
+    /// memory the counters are as they were.
     #[inline(always)]
     pub(crate) fn add(&mut self, cut: &Cut, enough: usize) -> Result<Option<Cut>, AllocError>
         requires room { count_of self.old cut.now ≤ 1024 }

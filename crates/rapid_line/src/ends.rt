@@ -52,7 +52,7 @@ impl<T: Drop, P: Order<T>> Model for Source<T, P> {
     ghost invariant = { λ s. IsPassOf (arc_value s.queue) s.pass × ((pass_view s.pass).takes ≡ true) };
 }
 
-/// An empty queue for so many items, at least one.
+/// An empty queue for this many items, at least one.
 pub fn line<T: Drop, P: Order<T>>(
     alloc: Global,
     capacity: usize,
@@ -104,7 +104,7 @@ impl<T: Drop, P: Order<T>> Sink<T, P> {
         unreachable!()
     }
 
-    /// How many items were in the queue at one moment of the call. So many were still to be taken.
+    /// How many items were in the queue, and still to be taken, at one moment of the call.
     pub fn len<R: Wait>(&mut self, rt: &R) -> usize
         ensures same { self.new ≡ self.old }
         ensures untaken { (result ≤ self.old.3) × Untaken self.old.1 self.old.2 result }

@@ -63,7 +63,7 @@ impl Ages {
         Ok(next)
     }
 
-    /// Sets the age of a process. Want of memory leaves the ages as they were.
+    /// Sets the age of a process. If out of memory the ages are as they were.
     fn insert(&mut self, process: Process, age: u8) -> Result<(), AllocError>
         ensures ok { OnOk result (self.new ≡ map.insert self.old process age) }
         ensures unchanged { OnErr result (self.new ≡ self.old) }

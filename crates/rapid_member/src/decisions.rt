@@ -83,7 +83,7 @@ impl Decisions {
         Some(&found.1)
     }
 
-    /// Answers a message about a configuration that was left. Want of memory says nothing.
+    /// Answers a message about a configuration that was left. If out of memory it says nothing.
     pub fn catch_up(
         &self,
         alloc: Global,

@@ -87,7 +87,7 @@ fn send_requests(
     Ok(())
 }
 
-/// Sends, in the name of this process, what a joiner answers. Want of memory sends nothing.
+/// Sends, in the name of this process, what a joiner answers. If out of memory it sends nothing.
 pub fn send_joining(
     alloc: Global,
     out: &mut Vec<Output>,
@@ -105,8 +105,8 @@ pub fn send_joining(
 }
 
 /// Says, in the name of this process, to the joiners that wait at a member what they get after a
-/// change to the next configuration. None waits afterwards. Want of memory says nothing; who waits
-/// is open then, and the rest of the member stays.
+/// change to the next configuration. None waits afterwards. If out of memory it says nothing; who
+/// waits is open then, and the rest of the member stays.
 pub fn confirm_pending(
     alloc: Global,
     out: &mut Vec<Output>,

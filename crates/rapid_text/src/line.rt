@@ -25,7 +25,7 @@ fn all_allowed(line: &[u8]) -> bool
     allowed
 }
 
-/// The first word of a line and what follows it; none where the line has no words.
+/// The first word of a line and what follows it; none if the line has no words.
 pub fn split_word(line: &[u8]) -> Option<(&[u8], &[u8])>
     ensures { MatchOption result (words line.now ≡ [])
         (λ r. words line.now ≡ r.0.now ∷ words r.1.now) }
@@ -63,7 +63,7 @@ fn word_len(line: &[u8]) -> usize
     line.len()
 }
 
-/// The words, where these are three.
+/// The words, if these are three.
 pub fn three_words(line: &[u8]) -> Option<(&[u8], &[u8], &[u8])>
     ensures { MatchOption result (length (words line.now) ≢ 3) (λ r. words line.now ≡ r.0.now ∷ r.1.now ∷ r.2.now ∷ []) }
 {
@@ -76,7 +76,7 @@ pub fn three_words(line: &[u8]) -> Option<(&[u8], &[u8], &[u8])>
     }
 }
 
-/// The word, where this is one.
+/// The word, if this is one.
 pub fn one_word(line: &[u8]) -> Option<&[u8]>
     ensures { MatchOption result (length (words line.now) ≢ 1) (λ r. words line.now ≡ r.now ∷ []) }
 {

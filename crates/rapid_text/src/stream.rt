@@ -32,8 +32,8 @@ fn split_line(bytes: &[u8]) -> Option<(&[u8], &[u8])>
     None
 }
 
-/// Answers the line that ends behind these bytes: where nothing is kept of it they are all of it,
-/// and they are not copied.
+/// Answers the line that ends behind these bytes. If nothing is kept of it they are all of it, and
+/// are not copied.
 fn end_line<E: Engine>(
     engine: &mut E,
     line: &mut LineBuffer,
@@ -72,7 +72,7 @@ fn feed<E: Engine>(
     line.keep(rest)
 }
 
-/// Answers what stands after the last end of a line, where the input ends.
+/// Answers what stands after the last end of a line, if the input ends.
 fn finish<E: Engine>(
     engine: &mut E,
     line: &LineBuffer,
@@ -88,7 +88,7 @@ fn finish<E: Engine>(
     engine.answer(last, output)
 }
 
-/// Reads bytes into the block; none where the input has ended. A read that a signal interrupts is
+/// Reads bytes into the block; none if the input has ended. A read that a signal interrupts is
 /// tried again.
 fn read_some<R: Read>(reader: &mut R, block: &mut [u8]) -> Result<usize, RunFault>
     ensures bound { IfOk result (λ count. count ≤ length block.new) }
@@ -108,7 +108,7 @@ fn read_some<R: Read>(reader: &mut R, block: &mut [u8]) -> Result<usize, RunFaul
     Err(RunFault::Read)
 }
 
-/// Writes some of the bytes; none where a signal interrupts it.
+/// Writes some of the bytes; none if a signal interrupts it.
 fn write_some<W: Write>(writer: &mut W, bytes: &[u8]) -> Result<usize, RunFault>
     ensures bound { IfOk result (λ count. count ≤ length bytes.now) }
     ensures ok { IfOk result (λ count. Appends (W.contents writer.old) (W.contents writer.new) (take count bytes.now)) }
@@ -209,8 +209,8 @@ fn answer_all<E: Engine, R: Read, W: Write>(
 }
 
 /// Answers the lines of an input, which the reader gives, and writes what they print and nothing
-/// else. After a fault a beginning of that is written: `Read` where the input could not be read,
-/// `Write` where the output could not be written, `OutOfMemory` where there was no memory.
+/// else. After a fault a beginning of that is written: `Read` if the input could not be read,
+/// `Write` if the output could not be written, `OutOfMemory` if there was no memory.
 pub fn run<E: Engine, R: Read, W: Write>(
     alloc: Global,
     engine: &mut E,

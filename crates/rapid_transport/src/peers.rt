@@ -33,13 +33,12 @@ const CAPACITY: usize = 4_096;
 /// How long the acceptor waits after a connection could not be accepted, in milliseconds.
 const AFTER_A_FAULT: u64 = 50;
 
-/// How often it is tried to wake the acceptor, and how long each try takes at most, in
-/// milliseconds.
+/// How many tries wake the acceptor at most, and how long each takes at most, in milliseconds.
 const WAKES: u32 = 50;
 
 const LONGEST_WAKE: u64 = 200;
 
-/// The queue of a sender, and what wakes it where there is a frame in it.
+/// The queue of a sender, and what wakes it if there is a frame in it.
 #[derive(Drop)]
 struct Lane {
     queue: Mutex<SenderQueue>,
@@ -53,7 +52,7 @@ pub struct Peers {
     listener: TcpListener,
     address: SocketAddr,
     /// A handle that is only there to be given up: whoever stops the peers connects to them, also
-    /// where no descriptor is left otherwise.
+    /// if no descriptor is left otherwise.
     spare: Mutex<Option<TcpListener>>,
     lanes: [Lane; 4],
     readers: Mutex<Readers>,
@@ -111,7 +110,7 @@ impl Peers {
     ///
     /// # Errors
     ///
-    /// `NoPort` where the port was not to be had, and `OutOfMemory`.
+    /// `NoPort` if the port was not to be had, and `OutOfMemory`.
     pub fn listen<R>(
         rt: &R,
         alloc: Global,
@@ -147,7 +146,7 @@ impl Peers {
     ///
     /// # Errors
     ///
-    /// `QueueFull` where there was no room: the frame is dropped, and counted as a loss.
+    /// `QueueFull` if there was no room: the frame is dropped, and counted as a loss.
     pub fn post<R: Wait>(&self, rt: &R, to: Endpoint, frame: Bytes) -> Result<(), TransportError>
         ensures { IfErr result (λ e. e ≡ QueueFull) }
     {
@@ -159,7 +158,7 @@ impl Peers {
     }
 
     /// How many frames were lost: those that found a queue full, and those that could not be sent.
-    /// The count stays at 2^64 - 1.
+    /// The count goes no further than 2^64 - 1.
     pub fn losses<R: Wait>(&self, rt: &R) -> u64 {
         let mut losses = 0u64;
         for lane in &self.lanes {
@@ -182,7 +181,7 @@ impl Peers {
         }
     }
 
-    /// Tells the senders to stop.
+    /// Has the senders stop.
     fn stop_senders(&self) -> bool {
         let stops = self.stop.swap(true, Ordering::SeqCst);
         for lane in &self.lanes {
@@ -192,16 +191,16 @@ impl Peers {
     }
 
     /// Accepts connections, hands the messages that come by them to the inbox, and sends what is
-    /// posted, until `stop`. The caller's thread is the acceptor; the readers, at most 256, and the
+    /// posted, until `stop`. The caller's thread is the acceptor. The readers, at most 256, and the
     /// senders have threads of their own, all of which have ended when it returns. The ends are
     /// those that `listen` gave. A connection beyond 256 is closed at once, and so is one by which
-    /// something comes that is no frame. A connection is closed too where its first frame is not
-    /// whole within 5 seconds, or a later frame not within 5 seconds from its first bytes on.
-    /// Between frames there is no limit.
+    /// something comes that is no frame. A connection is closed too if its first frame is not whole
+    /// within 5 seconds, or a later frame within 5 seconds from its first bytes on. Between frames
+    /// there is no limit.
     ///
     /// # Errors
     ///
-    /// `OutOfMemory` where a sender's thread was not to be had: nothing runs then.
+    /// `OutOfMemory` if a sender's thread was not to be had: nothing runs then.
     pub fn run<R, I>(
         &self,
         rt: &R,
@@ -249,7 +248,7 @@ impl Peers {
         }
     }
 
-    /// The number under which a connection is read; none where it is closed at once.
+    /// The number under which a connection is read; none if it is closed at once.
     fn number<R: Wait>(&self, rt: &R, stream: &TcpStream) -> Option<u64> {
         match stream.try_clone() {
             Ok(handle) => self.readers.lock(rt).admit(handle),
@@ -260,7 +259,7 @@ impl Peers {
         }
     }
 
-    /// Takes in a connection that was accepted; none where it is closed at once.
+    /// Takes in a connection that was accepted; none if it is closed at once.
     fn admit<R: Wait + Clock>(
         &self,
         rt: &R,
@@ -286,9 +285,9 @@ impl Peers {
         Some((number, stream))
     }
 
-    /// Ends `run`: the readers at once, the senders when what is queued is sent, or after 0.3
-    /// seconds where that takes longer; a frame that is under way takes up to 0.3 seconds more. It
-    /// may be called by any thread, also before `run`, and calls after the first do nothing.
+    /// Ends `run`: the readers at once, the senders once what is queued is sent, but after 0.3
+    /// seconds at the latest. A frame that is under way takes up to 0.3 seconds more. Any thread
+    /// may call it, also before `run`. Calls after the first do nothing.
     pub fn stop<R>(&self, rt: &R)
     where
         R: Net<Listener = TcpListener, Stream = TcpStream> + Wait + Clock,

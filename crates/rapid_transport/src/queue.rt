@@ -56,8 +56,8 @@ impl Model for SenderEnd {
 }
 
 impl SenderQueue {
-    /// An empty queue with room for so many frames, 1 to 4,096: the end that puts, and the one that
-    /// takes.
+    /// An empty queue with room for this many frames, 1 to 4,096: the end that puts, and the one
+    /// that takes.
     pub fn new(alloc: Global, capacity: usize) -> Result<(SenderQueue, SenderEnd), AllocError>
         requires { (0 < capacity) × (capacity ≤ 4096) }
         ensures queue { IfOk result (λ ends. ends.0.queue ≡ ends.1.queue) }
@@ -84,7 +84,7 @@ impl SenderQueue {
     ///
     /// # Errors
     ///
-    /// `QueueFull` where there was no room: the frame is dropped, and counted as a loss.
+    /// `QueueFull` if there was no room: the frame is dropped, and counted as a loss.
     pub fn put<R: Wait>(&mut self, rt: &R, to: Endpoint, frame: Bytes) -> Result<(), TransportError>
         ensures queue { self.new.queue ≡ self.old.queue }
         ensures put { OnOk result ((self.new.put ≡ self.old.put ++ (to, frame) ∷ []) × (self.new.full ≡ self.old.full)) }
@@ -118,7 +118,7 @@ impl SenderQueue {
 }
 
 impl SenderEnd {
-    /// Takes the oldest frame, and where it goes; none where there is none.
+    /// Takes the oldest frame, and where it goes; none if there is none.
     pub fn take<R: Wait>(&mut self, rt: &R) -> Option<(Endpoint, Bytes)>
         ensures queue { self.new.queue ≡ self.old.queue }
         ensures taken { MatchOption result (self.new.taken ≡ self.old.taken) (λ frame. self.new.taken ≡ self.old.taken ++ frame ∷ []) }

@@ -14,8 +14,8 @@ use std::time::{Clock, Duration, Instant};
 /// How long a sender goes on with what is queued once it is told to stop, in milliseconds.
 const LAST_FRAMES: u64 = 300;
 
-/// How long a sender waits to be woken at most, and how much time lies between two looks which of
-/// its connections have ended, in milliseconds.
+/// How long a sender waits to be woken at most, in milliseconds. As much time lies between two
+/// looks for connections that have ended.
 const BETWEEN_LOOKS: u64 = 1_000;
 
 /// What a sender shares with the other threads of the peers.

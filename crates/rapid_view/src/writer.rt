@@ -33,9 +33,9 @@ impl<R: Wait + Drop> Model for ViewWriter<R> {
 }
 
 impl<R: Wait + Drop> ViewWriter<R> {
-    /// Publishes the next view: its stamp, and then the view itself. `NotNext` where its height is
-    /// not one more than the last, else `CellFull` where there is room for no more. An error
-    /// changes nothing.
+    /// Publishes the next view: its stamp, and then the view itself. `NotNext` if its height is not
+    /// one more than the last, else `CellFull` if there is room for no more. An error changes
+    /// nothing.
     pub fn publish(&mut self, view: View) -> Result<(), ViewError>
         ensures same { (self.new.cell ≡ self.old.cell) × (self.new.room ≡ self.old.room) }
         ensures longer { IfOk result (λ _. self.new.seen ≡ self.old.seen ++ model.stamp view ∷ []) }

@@ -69,7 +69,7 @@ pub(crate) struct Ballots {
 }
 
 impl Ballots {
-    /// Nothing was said, heard or proposed by the member at this place among so many.
+    /// Nothing was said, heard or proposed by the member at this place among this many.
     pub(crate) fn new(alloc: Global, size: usize, place: usize) -> Ballots
         requires size { size ≤ 1024 }
         requires place { place < size }
@@ -86,7 +86,7 @@ impl Ballots {
 }
 
 impl Ballots {
-    /// Asks the acceptor for a promise at a ballot; none where it has promised one that is as high.
+    /// Asks the acceptor for a promise at a ballot; none if it has promised one that is as high.
     #[tactic(auto, using(crate::proofs::Ballots::refused_for))]
     pub(crate) fn promise(&mut self, ballot: Ballot) -> Result<Option<Promise>, AllocError>
         ensures state { IfOk result (λ p. IfSome p (λ _. self.new ≡ record self.old { acceptor = acceptor.after_promise self.old.acceptor ballot })) }
@@ -183,8 +183,8 @@ impl Raised {
         self.outbox.raise(alert)
     }
 
-    /// Whether some alerts may wait to be flushed: where none does, a flush gives no batch and
-    /// changes nothing.
+    /// Whether some alerts may wait to be flushed. If none does, a flush gives no batch and changes
+    /// nothing.
     #[tactic(auto, using(crate::proofs::Waiting::still_flushed, crate::proofs::Waiting::none_flushed))]
     pub(crate) fn waits(&self) -> bool
         ensures none { result ≡ false → batch_of (outbox.unflushed self.now.outbox) ≡ None }

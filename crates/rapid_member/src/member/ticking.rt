@@ -72,8 +72,8 @@ impl MemberState {
         Ok(())
     }
 
-    /// Adds the alert that the member raises as an echo on a process for a ring, where it observes
-    /// it there.
+    /// Adds the alert that the member raises as an echo on a process for a ring, if it observes it
+    /// there.
     fn push_echo(
         &self,
         alerts: &mut Vec<Alert>,
@@ -99,7 +99,7 @@ impl MemberState {
         Ok(alerts)
     }
 
-    /// Adds the alerts that the member raises as an echo on a process, where it has the age.
+    /// Adds the alerts that the member raises as an echo on a process, if it has the age.
     fn push_due(&self, alerts: &mut Vec<Alert>, process: &Process) -> Result<(), AllocError>
         ensures { OnOk result (map alert_of alerts.new.items ≡ map alert_of alerts.old.items ++ flat_map (tick.echoes self.now) (filter (λ p. tick.age_of self.now.ages p == 40) (process.now ∷ []))) }
     {
@@ -237,7 +237,7 @@ impl MemberState {
         }
     }
 
-    /// Begins a ballot, where one is due: the Prepare goes out and is taken.
+    /// Begins a ballot, if one is due: the Prepare goes out and is taken.
     #[tactic(auto, unfolding(rapid_model::specs::Tick::recovers))]
     fn recover(&mut self, out: &mut Vec<Output>) -> Result<Option<Cut>, AllocError>
         ensures state { OnOk result (self.new ≡ (tick.recovers self.old).state) }
@@ -282,10 +282,10 @@ impl MemberState {
         self.send_batch(out)
     }
 
-    /// A tick: votes and alerts go out again where they are due, then the batch, and last a ballot
-    /// is begun where one is due. The result is the cut that was decided, if any. On an error the
-    /// member is of no further use, but for who it is and where, and nothing that was added to the
-    /// outputs is to be sent.
+    /// A tick: votes and alerts go out again if they are due, then the batch, and last a ballot is
+    /// begun if one is due. The answer is the cut that was decided, if any. After an error the
+    /// member still says who it is and where, and is of no other use. What was added to the outputs
+    /// is not to be sent then.
     #[tactic(auto, unfolding(rapid_model::specs::Tick::on_tick))]
     pub fn on_tick(&mut self, out: &mut Vec<Output>) -> Result<Option<Cut>, AllocError>
         ensures state { OnOk result (self.new ≡ (tick.on_tick self.old).state) }

@@ -99,7 +99,7 @@ fn is_bad<R: Wait>(desk: &mut Desk<&R>, capacity: usize) -> bool {
     matches!(subscribe(desk, capacity), Err(DeskError::BadCapacity))
 }
 
-/// Makes so many subscriptions of capacity 1.
+/// Makes this many subscriptions of capacity 1.
 fn subscribe_often<R: Wait>(desk: &mut Desk<&R>, count: usize) -> Result<(), DeskError> {
     for _ in 0..count {
         subscribe(desk, 1)?;

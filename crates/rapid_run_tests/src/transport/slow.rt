@@ -42,7 +42,7 @@ fn large(alloc: Global) -> Result<Bytes, AllocError> {
     Bytes::copy_from_slice(alloc, bytes.as_slice())
 }
 
-/// Posts a frame to this endpoint so many times.
+/// Posts a frame to this endpoint this many times.
 fn flood<R: Wait>(
     rt: &R,
     peers: &Peers,
@@ -94,7 +94,7 @@ fn come_soon<R: Wait + Clock>(
     }
 }
 
-/// Waits until so many connections came, for some seconds at most; whether they did.
+/// Waits until this many connections came, for some seconds at most; whether they did.
 fn connects<R: Clock>(rt: &R, listener: &TcpListener, count: u32) -> bool {
     let mut left = count;
     for _ in 0..1_000 {

@@ -26,7 +26,7 @@ impl Read for Faulty<'_> {
     }
 }
 
-/// A writer that has room for so many bytes, and takes none beyond.
+/// A writer that has room for this many bytes, and takes none beyond.
 #[derive(Drop)]
 struct Fixed<'a> {
     bytes: &'a mut [u8],
