@@ -61,7 +61,7 @@ impl<R: Wait + Copy + Drop> Model for Desk<R> {
 }
 
 /// Publishes what the node shows.
-fn show<R: Wait + Copy + Drop>(
+fn publish_shown<R: Wait + Copy + Drop>(
     board: &mut Board<R>,
     alloc: Global,
     node: &Node,
@@ -79,7 +79,7 @@ fn show<R: Wait + Copy + Drop>(
 
 /// Takes in the node that the step made, which has installed a configuration: that is published,
 /// and the journal begins anew.
-fn enter<R: Wait + Copy + Drop>(
+fn adopt_installed<R: Wait + Copy + Drop>(
     held: &mut Held,
     board: &mut Board<R>,
     alloc: Global,
@@ -93,7 +93,7 @@ fn enter<R: Wait + Copy + Drop>(
     ensures unchanged { OnErr result (board.new ≡ board.old) }
 {
     let entry = held.copy_next()?;
-    if show(board, alloc, held.next()).is_err() {
+    if publish_shown(board, alloc, held.next()).is_err() {
         held.halt();
         return Err(DeskError::Unpublished);
     }
@@ -102,7 +102,7 @@ fn enter<R: Wait + Copy + Drop>(
 }
 
 /// Takes in the node that the step made.
-fn settle<R: Wait + Copy + Drop>(
+fn adopt_next<R: Wait + Copy + Drop>(
     held: &mut Held,
     board: &mut Board<R>,
     alloc: Global,
@@ -119,7 +119,7 @@ fn settle<R: Wait + Copy + Drop>(
     ensures count { board.new.count ≡ board.old.count }
 {
     if held.installs() {
-        return enter(held, board, alloc);
+        return adopt_installed(held, board, alloc);
     }
     held.keep(event)?;
     Ok(())
@@ -298,7 +298,7 @@ impl<R: Wait + Copy + Drop> Desk<R> {
         match self.held.prepare(&event) {
             Ok(sent) => {
                 let installed = self.held.installs();
-                settle(&mut self.held, &mut self.board, self.alloc, event)?;
+                adopt_next(&mut self.held, &mut self.board, self.alloc, event)?;
                 let node = self.held.node();
                 announce(&mut self.outlets, &self.rt, self.alloc, node, installed);
                 Ok(sent)

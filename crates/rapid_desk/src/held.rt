@@ -56,7 +56,7 @@ fn get_room(
     ensures refused { IfErr result (HasNoRoom full.old (records journal.old.items) (event_of event.now) full.new) }
 {
     let added = journal::added(journal.as_slice(), event);
-    if *full || journal.len() + added > journal::MOST {
+    if *full || journal.len() + added > journal::MOST_RECORDS {
         *full = true;
         return Err(DeskError::JournalFull);
     }

@@ -11,7 +11,7 @@ use rapid_node::Event;
 use std::alloc::AllocError;
 
 /// How many records a journal has at most.
-pub(crate) const MOST: usize = 65_536;
+pub(crate) const MOST_RECORDS: usize = 65_536;
 
 /// A record of a journal.
 #[derive(Debug, Drop)]

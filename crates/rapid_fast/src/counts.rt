@@ -43,7 +43,7 @@ fn place(counts: &[(Cut, usize)], cut: &Cut) -> Result<usize, usize>
 }
 
 /// A copy of a cut, if one is wanted.
-pub(crate) fn copy_where(wanted: bool, alloc: Global, cut: &Cut) -> Result<Option<Cut>, AllocError>
+pub(crate) fn copy_if(wanted: bool, alloc: Global, cut: &Cut) -> Result<Option<Cut>, AllocError>
     ensures { IfOk result (λ copy. copy ≡ (if wanted then Some cut.now else None)) }
 {
     if wanted {
@@ -104,12 +104,12 @@ impl CutCounts {
         match place(&self.counts, cut) {
             Ok(i) => {
                 let count = self.counts[i].1 + 1;
-                let reached = copy_where(count == enough, self.alloc, cut)?;
+                let reached = copy_if(count == enough, self.alloc, cut)?;
                 self.counts[i].1 += 1;
                 Ok(reached)
             }
             Err(i) => {
-                let reached = copy_where(enough == 1, self.alloc, cut)?;
+                let reached = copy_if(enough == 1, self.alloc, cut)?;
                 let cut = cut.try_copy(self.alloc)?;
                 self.counts.insert(i, (cut, 1))?;
                 Ok(reached)

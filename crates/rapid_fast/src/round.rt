@@ -109,12 +109,13 @@ impl FastRound {
         if position >= self.size {
             return Err(HearError::NotMember);
         }
-        self.take(position, cut).map_err(|_| HearError::OutOfMemory)
+        self.count_vote(position, cut)
+            .map_err(|_| HearError::OutOfMemory)
     }
 
-    /// Takes the vote of a member.
+    /// Counts the vote of a member.
     #[inline(always)]
-    fn take(&mut self, position: usize, cut: &Cut) -> Result<Option<Cut>, AllocError>
+    fn count_vote(&mut self, position: usize, cut: &Cut) -> Result<Option<Cut>, AllocError>
         requires { position < self.old.round.size }
         ensures decided { IfOk result (λ d. d ≡ fast_decision self.old.round position cut.now) }
         ensures heard { OnOk result (self.new ≡ after_vote self.old position cut.now) }

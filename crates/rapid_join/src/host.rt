@@ -15,7 +15,7 @@ ghost use Rattle.rapid_join.specs.Hosts.{fresh_host};
 use crate::endpoints::MemberEndpoints;
 use crate::pending::PendingSet;
 use crate::{HostAnswer, Reply, RingObservers};
-use rapid_config::{ConfigId, Configuration};
+use rapid_config::{ConfigId, Configuration, Cut};
 use rapid_endpoint::Process;
 use rapid_rings::{ObserverTable, Rings};
 use std::alloc::{AllocError, Global};
@@ -53,7 +53,7 @@ impl Model for Host {
 
 impl Host {
     /// The most joiners that can be pending.
-    pub const MOST: usize = 512;
+    pub const MOST: usize = Cut::MOST_JOINERS;
 
     /// The host of a member in a configuration, at which nobody is pending. It computes the rings
     /// of the configuration.

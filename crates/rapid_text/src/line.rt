@@ -87,12 +87,15 @@ pub fn one_word(line: &[u8]) -> Option<&[u8]>
     }
 }
 
+/// How many digits the greatest number below 2^64 has.
+const MOST_DIGITS: usize = 20;
+
 /// The number that a word spells, without a needless zero in front, if it is one up to the limit.
 pub fn number(word: &[u8], limit: u64) -> Option<u64>
     ensures value { result ≡ number_up_to limit word.now }
     ensures small { IfSome result (λ n. n ≤ limit) }
 {
-    if word.is_empty() || word.len() > 20 || has_needless_zero(word) {
+    if word.is_empty() || word.len() > MOST_DIGITS || has_needless_zero(word) {
         return None;
     }
     let value = digits(word)?;

@@ -12,7 +12,7 @@ use crate::inbox::Inbox;
 use crate::patient::Patient;
 use crate::queue::{SenderEnd, SenderQueue};
 use crate::readers::Readers;
-use crate::sender::{self, Context};
+use crate::sender::{self, SenderContext};
 use bytes::Bytes;
 use rapid_endpoint::Endpoint;
 use rapid_wire::Feed;
@@ -173,8 +173,8 @@ impl Peers {
     }
 
     /// What the sender of a lane shares with the other threads.
-    fn context<'a>(&'a self, lane: &'a Lane) -> Context<'a> {
-        Context {
+    fn context<'a>(&'a self, lane: &'a Lane) -> SenderContext<'a> {
+        SenderContext {
             parker: &lane.parker,
             stop: &self.stop,
             meters: &self.meters,

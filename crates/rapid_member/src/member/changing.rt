@@ -44,15 +44,15 @@ impl MemberState {
         ensures same { IsSameMember self.old self.new }
     {
         let rest = Arc::make_mut(&mut self.rest)?;
-        let watch = Arc::make_mut(&mut rest.watch)?;
-        watch.detector.batch(alerts)
+        let detection = Arc::make_mut(&mut rest.detection)?;
+        detection.detector.batch(alerts)
     }
 
     /// The unstable processes, ascending.
     pub(super) fn unstable(&self) -> Result<Vec<Process>, AllocError>
         ensures { IfOk result (λ found. found.items ≡ unstable (observers_of self.now.config) self.now.detector.direct) }
     {
-        self.rest.watch.detector.unstable()
+        self.rest.detection.detector.unstable()
     }
 
     /// Whether no process was unstable at the last tick.

@@ -236,12 +236,12 @@ impl Clone for Raised {
 
 /// The cut detector.
 #[derive(Debug, Drop)]
-pub(crate) struct Watch {
+pub(crate) struct Detection {
     pub(crate) detector: Detector<SharedRings>,
     rings: SharedRings,
 }
 
-impl Model for Watch {
+impl Model for Detection {
     ghost use Rattle.std.specs.Prelude.{◌≡◌};
     ghost use Rattle.rapid_model.specs.Configuration.{Configuration as ModelConfiguration};
     ghost use Rattle.rapid_cut.specs.Watching.{Watching, watching_code};
@@ -256,27 +256,27 @@ impl Model for Watch {
     ghost invariant = { λ w. w.rings ≡ w.detector.table };
 }
 
-impl Watch {
+impl Detection {
     /// Nothing was reported.
-    pub(crate) fn new(alloc: Global, rings: &SharedRings) -> Result<Watch, AllocError>
+    pub(crate) fn new(alloc: Global, rings: &SharedRings) -> Result<Detection, AllocError>
         ensures { IfOk result (λ w. w ≡ record { table = rings.now; detector = empty_detector }) }
     {
         let own = rings.try_copy()?;
         let detector = Detector::new(alloc, rings.try_copy()?);
-        Ok(Watch {
+        Ok(Detection {
             detector,
             rings: own,
         })
     }
 }
 
-impl Clone for Watch {
+impl Clone for Detection {
     ghost is_clone = { λ a b. b ≡ a };
 
-    fn clone(&self) -> Result<Watch, AllocError> {
+    fn clone(&self) -> Result<Detection, AllocError> {
         let rings = self.rings.try_copy()?;
         let detector = self.detector.try_copy(self.rings.try_copy()?)?;
-        Ok(Watch { detector, rings })
+        Ok(Detection { detector, rings })
     }
 }
 
@@ -315,7 +315,7 @@ impl Clone for Waiting {
 pub(crate) struct Rest {
     pub(crate) ballots: Arc<Ballots, Global>,
     pub(crate) raised: Arc<Raised, Global>,
-    pub(crate) watch: Arc<Watch, Global>,
+    pub(crate) detection: Arc<Detection, Global>,
     pub(crate) waiting: Arc<Waiting, Global>,
 }
 
@@ -325,18 +325,18 @@ impl Rest {
         requires { IsContext context.now }
         ensures ballots { IfOk result (λ r. arc_value r.ballots ≡ record { acceptor = fresh_acceptor; coordinator = fresh_coordinator (length context.now.configuration.members) context.now.place; learner = fresh_learner (length context.now.configuration.members); proposal = None; alloc = alloc }) }
         ensures raised { IfOk result (λ r. arc_value r.raised ≡ record { table = context.now.rings; owner = context.now.me; outbox = outbox.empty_outbox }) }
-        ensures watch { IfOk result (λ r. arc_value r.watch ≡ record { table = context.now.rings; detector = empty_detector }) }
+        ensures detection { IfOk result (λ r. arc_value r.detection ≡ record { table = context.now.rings; detector = empty_detector }) }
         ensures waiting { IfOk result (λ r. arc_value r.waiting ≡ record { host = fresh_host context.now.configuration context.now.me; ages = map.empty }) }
     {
         let size = context.configuration.members().len();
         let ballots = Arc::new(alloc, Ballots::new(alloc, size, context.place))?;
         let raised = Arc::new(alloc, Raised::new(alloc, &context.rings, context.me)?)?;
-        let watch = Arc::new(alloc, Watch::new(alloc, &context.rings)?)?;
+        let detection = Arc::new(alloc, Detection::new(alloc, &context.rings)?)?;
         let waiting = Arc::new(alloc, Waiting::new(alloc, context)?)?;
         Ok(Rest {
             ballots,
             raised,
-            watch,
+            detection,
             waiting,
         })
     }
@@ -351,12 +351,12 @@ impl Clone for Rest {
     fn clone(&self) -> Result<Rest, AllocError> {
         let ballots = Arc::try_clone(&self.ballots)?;
         let raised = Arc::try_clone(&self.raised)?;
-        let watch = Arc::try_clone(&self.watch)?;
+        let detection = Arc::try_clone(&self.detection)?;
         let waiting = Arc::try_clone(&self.waiting)?;
         Ok(Rest {
             ballots,
             raised,
-            watch,
+            detection,
             waiting,
         })
     }

@@ -14,6 +14,7 @@ ghost use Rattle.rapid_model.specs.Batch.{batch_of};
 ghost use Rattle.rapid_member.specs.Saying.{says_batch};
 
 use super::MemberState;
+use crate::ages::ECHO_AGE;
 use crate::sending::say;
 use rapid_alerts::{Alert, Batch, Kind};
 use rapid_config::Cut;
@@ -23,11 +24,14 @@ use rapid_rings::ObserverTable;
 use std::alloc::AllocError;
 use std::sync::Arc;
 
-/// At which age an unstable process is echoed.
-const ECHO: u8 = 40;
-
 /// After how many ticks votes and alerts go out again.
-const AGAIN: u64 = 20;
+const RESEND_PERIOD: u64 = 20;
+
+/// How many ticks after its first vote the member at position 0 begins a classic ballot.
+const FIRST_RECOVERY: u64 = 20;
+
+/// How many ticks each later position waits longer, so that mostly one member begins a ballot.
+const RECOVERY_STEP: u64 = 4;
 
 impl MemberState {
     /// The member's alert on a process for a ring.
@@ -103,7 +107,7 @@ impl MemberState {
     fn push_due(&self, alerts: &mut Vec<Alert>, process: &Process) -> Result<(), AllocError>
         ensures { OnOk result (map alert_of alerts.new.items ≡ map alert_of alerts.old.items ++ flat_map (tick.echoes self.now) (filter (λ p. tick.age_of self.now.ages p == 40) (process.now ∷ []))) }
     {
-        if self.rest.waiting.ages.of(process) == ECHO {
+        if self.rest.waiting.ages.of(process) == ECHO_AGE {
             self.push_echoes(alerts, process)?;
         }
         Ok(())
@@ -160,7 +164,7 @@ impl MemberState {
         ensures decided { (tick.repeats self.old).decided ≡ None }
         ensures same { IsSameMember self.old self.new }
     {
-        if self.tick % AGAIN != 0 {
+        if self.tick % RESEND_PERIOD != 0 {
             return Ok(());
         }
         let rest = Arc::make_mut(&mut self.rest)?;
@@ -230,7 +234,7 @@ impl MemberState {
     fn is_due(&self) -> bool
         ensures { result ≡ tick.is_due self.now self.now.first_vote }
     {
-        let patience = 20 + 4 * self.place() as u64;
+        let patience = FIRST_RECOVERY + RECOVERY_STEP * self.place() as u64;
         match self.first_vote {
             Some(first) => first < self.tick && (self.tick - first) % patience == 0,
             None => false,
