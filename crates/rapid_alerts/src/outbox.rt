@@ -188,6 +188,7 @@ impl<T: ObserverTable> Outbox<T> {
         ensures table { self.new.table ≡ self.old.table }
         ensures owner { self.new.owner ≡ self.old.owner }
     {
+        // room first: once the index has the alert, the list has to take it
         self.raised.try_reserve(1)?;
         self.index.add(&alert)?;
         match self.raised.push(alert) {

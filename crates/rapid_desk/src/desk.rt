@@ -92,6 +92,7 @@ fn adopt_installed<R: Wait + Copy + Drop>(
     ensures refused { IfErr result (NotEntered held.old held.new) }
     ensures unchanged { OnErr result (board.new ≡ board.old) }
 {
+    // asked for first: a view that is published cannot be taken back
     let entry = held.copy_next()?;
     if publish_shown(board, alloc, held.next()).is_err() {
         held.halt();
@@ -297,8 +298,10 @@ impl<R: Wait + Copy + Drop> Desk<R> {
     {
         match self.held.prepare(&event) {
             Ok(sent) => {
+                // asked before the two nodes change places
                 let installed = self.held.installs();
                 adopt_next(&mut self.held, &mut self.board, self.alloc, event)?;
+                // last, so that whoever takes a change finds its view at a seat
                 let node = self.held.node();
                 announce(&mut self.outlets, &self.rt, self.alloc, node, installed);
                 Ok(sent)
@@ -341,6 +344,7 @@ impl<R: Wait + Copy + Drop> Desk<R> {
         if self.outlets.len() >= MOST_SUBSCRIBERS {
             return Err(DeskError::TooManySubscribers);
         }
+        // what is published, not what the node shows: they differ after `Unpublished`
         let since = self.board.height();
         let (outlet, subscription) = subscribe(self.alloc, capacity, since)?;
         match self.outlets.push(outlet) {

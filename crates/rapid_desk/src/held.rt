@@ -19,6 +19,10 @@ use std::mem;
 /// What a desk holds: its node, the journal of what happened since the node entered its
 /// configuration, and the node as it was there. `next` has room for the node that a step makes, so
 /// that a step takes no room for it.
+///
+/// A step is made in a copy, which then takes the node's place, so an event that is refused changes
+/// nothing. One that installs nothing allocates only for the journal, and for what the copy shares
+/// no more. The node before stays in `next` until the next step.
 #[derive(Drop)]
 pub struct Held {
     alloc: Global,
@@ -56,6 +60,7 @@ fn get_room(
     ensures refused { IfErr result (HasNoRoom full.old (records journal.old.items) (event_of event.now) full.new) }
 {
     let added = journal::added(journal.as_slice(), event);
+    // once full it stays so, also for an event that needs no record: an earlier one was refused
     if *full || journal.len() + added > journal::MOST_RECORDS {
         *full = true;
         return Err(DeskError::JournalFull);

@@ -45,6 +45,7 @@ pub(crate) fn subscribe(
     requires { (0 < capacity) × (capacity ≤ 1024) }
     ensures { IfOk result (λ r. (r.0 ≡ record { queue = r.1.0; since = since; capacity = capacity; put = []; known = [] }) × (r.1.1 ≡ [])) }
 {
+    // one more than the changes, for the mark
     let (sink, source) = rapid_line::line(alloc, capacity + 1)?;
     let outlet = Outlet {
         sink,
@@ -84,6 +85,7 @@ impl Outlet {
         ensures put { OnOk result (self.new ≡ with_notice self.old (Notice.Change configuration.now)) }
         ensures lost { IfErr result (λ loss. (self.new ≡ self.old) × IsLost self.old loss) }
     {
+        // the last place is the mark's
         if self.sink.len(rt) >= self.capacity {
             return Err(Loss::Full);
         }
@@ -102,6 +104,7 @@ impl Outlet {
         requires { state_of self.old.put ≡ State.Open }
         ensures { self.new ≡ with_notice self.old (Notice.Lag loss) }
     {
+        // it never waits, since that place is free; nothing proves this, so it is put by waiting
         self.sink.put_when_free(rt, Notice::Lag(loss));
         self.state = State::Lagged;
     }
@@ -113,6 +116,7 @@ impl Outlet {
         if self.state != State::Open {
             return;
         }
+        // it never waits: as for the other mark
         self.sink.put_when_free(rt, Notice::End);
         self.state = State::Closed;
     }

@@ -182,6 +182,7 @@ impl DetectRun {
             Phase::Unmarked => Ok(Reply::Refused(Refusal::NoWatermarks)),
             Phase::Building(_) => unreachable!(),
             Phase::Reporting(detector) => {
+                // the alerts go only once the detector has taken them
                 let cut = detector.batch(self.alerts.as_slice())?;
                 let skipped = detector.skipped();
                 self.alerts.clear();

@@ -105,6 +105,7 @@ impl CutCounts {
             Ok(i) => {
                 let count = self.counts[i].1 + 1;
                 let reached = copy_if(count == enough, self.alloc, cut)?;
+                // last, since the copy may be refused
                 self.counts[i].1 += 1;
                 Ok(reached)
             }

@@ -57,6 +57,7 @@ impl Ages {
     pub(crate) fn next(&self, unstable: &[Process]) -> Result<Ages, AllocError>
         ensures { IfOk result (λ ages. ages ≡ next_ages self.now unstable.now) }
     {
+        // from the last on, as the definition makes the map
         let count = unstable.len();
         let mut next = Ages::new(self.alloc);
         for i in 0..count {

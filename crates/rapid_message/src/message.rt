@@ -124,7 +124,8 @@ impl Message {
         Ok(Message::of(sender, body))
     }
 
-    /// The message of a sender that can say this.
+    /// The message of a sender that can say this. What a member says is known to be such, and is not
+    /// looked through again.
     pub fn of(sender: Process, body: Body) -> Message
         requires { CanSay sender body }
         ensures { result ≡ record { sender = sender; body = body_of body } }

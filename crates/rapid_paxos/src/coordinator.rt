@@ -164,10 +164,12 @@ impl Coordinator {
         if !self.counts_promise(position, promise.ballot) {
             return Ok(None);
         }
+        // one that comes after the quorum still counts, and asks for nothing
         if self.heard.len() + 1 != classic_size(self.size) {
             self.report(position, &promise.vote)?;
             return Ok(None);
         }
+        // what is asked for may be refused its memory: the promise is counted only once it is there
         let mut next = self.try_copy()?;
         next.report(position, &promise.vote)?;
         let cut = next.value(own)?;
@@ -197,6 +199,7 @@ impl Coordinator {
             if self.top == Some(*ballot) {
                 self.counts.add(cut)?;
             } else if self.top < Some(*ballot) {
+                // only votes at the highest ballot reported count, so counting begins anew
                 let mut counts = CutCounts::new(self.alloc);
                 counts.add(cut)?;
                 self.counts = counts;

@@ -1,4 +1,5 @@
-// From the bytes of an input to those of an output, a block at a time.
+// From the bytes of an input to those of an output, a block at a time. What a block prints is
+// written before the next is read, so that a terminal shows each answer at once.
 
 ghost use Rattle.std.specs.Prelude.{◌≡◌, ◌<◌, ◌≤◌, ℕ, List, [], ◌∷◌, ◌++◌, true, length, take, MatchOption, IfSome, OnOk, OnErr, IfOk};
 ghost use Rattle.std.specs.Io.KnownBytes.{Appends, Consumes, IsAtEnd, Keeps};
@@ -158,6 +159,7 @@ fn answer_block<E: Engine, W: Write>(
     ensures begun { OnErr result ((later : List ℕ) →
         WritesFront E.prints engine.old (lines (line.old ++ (block.now ++ later))) (W.contents writer.old) (W.contents writer.new)) }
 {
+    // what was answered before a fault is written too
     let fed = feed(engine, line, block, output);
     write_out(writer, output)?;
     fed?;

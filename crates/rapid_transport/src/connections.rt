@@ -70,6 +70,7 @@ where
     if stream.local_addr()? == stream.peer_addr()? {
         return Err(io::Error::from(ErrorKind::ConnectionRefused));
     }
+    // a frame is waited for, and the next may come much later
     stream.set_nodelay(true)?;
     stream.set_write_timeout(Some(Duration::from_millis(LONGEST_WAIT)))?;
     Ok(stream)
@@ -187,6 +188,8 @@ impl Connections {
         let outcome = match by_open {
             Some(Outcome::Sent) => Outcome::Sent,
             Some(Outcome::Late) => Outcome::Late,
+            // of the first try the peer has a part at most, which ends within a frame, so the frame
+            // comes only once
             Some(Outcome::Broken) | None => self.send_by_new(rt, to, frame, meters),
         };
         match outcome {

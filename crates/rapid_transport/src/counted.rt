@@ -1,4 +1,5 @@
-// Readers and writers that count how many of their calls failed.
+// Readers and writers that count how many of their calls failed. Those of std do not say which of
+// their calls failed, so the engines stand on traits of their own, which promise it.
 
 ghost use Rattle.std.specs.Prelude.{◌≡◌, ◌≤◌, ℕ, List, Option, length, IfOk};
 ghost use Rattle.std.specs.Io.KnownBytes.{ReadConsumes, WriteAppends};

@@ -49,6 +49,7 @@ pub fn receive<W: Wait, R: CountedRead>(
     ensures counts { R.faults reader.new ≡ after_io result (R.faults reader.old) }
 {
     for _ in rt.forever() {
+        // what is held goes first: a read may wait for a peer that has no more to say
         if let Some(message) = feed.next()? {
             return Ok(Some(message));
         }

@@ -24,13 +24,15 @@ use std::thread::{Parker, Threads};
 use std::time::{Clock, Duration};
 use std::{io, thread};
 
-/// How many senders there are, each with a queue of its own.
+/// How many senders there are, each with a queue of its own. A peer that takes nothing holds up only
+/// those that go by the same sender.
 const SENDERS: u16 = 4;
 
 /// How many frames a sender's queue has room for.
 const CAPACITY: usize = 4_096;
 
-/// How long the acceptor waits after a connection could not be accepted, in milliseconds.
+/// How long the acceptor waits after a connection could not be accepted, in milliseconds, so that it
+/// does not spin while there is no descriptor.
 const AFTER_A_FAULT: u64 = 50;
 
 /// How many tries wake the acceptor at most, and how long each takes at most, in milliseconds.
@@ -296,8 +298,10 @@ impl Peers {
             return;
         }
         self.readers.lock(rt).shut_down();
+        // its descriptor is for the connection below, if no other is left
         *self.spare.lock(rt) = None;
         let longest = Duration::from_millis(LONGEST_WAKE);
+        // the acceptor waits for a connection, and looks whether it is to stop when this one comes
         for _ in 0..WAKES {
             if TcpStream::connect_timeout(rt, &self.address, longest).is_ok() {
                 return;

@@ -27,6 +27,7 @@ impl<T> Order<T> for AnyOrder {
 pub struct SenderQueue {
     sink: Sink<(Endpoint, Bytes), AnyOrder>,
     full: u64,
+    // what the other end said to be lost: only that end writes it
     failed: Arc<AtomicU64>,
 }
 
@@ -44,6 +45,7 @@ impl Model for SenderQueue {
 pub struct SenderEnd {
     source: Source<(Endpoint, Bytes), AnyOrder>,
     failed: u64,
+    // the same number, for the end that puts
     told: Arc<AtomicU64>,
 }
 

@@ -40,6 +40,7 @@ impl Readers {
         }
         let number = self.next;
         self.all.push(Reader { number, stream }).ok()?;
+        // a number names its connection also after others have left, which a place does not
         self.next = number.wrapping_add(1);
         Some(number)
     }

@@ -103,6 +103,7 @@ where
     let mut idling = Idling::new();
     let mut stopped = None;
     for _ in rt.forever() {
+        // asked before the queue is: what was put before the stop is still taken
         let stops = context.stop.load(Ordering::SeqCst);
         if stops && is_over(rt, &mut stopped) {
             return;

@@ -32,6 +32,7 @@ impl Absorb<View> for Page {
         *self = Page {
             alloc: self.alloc,
             stamp: operation.stamp(),
+            // an absorbed view has to take no memory and not to fail, so a refused copy is left out
             view: operation.try_copy(self.alloc).ok(),
         };
         Ok(())

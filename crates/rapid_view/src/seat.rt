@@ -84,8 +84,10 @@ impl ViewSeat {
     {
         self.stamps.tell();
         for _ in rt.forever() {
+            // the view first: its stamp was published before it, so the stamp read next is not older
             let found = find(&mut self.list)?;
             let stamp = self.stamps.stamp();
+            // the list goes with its writer: whoever wants the last view keeps the writer
             let Some(view) = found else {
                 return Err(ViewError::Behind(stamp));
             };

@@ -46,9 +46,11 @@ impl<R: Wait + Drop> ViewWriter<R> {
     {
         let stamp = view.stamp();
         self.stamps.check(stamp.height())?;
+        // memory is asked for first, so that a refusal changes nothing
         let Ok(()) = self.list.append(view) else {
             return Err(ViewError::OutOfMemory);
         };
+        // the stamp goes before the view, so that a seat that finds a view finds its stamp too
         self.stamps.publish(stamp);
         let Ok(()) = self.list.publish() else {
             unreachable!()

@@ -119,7 +119,7 @@ impl MemberState {
         let Ok(ballot) = ballots.coordinator.begin(ballots.acceptor.rnd()) else {
             return Ok(None);
         };
-        // says that it is a ballot
+        // does nothing, and its clause says that this is a ballot
         let _ = ballot.round();
         Ok(Some(ballot))
     }

@@ -1,4 +1,6 @@
-// The parts of a member, which its copies share until one of them changes a part.
+// The parts of a member, which its copies share until one of them changes a part. They are shared on
+// two levels: the context, the fast votes, and the rest, which shares its four parts in turn. So a
+// vote on a copy copies the fast votes alone, and a tick at which nothing is due copies nothing.
 
 ghost use Rattle.std.specs.Prelude.{◌≡◌, ◌<◌, ◌≤◌, [], false, None, All, IfOk, IfSome, IfNone, IfErr, Ok, Err, OnOk, OnErr, length};
 ghost use Rattle.std.specs.Arc.{arc_value};

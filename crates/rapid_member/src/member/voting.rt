@@ -178,6 +178,7 @@ impl MemberState {
         let Some(promise) = self.promise_at(ballot)? else {
             return Ok(None);
         };
+        // its own promise needs no message
         if *from == self.me() {
             let place = self.place();
             return self.take_promise(out, place, &promise);
@@ -208,6 +209,7 @@ impl MemberState {
             Err(AcceptError::Promised(_)) => return Ok(None),
             Err(AcceptError::AlreadyVoted) => return Ok(None),
         }
+        // the acceptor has taken it: a fast vote is a vote at the fast ballot
         self.voted = true;
         self.see_vote();
         let id = self.configuration().id();
