@@ -98,7 +98,7 @@ fn stays_full(
 
 /// Of 1,024 members none is followed by a joiner; if one leaves, the first of two joiners comes.
 #[test]
-fn joiners_come_where_there_is_room(rt: HostRuntime) -> Result<(), Fail> {
+fn joiners_come_if_there_is_room(rt: HostRuntime) -> Result<(), Fail> {
     let full = founded(rt.alloc(), (10, 9, 3), 1024)?;
     let joins = cut(rt.alloc(), &[(2000, 2000)])?;
     assert!(rt; stays_full(rt.alloc(), &full, &joins, None)?);
