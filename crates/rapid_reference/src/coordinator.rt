@@ -47,7 +47,7 @@ impl PromiseList {
         reported.filter(|report| *report == Some(vote)).count()
     }
 
-    /// Whether a fast quorum of so many members may have cast this vote: all that promised and
+    /// Whether a fast quorum of this many members may have cast this vote: all that promised and
     /// reported something else are few enough.
     fn may_be_chosen(&self, size: usize, vote: Vote) -> bool
         requires { size ≤ 1024 }
@@ -56,7 +56,7 @@ impl PromiseList {
         others <= size.saturating_sub(fast_size(size))
     }
 
-    /// The cut that the promises of so many members allow.
+    /// The cut that the promises of this many members allow.
     fn value(&self, size: usize, own: Option<Number>) -> Option<Number>
         requires { size ≤ 1024 }
     {
@@ -73,7 +73,7 @@ impl PromiseList {
         Some(if is_six { six } else { seven })
     }
 
-    /// The cut to ask for, at the promise that completes a classic quorum of so many members.
+    /// The cut to ask for, at the promise that completes a classic quorum of this many members.
     fn hear(
         &mut self,
         size: usize,
@@ -116,8 +116,8 @@ fn asked(accept: &Option<Accept>) -> Option<Vote> {
     }
 }
 
-/// A promise reaches both, where the own proposal is the cut of number 7 if the position is even;
-/// answers whether a request was sent.
+/// A promise reaches both. The own proposal is the cut of number 7 if the position is even. The
+/// answer says whether a request was sent.
 fn hear(
     alloc: Global,
     cuts: &Cuts,
@@ -167,8 +167,8 @@ fn begin(alloc: Global, coordinator: &mut Coordinator, list: &mut PromiseList) -
     Ok(())
 }
 
-/// Tries one sequence, where votes are reported at the fast ballot and at one above; answers how
-/// many requests were sent in it.
+/// Tries one sequence, if votes are reported at the fast ballot and at one above; answers how many
+/// requests were sent in it.
 fn try_one(
     alloc: Global,
     cuts: &Cuts,
@@ -215,7 +215,7 @@ fn try_one(
     Ok(requests)
 }
 
-/// Tries every sequence among so many members, and answers how many requests were sent.
+/// Tries every sequence among this many members, and answers how many requests were sent.
 pub fn compare(alloc: Global, cuts: &Cuts, size: usize) -> Result<usize>
     requires some { 1 ≤ size }
     requires few { size ≤ 1024 }
