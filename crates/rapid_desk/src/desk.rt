@@ -333,8 +333,8 @@ impl<R: Wait + Copy + Drop> Desk<R> {
     pub fn subscribe(&mut self, capacity: usize) -> Result<Subscription, DeskError>
         ensures same { (self.new.state ≡ self.old.state) × (self.new.seats ≡ self.old.seats) × (self.new.count ≡ self.old.count) }
         ensures ok { OnOk result ((0 < capacity) × (capacity ≤ 1024) × (length self.old.subscriptions < 64)) }
-        ensures served { IfOk result (λ subscription. self.new.subscriptions ≡ self.old.subscriptions ++ record { queue = subscription.0; since = shown_height self.old.state.published; capacity = capacity; put = []; known = [] } ∷ []) }
-        ensures untaken { IfOk result (λ subscription. subscription.1 ≡ []) }
+        ensures served { IfOk result (λ subscription. self.new.subscriptions ≡ self.old.subscriptions ++ record { queue = subscription.queue; since = shown_height self.old.state.published; capacity = capacity; put = []; known = [] } ∷ []) }
+        ensures untaken { IfOk result (λ subscription. subscription.taken ≡ []) }
         ensures refused { IfErr result (NotSubscribed capacity (length self.old.subscriptions)) }
         ensures unchanged { OnErr result (self.new.subscriptions ≡ self.old.subscriptions) }
     {
@@ -367,10 +367,10 @@ impl<R: Wait + Copy + Drop> Desk<R> {
     /// once, and is known to be taken from then on. The number is that of its subscription among
     /// those that the desk serves, by age.
     pub fn compare(&mut self, number: usize, subscription: &mut Subscription)
-        requires served { IsSomeAnd (slice_get self.old.subscriptions number) (λ s. s.queue ≡ subscription.old.0) }
+        requires served { IsSomeAnd (slice_get self.old.subscriptions number) (λ s. s.queue ≡ subscription.old.queue) }
         ensures same { (self.new ≡ record self.old { subscriptions = self.new.subscriptions }) × (subscription.new ≡ subscription.old) }
-        ensures known { IfSome (slice_get self.old.subscriptions number) (λ s. self.new.subscriptions ≡ slice_set self.old.subscriptions number (with_known subscription.old.1 s)) }
-        ensures order { IfSome (slice_get self.old.subscriptions number) (λ s. StartsWith s.put subscription.old.1) }
+        ensures known { IfSome (slice_get self.old.subscriptions number) (λ s. self.new.subscriptions ≡ slice_set self.old.subscriptions number (with_known subscription.old.taken s)) }
+        ensures order { IfSome (slice_get self.old.subscriptions number) (λ s. StartsWith s.put subscription.old.taken) }
     {
         self.outlets[number].compare(subscription);
     }

@@ -31,9 +31,9 @@ impl Model for Outlet {
 
     ghost Value = { Served };
 
-    ghost view = { λ o. record { queue = o.sink.0; since = o.since; capacity = o.capacity; put = o.sink.1; known = o.sink.2 } };
+    ghost view = { λ o. record { queue = o.sink.queue; since = o.since; capacity = o.capacity; put = o.sink.put; known = o.sink.known } };
 
-    ghost invariant = { λ o. (o.state ≡ state_of o.sink.1) × (o.sink.3 ≡ o.capacity + 1) };
+    ghost invariant = { λ o. (o.state ≡ state_of o.sink.put) × (o.sink.room ≡ o.capacity + 1) };
 }
 
 /// A subscription with room for this many changes, from a view of this height on.
@@ -43,7 +43,7 @@ pub(crate) fn subscribe(
     since: Option<u64>,
 ) -> Result<(Outlet, Subscription), AllocError>
     requires { (0 < capacity) × (capacity ≤ 1024) }
-    ensures { IfOk result (λ r. (r.0 ≡ record { queue = r.1.0; since = since; capacity = capacity; put = []; known = [] }) × (r.1.1 ≡ [])) }
+    ensures { IfOk result (λ r. (r.0 ≡ record { queue = r.1.queue; since = since; capacity = capacity; put = []; known = [] }) × (r.1.taken ≡ [])) }
 {
     // one more than the changes, for the mark
     let (sink, source) = rapid_line::line(alloc, capacity + 1)?;
@@ -124,10 +124,10 @@ impl Outlet {
     /// What the subscriber has taken is a beginning of what was put, and is known to be taken from
     /// then on.
     pub(crate) fn compare(&mut self, subscription: &mut Subscription)
-        requires { self.old.queue ≡ subscription.old.0 }
-        ensures known { self.new ≡ with_known subscription.old.1 self.old }
+        requires { self.old.queue ≡ subscription.old.queue }
+        ensures known { self.new ≡ with_known subscription.old.taken self.old }
         ensures same { subscription.new ≡ subscription.old }
-        ensures order { StartsWith self.old.put subscription.old.1 }
+        ensures order { StartsWith self.old.put subscription.old.taken }
     {
         self.sink.compare(&mut subscription.source);
     }

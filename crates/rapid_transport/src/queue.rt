@@ -36,7 +36,7 @@ impl Model for SenderQueue {
 
     ghost Value = { Putting };
 
-    ghost view = { λ q. record { queue = q.sink.0; put = q.sink.1; full = q.full } };
+    ghost view = { λ q. record { queue = q.sink.queue; put = q.sink.put; full = q.full } };
 }
 
 /// The end of a sender's queue that takes. Contracts see the queue, the frames that were taken, and
@@ -54,7 +54,7 @@ impl Model for SenderEnd {
 
     ghost Value = { Taking };
 
-    ghost view = { λ e. record { queue = e.source.0; taken = e.source.1; failed = e.failed } };
+    ghost view = { λ e. record { queue = e.source.queue; taken = e.source.taken; failed = e.failed } };
 }
 
 impl SenderQueue {
