@@ -113,7 +113,7 @@ impl FastRound {
             .map_err(|_| HearError::OutOfMemory)
     }
 
-    /// Counts the vote of a member.
+    /// Takes the vote of a member.
     #[inline(always)]
     fn count_vote(&mut self, position: usize, cut: &Cut) -> Result<Option<Cut>, AllocError>
         requires { position < self.old.round.size }

@@ -35,7 +35,8 @@ const CAPACITY: usize = 4_096;
 /// does not spin while there is no descriptor.
 const AFTER_A_FAULT: u64 = 50;
 
-/// How many tries wake the acceptor at most, and how long each takes at most, in milliseconds.
+/// How often it is tried to wake the acceptor, and how long each try takes at most, in
+/// milliseconds.
 const WAKES: u32 = 50;
 
 const LONGEST_WAKE: u64 = 200;
@@ -54,7 +55,7 @@ pub struct Peers {
     listener: TcpListener,
     address: SocketAddr,
     /// A handle that is only there to be given up: whoever stops the peers connects to them, also
-    /// if no descriptor is left otherwise.
+    /// where no descriptor is left otherwise.
     spare: Mutex<Option<TcpListener>>,
     lanes: [Lane; 4],
     readers: Mutex<Readers>,
@@ -287,9 +288,9 @@ impl Peers {
         Some((number, stream))
     }
 
-    /// Ends `run`: the readers at once, the senders once what is queued is sent, but after 0.3
-    /// seconds at the latest. A frame that is under way takes up to 0.3 seconds more. Any thread
-    /// may call it, also before `run`. Calls after the first do nothing.
+    /// Ends `run`: the readers at once, the senders when what is queued is sent, or after 0.3
+    /// seconds where that takes longer; a frame that is under way takes up to 0.3 seconds more. It
+    /// may be called by any thread, also before `run`, and calls after the first do nothing.
     pub fn stop<R>(&self, rt: &R)
     where
         R: Net<Listener = TcpListener, Stream = TcpStream> + Wait + Clock,
@@ -298,10 +299,8 @@ impl Peers {
             return;
         }
         self.readers.lock(rt).shut_down();
-        // its descriptor is for the connection below, if no other is left
         *self.spare.lock(rt) = None;
         let longest = Duration::from_millis(LONGEST_WAKE);
-        // the acceptor waits for a connection, and looks whether it is to stop when this one comes
         for _ in 0..WAKES {
             if TcpStream::connect_timeout(rt, &self.address, longest).is_ok() {
                 return;

@@ -24,14 +24,14 @@ use rapid_rings::ObserverTable;
 use std::alloc::AllocError;
 use std::sync::Arc;
 
-/// After how many ticks votes and alerts go out again.
-const RESEND_PERIOD: u64 = 20;
-
 /// How many ticks after its first vote the member at position 0 begins a classic ballot.
 const FIRST_RECOVERY: u64 = 20;
 
 /// How many ticks each later position waits longer, so that mostly one member begins a ballot.
 const RECOVERY_STEP: u64 = 4;
+
+/// After how many ticks votes and alerts go out again.
+const AGAIN: u64 = 20;
 
 impl MemberState {
     /// The member's alert on a process for a ring.
@@ -164,7 +164,7 @@ impl MemberState {
         ensures decided { (tick.repeats self.old).decided ≡ None }
         ensures same { IsSameMember self.old self.new }
     {
-        if self.tick % RESEND_PERIOD != 0 {
+        if self.tick % AGAIN != 0 {
             return Ok(());
         }
         let rest = Arc::make_mut(&mut self.rest)?;
