@@ -41,7 +41,7 @@ const WAKES: u32 = 50;
 
 const LONGEST_WAKE: u64 = 200;
 
-/// The queue of a sender, and what wakes it if there is a frame in it.
+/// The queue of a sender, and what wakes it where there is a frame in it.
 #[derive(Drop)]
 struct Lane {
     queue: Mutex<SenderQueue>,
