@@ -175,9 +175,9 @@ impl MemberState {
         self.answer_joiner(out, joiner, ring, &answered)
     }
 
-    /// A message at a member, whose node has these decisions; the answer is the cut that was
-    /// decided, if any. After an error the member still says who it is and where, and is of no
-    /// other use. What was added to the outputs is not to be sent then.
+    /// A message at a member, where these are the decisions of its node, and the cut that was
+    /// decided, if any. On an error the member is of no further use, but for who it is and where,
+    /// and nothing that was added to the outputs is to be sent.
     #[inline(always)]
     pub fn receive(
         &mut self,

@@ -286,10 +286,10 @@ impl MemberState {
         self.send_batch(out)
     }
 
-    /// A tick: votes and alerts go out again if they are due, then the batch, and last a ballot is
-    /// begun if one is due. The answer is the cut that was decided, if any. After an error the
-    /// member still says who it is and where, and is of no other use. What was added to the outputs
-    /// is not to be sent then.
+    /// A tick: votes and alerts go out again where they are due, then the batch, and last a ballot
+    /// is begun where one is due. The result is the cut that was decided, if any. On an error the
+    /// member is of no further use, but for who it is and where, and nothing that was added to the
+    /// outputs is to be sent.
     #[tactic(auto, unfolding(rapid_model::specs::Tick::on_tick))]
     pub fn on_tick(&mut self, out: &mut Vec<Output>) -> Result<Option<Cut>, AllocError>
         ensures state { OnOk result (self.new ≡ (tick.on_tick self.old).state) }
