@@ -21,6 +21,14 @@ const SEQUENCES: usize = 68_921;
 /// A vote at a ballot.
 type Vote = (Ballot, Number);
 
+/// What a promise says: who gives it, at which ballot, and which vote it reports.
+#[derive(Clone, Copy)]
+struct Said {
+    position: usize,
+    ballot: Ballot,
+    vote: Option<Vote>,
+}
+
 /// The first promise of each position for the ballot begun last.
 #[derive(Drop)]
 struct PromiseList {
@@ -77,17 +85,16 @@ impl PromiseList {
     fn hear(
         &mut self,
         size: usize,
-        position: usize,
-        ballot: Ballot,
-        vote: Option<Vote>,
+        said: Said,
         own: Option<Number>,
     ) -> Result<Option<Number>, AllocError>
         requires { size ≤ 1024 }
     {
-        if self.begun != Some(ballot) || self.promises.iter().any(|it| it.0 == position) {
+        let position = said.position;
+        if self.begun != Some(said.ballot) || self.promises.iter().any(|it| it.0 == position) {
             return Ok(None);
         }
-        self.promises.push((position, vote))?;
+        self.promises.push((position, said.vote))?;
         if self.promises.len() != classic_size(size) {
             return Ok(None);
         }
@@ -123,30 +130,32 @@ fn hear(
     cuts: &Cuts,
     coordinator: &mut Coordinator,
     list: &mut PromiseList,
-    position: usize,
-    ballot: Ballot,
-    vote: Option<Vote>,
+    said: Said,
     size: usize,
 ) -> Result<bool>
-    requires member { position < coordinator.old.size }
+    requires member { said.position < coordinator.old.size }
     requires few { size ≤ 1024 }
     ensures size { coordinator.new.size ≡ coordinator.old.size }
 {
     let promise = Promise {
-        ballot,
-        vote: reported(alloc, cuts, vote)?,
+        ballot: said.ballot,
+        vote: reported(alloc, cuts, said.vote)?,
     };
-    let own = if position % 2 == 0 { Some(7) } else { None };
-    let expected = list.hear(size, position, ballot, vote, own)?;
-    let own = if position % 2 == 0 {
+    let own = if said.position % 2 == 0 {
+        Some(7)
+    } else {
+        None
+    };
+    let expected = list.hear(size, said, own)?;
+    let own = if said.position % 2 == 0 {
         Some(cuts.of(7))
     } else {
         None
     };
-    let accept = coordinator.hear_promise(position, &promise, own)?;
+    let accept = coordinator.hear_promise(said.position, &promise, own)?;
     let answer = asked(&accept);
     let expected = match expected {
-        Some(number) => Some((ballot, number)),
+        Some(number) => Some((said.ballot, number)),
         None => None,
     };
     if answer != expected {
@@ -199,16 +208,12 @@ fn try_one(
                 0 => None,
                 kind => Some((voted[kind / 3], NUMBERS[kind % 2])),
             };
-            let is_sent = hear(
-                alloc,
-                cuts,
-                &mut coordinator,
-                &mut list,
+            let said = Said {
                 position,
-                ballots[call / 4 % 2],
+                ballot: ballots[call / 4 % 2],
                 vote,
-                size,
-            )?;
+            };
+            let is_sent = hear(alloc, cuts, &mut coordinator, &mut list, said, size)?;
             requests = requests.saturating_add(usize::from(is_sent));
         }
     }
