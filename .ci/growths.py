@@ -1,5 +1,5 @@
 """Refuses each allocation in turn: of the program over each of examples/, and of each test
-whose name has want_of_memory and that is built, by ./check all, since only proved tests are. refuse.c,
+whose name has out_of_memory and that is built, by ./check all, since only proved tests are. refuse.c,
 loaded before the C library, refuses the one whose number is in REFUSE.
 
 A test then passes, or ends by an error that says so. The program writes what it writes otherwise, or a
@@ -20,7 +20,7 @@ SAID = re.compile(r"OutOfMemory|AllocError|AllocFailed")  # what a test's error 
 NO_MEMORY = 3  # the program's status then
 GOES_ON = re.compile(rb"refused OutOfMemory|node [0-9]+ halted.*")  # lines of a run that goes on
 SECONDS = 60  # what one run may take
-RUNS = 4000  # at most so many allocations of a program's run are refused, evenly spread
+RUNS = 4000  # at most this many allocations of a program's run are refused, evenly spread
 
 
 def run(words, given, number, room):
@@ -77,7 +77,7 @@ def tasks():
     for program in sorted(tree.TOP.glob("crates/*/out/*_tests_tests")):
         listed = subprocess.run([program, "--list"], capture_output=True, text=True, check=True).stdout
         for name in (line.partition(": ")[0] for line in listed.splitlines()):
-            if "want_of_memory" in name:
+            if "out_of_memory" in name:
                 yield name, [program, name], b"", judge_test, 10**9
     for given in sorted(tree.TOP.glob("examples/*/*.txt")):
         command = given.parent.name

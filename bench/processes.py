@@ -73,7 +73,7 @@ def sent(nodes):
 
 
 def used(label, nodes, seconds):
-    """Prints what a node uses in so many seconds in which nothing happens."""
+    """Prints what a node uses in this many seconds in which nothing happens."""
     before, bytes_before = [it.cpu() for it in nodes], sent(nodes)
     time.sleep(seconds)
     after, bytes_after = [it.cpu() for it in nodes], sent(nodes)
@@ -90,7 +90,7 @@ def used(label, nodes, seconds):
 
 
 def measure(nodes, kill, settle):
-    """Forms the cluster, kills so many, and prints the times; whether all went well."""
+    """Forms the cluster, kills this many, and prints the times; whether all went well."""
     names = [f"127.0.0.1:{it.port}" for it in nodes]
     took = wait_for(nodes, frozenset(names), 120)
     if took is None:

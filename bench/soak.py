@@ -204,7 +204,7 @@ class Mixed:
         self.it.look()
 
     def run(self):
-        """So many minutes of it, from so many nodes to so many."""
+        """This many minutes of it, between these numbers of nodes."""
         self.it.fake()  # the sink, which takes what is answered to floods
         founders = self.it.form(self.given.nodes)
         before = [max(kinds) for kinds in zip(*(node.figures() for node in founders))]

@@ -171,7 +171,7 @@ def stopped_process_goes_on(it):
 
 
 def stop(it, node, ticks):
-    """Stops a node for so many ticks."""
+    """Stops a node for this many ticks."""
     node.popen.send_signal(signal.SIGSTOP)
     it.rest(ticks * it.tick)
     node.popen.send_signal(signal.SIGCONT)

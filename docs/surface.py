@@ -24,7 +24,6 @@ NO_LIBRARIES = {
     "rapid_bench",
     "rapid_reference",
     "rapid_sharded_map",
-    "rapid_uses",
 }
 
 HEAD = """# The public surface

@@ -1,5 +1,5 @@
 #!/bin/bash
-# Starts five nodes on loopback, shows the views that they print, kills one of them, shows the view
+# Starts five nodes on loopback, prints their views, kills one of them, prints the view
 # without it, and stops the others. It ends within half a minute, and leaves nothing behind.
 # Run it once the program is built: ./check program
 set -u
@@ -28,7 +28,7 @@ start() {
     holds[number]=$hold
 }
 
-# waits until the last line of each node given shows so many members, for 10 seconds at most
+# waits until the last line of each node given has this many members, for 10 seconds at most
 wait_for() {
     local members=$1 look number words
     shift

@@ -264,7 +264,7 @@ module _ {X : Type 0} (members : List X) (place : X → ℕ) (places : map place
     classic : IsClassic members quorum
     classic = let e = size-quorum in omega (arith, e, enough)
 
-    -- where no vote was reported
+    -- if no vote was reported
     safe_own : (v : Cut) → ((y : Report) → In ys y → y.1 ≡ None) → own ≡ Some v → IsSafe members said quorum reported v
     safe_own v none e =
         let m = member_at position inside in

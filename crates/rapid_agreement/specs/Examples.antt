@@ -42,7 +42,7 @@ split_votes value rest =
     Proposes 0 (value 0) ∷ Votes 0 fast_ballot (value 0) ∷ Proposes 1 (value 1) ∷ Votes 1 fast_ballot (value 1)
     ∷ Proposes 2 (value 2) ∷ Votes 2 fast_ballot (value 2) ∷ rest
 
--- What they report, where each voted for its value.
+-- What they report, if each voted for its value.
 abbrev pub reports_of : (ℕ → ℕ) → ℕ → Option (Vote ℕ)
 reports_of value a = Some (record { ballot = fast_ballot; value = value a })
 

@@ -148,7 +148,7 @@ sound_batch t owner (a ∷ xs) h few some =
     let alike = sound_alike t owner a xs (h 0 a (omega arith)) (λ k d l. h (suc k) d (omega (arith, l))) in
     rw (enough, alike) refl
 
--- what is not flushed of an outbox is a batch, where there is any
+-- what is not flushed of an outbox is a batch, if there is any
 pub unflushed_batch : (t : Observers) (owner : Process) (o : Outbox) (i : Index) → IsOutbox t owner o i → 1 ≤ length (unflushed o) → batch_fault (unflushed o) ≡ None
 unflushed_batch t owner o i h some =
     sound_batch t owner (unflushed o)

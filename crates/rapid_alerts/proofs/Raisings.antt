@@ -137,7 +137,7 @@ passed_is_sound t owner a h =
         (and (nat_lt a.ring t.params.k && observes t a.observer a.ring a.subject && same_bytes a.config t.id) _
         (and (nat_lt a.ring t.params.k && observes t a.observer a.ring a.subject) _ (and (nat_lt a.ring t.params.k) _ q.1 edge) config) kind)
 
--- two sound alerts are the same exactly where they report the same
+-- two sound alerts are the same exactly if they report the same
 sound_alike : (t : Observers) (owner : Process) (a b : Alert) → is_sound t owner a ≡ true → is_sound t owner b ≡ true → same_alert a b ≡ eq_by_cmp report_cmp (report_of a) (report_of b)
 sound_alike t owner a b h k =
     both_ways _ _
@@ -167,7 +167,7 @@ among t owner a (x ∷ xs) h k =
       | inr later ↦ among t owner a xs (tail_of (λ y. is_sound t owner y ≡ true) x xs h) later
     ]
 
--- a sound alert was raised exactly where what it reports was
+-- a sound alert was raised exactly if what it reports was
 raised_by_report : (t : Observers) (owner : Process) (a : Alert) (xs : List Alert) → is_sound t owner a ≡ true → All (λ x. is_sound t owner x ≡ true) xs
     → list_any (same_alert a) xs ≡ list_any (eq_by_cmp report_cmp (report_of a)) (map report_of xs)
 raised_by_report t owner a [] s h = refl

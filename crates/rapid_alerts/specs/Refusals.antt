@@ -16,14 +16,14 @@ batch_code b.TooManyAlerts = 2
 batch_code b.MixedAlerts = 3
 batch_code b.OutOfMemory = 99
 
--- The error reports exactly this fault; want of memory is reported only where there is none.
+-- The error reports exactly this fault; out of memory is reported only if there is none.
 abbrev pub Reports : Option batch.BatchFault → BatchError → Type 0
 Reports f b.EmptyBatch = f ≡ Some batch.EmptyBatch
 Reports f b.TooManyAlerts = f ≡ Some batch.TooManyAlerts
 Reports f b.MixedAlerts = f ≡ Some batch.MixedAlerts
 Reports f b.OutOfMemory = f ≡ None
 
--- The error, where there is one, reports exactly this fault.
+-- The error, if there is one, reports exactly this fault.
 abbrev pub ReportsIfAny : Option batch.BatchFault → Option BatchError → Type 0
 ReportsIfAny f None = f ≡ None
 ReportsIfAny f (Some e) = Reports f e
@@ -41,7 +41,7 @@ abbrev pub answer_of : Raising → outbox.Raising
 answer_of Raised = outbox.Raised
 answer_of Already = outbox.Already
 
--- The error is this answer; want of memory is reported only where the alert would have been raised.
+-- The error is this answer; out of memory is reported only if the alert would have been raised.
 abbrev pub Refuses : outbox.Raising → RaiseError → Type 0
 Refuses x r.WrongObserver = x ≡ outbox.WrongObserver
 Refuses x r.WrongKind = x ≡ outbox.WrongKind
@@ -49,7 +49,7 @@ Refuses x r.OldConfiguration = x ≡ outbox.OldConfiguration
 Refuses x r.TooManyJoiners = x ≡ outbox.TooManyJoiners
 Refuses x r.OutOfMemory = x ≡ outbox.Raised
 
--- The error, where there is one, is this answer.
+-- The error, if there is one, is this answer.
 abbrev pub RefusesIfAny : Option outbox.Raising → Option RaiseError → Type 0
 RefusesIfAny x None = x ≡ None
 RefusesIfAny None (Some e) = ⊥

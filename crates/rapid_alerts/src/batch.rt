@@ -14,6 +14,9 @@ use std::marker::Model;
 use std::sync::ArcSlice;
 
 /// A batch: 1 to 2,048 alerts of one observer and one configuration. Copies share one list.
+///
+/// The alerts are kept whole, 78 bytes each, though all name the same observer and configuration: a
+/// detector takes a slice of alerts, and would have to make them anew each time.
 #[derive(Debug, Drop)]
 pub struct Batch {
     alerts: ArcSlice<Alert>,
@@ -66,10 +69,9 @@ impl Batch {
     /// The most alerts of a batch.
     pub const MOST: usize = 2048;
 
-    /// The batch of these alerts. The first of these that holds is the error: `EmptyBatch` where
-    /// there is none, `TooManyAlerts` where there are more than 2,048, `MixedAlerts` where two are
-    /// of different observers or of different configurations. `OutOfMemory` comes only where none
-    /// of them holds.
+    /// The batch of these alerts. The first of these that holds is the error: `EmptyBatch` if there
+    /// is none, `TooManyAlerts` if there are more than 2,048, `MixedAlerts` if two are of different
+    /// observers or of different configurations. `OutOfMemory` comes only if none of them holds.
     pub fn new(alerts: Vec<Alert>) -> Result<Batch, BatchError>
         ensures value { IfOk result (λ batch. batch ≡ map alert_of alerts.items) }
         ensures allowed { OnOk result (batch_fault (map alert_of alerts.items) ≡ None) }

@@ -7,13 +7,11 @@ ghost use Rattle.rapid_alerts.specs.Alerts.{alert_of};
 ghost use Rattle.rapid_alerts.specs.Outboxes.{empty_index, indexed, joined, has_room};
 
 use crate::{Alert, Kind};
+use rapid_config::Cut;
 use rapid_endpoint::Process;
 use std::alloc::{AllocError, Global};
 use std::collections::BTreeSet;
 use std::marker::Model;
-
-/// The most joiners that alerts are raised on.
-const JOINERS: usize = 512;
 
 /// What alerts report, and the joiners that they are on.
 #[derive(Debug, Drop)]
@@ -71,11 +69,11 @@ impl Index {
     {
         match alert.kind {
             Kind::Remove => true,
-            Kind::Join => self.has_joiner(&alert.subject) || self.joiners() < JOINERS,
+            Kind::Join => self.has_joiner(&alert.subject) || self.joiners() < Cut::MOST_JOINERS,
         }
     }
 
-    /// Adds an alert that is not there. Want of memory leaves the index as it was.
+    /// Adds an alert that is not there. If out of memory the index is as it was.
     pub(crate) fn add(&mut self, alert: &Alert) -> Result<(), AllocError>
         requires { set.contains self.old.reports (report_of (alert_of alert.now)) ≡ false }
         ensures added { OnOk result (self.new ≡ indexed self.old (alert_of alert.now)) }

@@ -48,7 +48,7 @@ fn is_own<T: ObserverTable>(table: &T, owner: &Process, alert: &Alert) -> bool
         && table.observer(alert.ring, &alert.subject) == Some(*owner)
 }
 
-/// Whether the kind is Remove exactly where the subject is a member.
+/// Whether the kind is Remove exactly if the subject is a member.
 fn kind_fits<T: ObserverTable>(table: &T, alert: &Alert) -> bool
     ensures { result ≡ fits (T.observers table.now) (alert_of alert.now) }
 {
@@ -150,12 +150,11 @@ impl<T: ObserverTable> Outbox<T> {
     ///
     /// # Errors
     ///
-    /// The first that holds: `OldConfiguration` where the alert is of another configuration than
-    /// the table's; `WrongObserver` where the owner is not the alert's observer or not the table's
-    /// observer of this subject on this ring; `WrongKind` unless the kind is Remove exactly where
-    /// the subject is a member; `TooManyJoiners` where the alert is on a 513th joiner.
-    /// `OutOfMemory` comes only for an alert that would be raised. Each leaves the outbox as it
-    /// was.
+    /// The first that holds: `OldConfiguration` if the alert is of another configuration than the
+    /// table's; `WrongObserver` if the owner is not the alert's observer or not the table's
+    /// observer of this subject on this ring; `WrongKind` unless the kind is Remove exactly if the
+    /// subject is a member; `TooManyJoiners` if the alert is on a 513th joiner. `OutOfMemory` comes
+    /// only for an alert that would be raised. Each leaves the outbox as it was.
     pub fn raise(&mut self, alert: Alert) -> Result<Raising, RaiseError>
         ensures raised { OnOk result (self.new.outbox ≡ model.raise (T.observers self.old.table) self.old.owner self.old.outbox (alert_of alert)) }
         ensures answer { IfOk result (λ raising. model.raising (T.observers self.old.table) self.old.owner self.old.outbox (alert_of alert) ≡ answer_of raising) }
@@ -173,7 +172,7 @@ impl<T: ObserverTable> Outbox<T> {
         }
     }
 
-    /// What is answered to an alert where there is memory.
+    /// What is answered to an alert if there is memory.
     fn judge(&self, alert: &Alert) -> Result<Raising, RaiseError>
         ensures answer { IfOk result (λ raising. model.raising (T.observers self.now.table) self.now.owner self.now.outbox (alert_of alert.now) ≡ answer_of raising) }
         ensures refused { IfErr result (Refuses (model.raising (T.observers self.now.table) self.now.owner self.now.outbox (alert_of alert.now))) }
@@ -181,7 +180,7 @@ impl<T: ObserverTable> Outbox<T> {
         verdict_of(&self.table, &self.owner, &self.index, alert)
     }
 
-    /// Keeps an alert that is to be raised. Want of memory leaves the outbox as it was.
+    /// Keeps an alert that is to be raised. If out of memory the outbox is as it was.
     fn keep(&mut self, alert: Alert) -> Result<(), AllocError>
         requires { model.raising (T.observers self.old.table) self.old.owner self.old.outbox (alert_of alert) ≡ model.Raised }
         ensures kept { OnOk result (self.new.outbox ≡ model.after_raising model.Raised self.old.outbox (alert_of alert)) }
@@ -189,6 +188,7 @@ impl<T: ObserverTable> Outbox<T> {
         ensures table { self.new.table ≡ self.old.table }
         ensures owner { self.new.owner ≡ self.old.owner }
     {
+        // room first: once the index has the alert, the list has to take it
         self.raised.try_reserve(1)?;
         self.index.add(&alert)?;
         match self.raised.push(alert) {
@@ -198,7 +198,7 @@ impl<T: ObserverTable> Outbox<T> {
     }
 
     /// The batch of the oldest alerts that are not flushed, at most 2,048, which count as flushed
-    /// from now on; none where there is none. Want of memory leaves the outbox as it was.
+    /// from now on; none if there is none. If out of memory the outbox is as it was.
     pub fn flush(&mut self) -> Result<Option<Batch>, AllocError>
         ensures flushed { OnOk result (self.new.outbox ≡ model.flush self.old.outbox) }
         ensures batch { IfOk result (λ batch. batch ≡ batch_of (model.unflushed self.old.outbox)) }

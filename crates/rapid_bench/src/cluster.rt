@@ -22,8 +22,8 @@ pub fn founder(alloc: Global, configuration: &Configuration) -> Result<Box<Node>
     Ok(Box::new(alloc, node)?)
 }
 
-/// The votes of as many of so many members as make no quorum, for one cut of ten processes, each in
-/// a list of its own.
+/// Votes for one cut of ten processes, each in a list of its own: as many as make no quorum of this
+/// many members.
 pub fn votes(alloc: Global, id: ConfigId, members: u16) -> Result<Vec<Event>> {
     let mut events = Vec::new(alloc);
     for n in 0..members / 4 * 3 {
@@ -90,7 +90,7 @@ fn report(alloc: Global, node: &mut Node, rings: &Rings, ring: u8, subject: Proc
     Ok(())
 }
 
-/// Has the node take the alerts on eight rings of each of twenty members, so many that all of them
+/// Has the node take the alerts on eight rings of each of twenty members, enough that all of them
 /// are unstable.
 pub fn report_many(alloc: Global, configuration: &Configuration, node: &mut Node) -> Result<()> {
     let rings = Rings::new(alloc, configuration)?;

@@ -5,8 +5,8 @@ use std::alloc::Global;
 use std::hint::black_box;
 use std::time::{Clock, Instant};
 
-/// Prints a figure's name and how many nanoseconds one unit of its work takes, in the fastest of so
-/// many runs.
+/// Prints a figure's name and how many nanoseconds one unit of its work takes, in the fastest of
+/// this many runs.
 pub fn measure<R: Print + Clock>(
     rt: &R,
     alloc: Global,

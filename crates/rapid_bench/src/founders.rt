@@ -6,7 +6,7 @@ use rapid_endpoint::ProcessId;
 use rapid_world::World;
 use std::alloc::Global;
 
-/// The world of so many founders.
+/// The world of this many founders.
 pub fn found(alloc: Global, count: u16) -> Result<World> {
     let founders = processes(alloc, 1, count)?;
     if founders.is_empty() {
@@ -18,7 +18,7 @@ pub fn found(alloc: Global, count: u16) -> Result<World> {
     Ok(World::new(alloc, params, founders.as_slice())?)
 }
 
-/// Those that crash: as many as that, evenly spread over so many founders.
+/// Those that crash: this many, evenly spread over the founders.
 pub fn crashed(alloc: Global, founders: u16, crashes: u16) -> Result<Vec<ProcessId>> {
     let gap = founders / crashes.max(1);
     let mut all = Vec::new(alloc);

@@ -14,12 +14,12 @@ use std::time::Clock;
 /// About how many bytes a run writes or reads.
 const BYTES: usize = 400_000;
 
-/// How often a frame of so many bytes is written or read in a run.
+/// How often a frame of this many bytes is written or read in a run.
 fn times(length: usize) -> usize {
     (BYTES / length.max(1)).max(1)
 }
 
-/// How many thousands of bytes so many frames of this length have.
+/// How many thousands of bytes this many frames of this length have.
 fn thousands(length: usize, times: usize) -> u64 {
     (length.saturating_mul(times) / 1000) as u64
 }
@@ -34,7 +34,7 @@ pub fn encode_often(alloc: Global, message: &Message, length: usize) -> Result<u
     Ok(thousands(length, times))
 }
 
-/// Feeds a frame in pieces of so many bytes, asks for a message after each, and answers how many
+/// Feeds a frame in pieces of this many bytes, asks for a message after each, and answers how many
 /// came.
 fn feed_frame(feed: &mut Feed, frame: &[u8], piece: usize) -> Result<usize> {
     let mut messages = 0usize;
@@ -48,7 +48,7 @@ fn feed_frame(feed: &mut Feed, frame: &[u8], piece: usize) -> Result<usize> {
     Ok(messages)
 }
 
-/// Feeds a frame again and again in pieces of so many bytes, and answers how many thousands of
+/// Feeds a frame again and again in pieces of this many bytes, and answers how many thousands of
 /// bytes that makes.
 pub fn feed_often(alloc: Global, frame: &[u8], piece: usize) -> Result<u64> {
     let mut feed = Feed::new(alloc);
@@ -61,7 +61,7 @@ pub fn feed_often(alloc: Global, frame: &[u8], piece: usize) -> Result<u64> {
     Ok(thousands(frame.len(), times))
 }
 
-/// Prints the figure of a frame that is fed in pieces of so many bytes.
+/// Prints the figure of a frame that is fed in pieces of this many bytes.
 fn print_feeding<R: Print + Clock>(
     rt: &R,
     alloc: Global,

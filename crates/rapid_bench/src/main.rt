@@ -31,7 +31,7 @@ use std::sync::Wait;
 use std::thread::Threads;
 use std::time::Clock;
 
-/// What is printed where no word names a figure.
+/// What is printed if no word names a figure.
 const USAGE: &str = "rapid_bench WORD.. prints figures, a line each: NAME, a space, a number.
   votes     nanoseconds of a vote among 1,024 members, for cuts of 1, 10 and 100 processes
   memory    bytes of a fast round after 1,024 votes, for one cut and for a cut each

@@ -27,12 +27,12 @@ pub fn cut(alloc: Global, first: u16, last: u16) -> Result<Cut> {
     Ok(Cut::new(processes(alloc, first, last)?)?)
 }
 
-/// The founding configuration of so many members, with sixteen rings.
+/// The founding configuration of this many members, with sixteen rings.
 pub fn configuration(alloc: Global, count: u16) -> Result<Configuration> {
     configuration_on(alloc, 16, count)
 }
 
-/// The founding configuration of so many members, with so many rings.
+/// The founding configuration of this many members, with this many rings.
 pub fn configuration_on(alloc: Global, rings: u8, count: u16) -> Result<Configuration> {
     let members = processes(alloc, 1, count)?;
     if members.is_empty() {

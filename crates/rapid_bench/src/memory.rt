@@ -28,7 +28,7 @@ fn kibibytes(text: &str) -> Result<u64> {
     Ok(kibibytes.saturating_mul(1024))
 }
 
-/// The number that a text begins with, blanks aside; 0 where it begins with none.
+/// The number that a text begins with, blanks aside; 0 if it begins with none.
 fn number(text: &[u8]) -> u64 {
     let mut number: u64 = 0;
     for byte in text {

@@ -60,7 +60,7 @@ pub fn batch(
     feed.next()?.context("the frame is not whole")
 }
 
-/// The members from one number to another, each on so many rings.
+/// The members from one number to another, each on this many rings.
 pub fn on_rings(alloc: Global, first: u16, last: u16, rings: u8) -> Result<Vec<(u8, Process)>> {
     let mut subjects = Vec::new(alloc);
     for n in first..=last {

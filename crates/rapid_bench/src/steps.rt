@@ -35,7 +35,7 @@ fn each_takes(nodes: &mut [Node], events: &[Event]) -> Result<()> {
     Ok(())
 }
 
-/// So many copies of a node.
+/// This many copies of a node.
 fn copies(alloc: Global, node: &Node, count: usize) -> Result<Vec<Node>> {
     let mut nodes = Vec::with_capacity(alloc, count)?;
     for _ in 0..count {
@@ -44,7 +44,7 @@ fn copies(alloc: Global, node: &Node, count: usize) -> Result<Vec<Node>> {
     Ok(nodes)
 }
 
-/// What steps are measured with: nodes among so many members.
+/// What steps are measured with: nodes among this many members.
 #[derive(Drop)]
 struct Bench<'a, R> {
     rt: &'a R,
@@ -66,7 +66,7 @@ impl<R: Print + Clock + Files + Alloc> Bench<'_, R> {
         self.more_than(before)
     }
 
-    /// How much a run takes, in which so many copies of a node take the events.
+    /// How much a run takes, in which this many copies of a node take the events.
     fn run(&self, node: &Node, events: &[Event], count: usize) -> Result<u64> {
         let mut nodes = copies(self.alloc, node, count)?;
         self.taken(&mut nodes, events)
@@ -85,8 +85,8 @@ impl<R: Print + Clock + Files + Alloc> Bench<'_, R> {
         Ok(())
     }
 
-    /// Prints how much a step takes in the best run, where copies of a node take these events from
-    /// the same start, in about so many steps a run.
+    /// Prints how much a step takes in the best run, if copies of a node take these events from the
+    /// same start, in about this many steps a run.
     fn print_steps(&self, name: &str, node: &Node, events: &[Event], steps: usize) -> Result<()> {
         let count = (steps / events.len().max(1)).max(2);
         let mut least = u64::MAX;
@@ -112,7 +112,7 @@ impl<R: Print + Clock + Files + Alloc> Bench<'_, R> {
         self.print_steps("vote_step", node, &events, STEPS)
     }
 
-    /// Prints how much a step at a batch takes, in about so many steps a run.
+    /// Prints how much a step at a batch takes, in about this many steps a run.
     fn print_batch(
         &self,
         name: &str,
@@ -198,7 +198,7 @@ pub fn print<R: Print + Clock + Files + Alloc>(rt: &R, alloc: Global) -> Result<
 }
 
 /// Prints the figures of memory: `vote_step_5_bytes`, `copy_5_bytes` and so on. They are all that a
-/// step allocates where the allocator gives nothing back.
+/// step allocates if the allocator gives nothing back.
 pub fn print_bytes<R: Print + Clock + Files + Alloc>(rt: &R, alloc: Global) -> Result<()> {
     print_with(rt, alloc, Meter::Memory)
 }

@@ -14,7 +14,7 @@ pub fn founded(alloc: Global) -> Result<Configuration> {
     configuration_on(alloc, 10, MEMBERS)
 }
 
-/// The votes of so many members as make no quorum, for the cut of the first ten.
+/// Votes for the cut of the first ten members, as many as make no quorum.
 pub fn votes(alloc: Global, configuration: &Configuration) -> Result<Vec<Event>> {
     let mut events = Vec::new(alloc);
     for n in 0..MEMBERS / 2 {

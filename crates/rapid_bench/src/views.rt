@@ -23,7 +23,7 @@ const RUNS: u32 = 20;
 /// The most threads.
 const MOST_THREADS: usize = 4;
 
-/// Reads so often, where nobody else reads by this reader.
+/// Reads this often; nobody else reads by this reader.
 fn read<T: Reader, R: Wait>(rt: &R, reader: &Mutex<T>, times: u32) {
     let _ = reader.lock(rt).read(rt, times);
 }

@@ -32,7 +32,7 @@ pub fn print<R: Print + Clock>(rt: &R, alloc: Global) -> Result<()> {
     print_among(rt, alloc, "votes_cut_100", 100)
 }
 
-/// Prints the figure of votes for a cut of so many processes.
+/// Prints the figure of votes for a cut of this many processes.
 fn print_among<R: Print + Clock>(rt: &R, alloc: Global, name: &str, size: u16) -> Result<()> {
     measure(rt, alloc, name, 200, &Work::Votes(&cut(alloc, 1, size)?))
 }

@@ -21,7 +21,7 @@ pub enum Work<'a> {
     FromBytes(&'a [u8]),
     /// The frame of a message, again and again, which is so long.
     Encode(&'a Message, usize),
-    /// A frame that is fed again and again, in pieces of so many bytes.
+    /// A frame that is fed again and again, in pieces of this many bytes.
     Feed(&'a [u8], usize),
 }
 

@@ -12,7 +12,7 @@ use std::time::{Clock, Instant};
 /// How often each figure is taken; the best counts.
 const RUNS: u32 = 3;
 
-/// More packets than a world sends in as many events as it accepts, for so many members.
+/// More packets than a world sends in as many events as it accepts, for this many members.
 const MOST_PACKETS: u64 = 2_000_000;
 
 /// The greatest memory that the process held, in bytes.
@@ -110,7 +110,7 @@ fn do_all(world: &mut World, events: &[WorldEvent]) -> Result<usize> {
     Ok(installed)
 }
 
-/// Delivers packets in order, until so many nodes have installed.
+/// Delivers packets in order, until this many nodes have installed.
 fn deliver_all(world: &mut World, nodes: usize) -> Result<()> {
     let mut left = nodes;
     for before in 0..MOST_PACKETS {
@@ -125,7 +125,7 @@ fn deliver_all(world: &mut World, nodes: usize) -> Result<()> {
     Ok(())
 }
 
-/// These events happen, and then packets are delivered until so many nodes have installed.
+/// These events happen, and then packets are delivered until this many nodes have installed.
 fn run(world: &mut World, events: &[WorldEvent], nodes: usize) -> Result<()> {
     let installed = do_all(world, events)?;
     deliver_all(world, nodes.saturating_sub(installed))
@@ -156,7 +156,7 @@ fn take<R: Clock>(rt: &R, alloc: Global, founders: u16, crashes: u16) -> Result<
     })
 }
 
-/// Prints the figures of so many founders of which so many crash.
+/// Prints the figures of a world with this many founders, of which that many crash.
 pub fn print<R: Print + Clock + Files + Alloc>(
     rt: &R,
     alloc: Global,

@@ -35,7 +35,7 @@ all_later lt t x y (z ∷ zs) h k =
 later : {X : Type 0} (lt : X → X → Bool) (x : X) (xs : List X) (k : ℕ) (d : X) (b : Bool) → b ≡ lt (get_or (x ∷ xs) (suc k) d) (get_or (x ∷ xs) (suc k + 1) d) → b ≡ lt (get_or xs k d) (get_or xs (k + 1) d)
 later lt x xs k d b h = h ∙ ap (λ i. lt (get_or xs k d) (get_or (x ∷ xs) i d)) (suc-add k 1)
 
--- where all pass, each does
+-- if all pass, each does
 pub each_passes : {X : Type 0} (t : X → Bool) (xs : List X) → list_all t xs ≡ true → (k : ℕ) (d : X) → k < length xs → t (get_or xs k d) ≡ true
 each_passes t [] h k d l = absurd (omega (arith, l))
 each_passes t (x ∷ xs) h zero d l = (and_parts (t x) (list_all t xs) h).0
@@ -63,7 +63,7 @@ ascends_by_neighbours {X} lt f t none more xs false (k, l, h) = sym (falling xs 
     falling (x ∷ y ∷ ys) (suc k) l h =
         more x (y ∷ ys) ∙ and_right (list_all (lt x) (y ∷ ys)) (f (y ∷ ys)) (falling (y ∷ ys) k (omega (arith, l)) (λ d. later lt x (y ∷ ys) k d false (h d)))
 
--- where f says that each element is below all later ones, one is below a later one
+-- if f says that each element is below all later ones, one is below a later one
 pub later_less : {X : Type 0} (R : X → X → Ordering) (f : List X → Bool) → ((x : X) (xs : List X) → f (x ∷ xs) ≡ (list_all (λ y. is_lt (R x y)) xs && f xs)) → (xs : List X) → f xs ≡ true → (i j : ℕ) (d : X) → i < j → j < length xs → R (get_or xs i d) (get_or xs j d) ≡ Less
 later_less R f more [] up i j d l m = absurd (omega (arith, m))
 later_less R f more (x ∷ xs) up zero zero d l m = absurd (omega (arith, l))

@@ -17,8 +17,8 @@ code_of EmptyCut = 8
 code_of HeightFull = 9
 code_of OutOfMemory = 99
 
--- The error reports exactly this fault. Want of memory may stand for what holds of `Unseen`: there is no fault, or
--- one that is looked for only once memory was asked for.
+-- The error reports exactly this fault. Out of memory may stand for what holds of `Unseen`: no fault, or one that is
+-- looked for only once memory was asked for.
 abbrev pub ReportsUnless : (Option fault.ConfigurationFault → Type 0) → Option fault.ConfigurationFault → ConfigError → Type 0
 ReportsUnless Unseen f BadParams = f ≡ Some fault.BadParams
 ReportsUnless Unseen f Truncated = f ≡ Some fault.Truncated

@@ -20,7 +20,7 @@ use std::marker::Model;
 use std::sync::ArcSlice;
 
 /// A configuration: a view of who the members are. It has a height, the identifier of the one
-/// before, the parameters, and at most 1,024 members, ascending by identifier, of which no two have
+/// before, the parameters, and at most 1,024 members. These ascend by identifier, and no two have
 /// one endpoint. Its identifier is computed once, when it is made. Copies share one list of
 /// members.
 #[derive(Debug, Drop)]
@@ -76,8 +76,8 @@ impl Configuration {
     pub const MOST: usize = MOST_MEMBERS;
 
     /// The founding configuration of these members, of whom there is at least one. The first that
-    /// holds: `TooMany` where there are more than 1,024, `NotSorted` where their identifiers do not
-    /// strictly ascend, `EndpointTwice` where two have one endpoint. `OutOfMemory` comes only where
+    /// holds: `TooMany` if there are more than 1,024, `NotSorted` if their identifiers do not
+    /// strictly ascend, `EndpointTwice` if two have one endpoint. `OutOfMemory` comes only if
     /// neither of the first two holds.
     pub fn seed(
         alloc: Global,
@@ -98,11 +98,11 @@ impl Configuration {
     }
 
     /// The configuration in these bytes. The first that holds: `Truncated` below 4 bytes,
-    /// `BadMagic` where they do not begin with `RPC1`, `Truncated` below 49 bytes, `BadParams`,
-    /// `TooMany` where they announce more than 1,024 members, `Truncated` or `Trailing` where there
-    /// are fewer or more bytes than these members have, `NotSorted` where their identifiers do not
-    /// strictly ascend, `EndpointTwice` where two have one endpoint. `OutOfMemory` comes only where
-    /// none of those before `NotSorted` holds.
+    /// `BadMagic` if they do not begin with `RPC1`, `Truncated` below 49 bytes, `BadParams`,
+    /// `TooMany` if they announce more than 1,024 members, `Truncated` or `Trailing` if there are
+    /// fewer or more bytes than these members have, `NotSorted` if their identifiers do not
+    /// strictly ascend, `EndpointTwice` if two have one endpoint. `OutOfMemory` comes only if none
+    /// of those before `NotSorted` holds.
     pub fn from_bytes(alloc: Global, bytes: &[u8]) -> Result<Configuration, ConfigError>
         ensures value { IfOk result (λ c. c ≡ configuration_in bytes.now) }
         ensures valid { IfOk result IsConfiguration }
@@ -193,8 +193,8 @@ impl Configuration {
     }
 
     /// The configuration after a cut: the members in it are removed, then its other processes join
-    /// in ascending order, each skipped where its identifier or its endpoint is held or 1,024
-    /// members are there. `HeightFull` exactly where the height is the last that there is.
+    /// in ascending order. One is skipped if its identifier or its endpoint is held, or if 1,024
+    /// members are there. `HeightFull` exactly if the height is the last that there is.
     #[tactic(auto, unfolding(rapid_model::specs::Apply::apply))]
     pub fn apply(&self, alloc: Global, cut: &Cut) -> Result<Configuration, ConfigError>
         ensures value { IfOk result (λ next. next ≡ apply self.now cut.now) }

@@ -13,6 +13,7 @@ ghost use Rattle.rapid_model.proofs.Orders.{cuts_total};
 ghost use Rattle.rapid_config.specs.Faults.{Reports};
 
 use crate::ConfigError;
+use crate::members::MOST_MEMBERS;
 use crate::told::tell_processes;
 use rapid_endpoint::Process;
 use std::alloc::{AllocError, Global};
@@ -60,12 +61,15 @@ fn compare(mine: &[Process], others: &[Process]) -> Ordering
 }
 
 impl Cut {
-    /// The most processes of a cut.
-    pub const MOST: usize = 1536;
+    /// The most joiners of a cut: no more wait at a host, and alerts are raised and taken on no more.
+    pub const MOST_JOINERS: usize = 512;
 
-    /// The cut of these processes. The first that holds: `EmptyCut` where there is none, `TooMany`
-    /// where there are more than 1,536, `NotSorted` where they do not strictly ascend.
-    /// `OutOfMemory` comes only where none of them holds.
+    /// The most processes of a cut: all members and all joiners.
+    pub const MOST: usize = MOST_MEMBERS + Cut::MOST_JOINERS;
+
+    /// The cut of these processes. The first that holds: `EmptyCut` if there is none, `TooMany` if
+    /// there are more than 1,536, `NotSorted` if they do not strictly ascend. `OutOfMemory` comes
+    /// only if none of them holds.
     pub fn new(processes: Vec<Process>) -> Result<Cut, ConfigError>
         ensures value { IfOk result (λ cut. cut ≡ processes.items) }
         ensures valid { IfOk result IsCut }

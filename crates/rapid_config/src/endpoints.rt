@@ -8,7 +8,7 @@ use rapid_endpoint::{Endpoint, Process};
 use std::alloc::{AllocError, Global};
 use std::collections::BTreeSet;
 
-/// The endpoints of the processes; none where two have one.
+/// The endpoints of the processes; none if two have one.
 pub(crate) fn endpoints_of(
     alloc: Global,
     processes: &[Process],

@@ -43,7 +43,7 @@ fn without(
     Ok(kept)
 }
 
-/// The place for a joiner among the members; none where its identifier is held.
+/// The place for a joiner among the members; none if its identifier is held.
 fn free_place(members: &[Process], joiner: &Process) -> Option<usize>
     requires { IsTrue (identifiers_ascend members.now) }
     ensures { MatchOption result (list_any (same_identifier joiner.now) members.now ≡ true)
@@ -55,7 +55,7 @@ fn free_place(members: &[Process], joiner: &Process) -> Option<usize>
     }
 }
 
-/// Lets a joiner in where there is room and nobody holds its identifier or its endpoint.
+/// Lets a joiner in if there is room and nobody holds its identifier or its endpoint.
 fn admit(
     members: &mut Vec<Process>,
     endpoints: &mut BTreeSet<Endpoint>,
@@ -105,8 +105,8 @@ fn join_all(
 }
 
 /// The members that a cut makes of others: those outside the cut stay, and the others of the cut
-/// join in ascending order, each skipped where its identifier or its endpoint is held or there is
-/// no room.
+/// join in ascending order. One is skipped if its identifier or its endpoint is held, or if there
+/// is no room.
 pub(crate) fn members_after(
     alloc: Global,
     members: &[Process],

@@ -22,10 +22,10 @@ pub(crate) fn identifiers_ascend(processes: &[Process]) -> bool
     processes.is_sorted_by(|a, b| a.id() < b.id())
 }
 
-/// That these can be the members of a configuration, or why not. The first that holds: `TooMany`
-/// where there are more than 1,024, `NotSorted` where their identifiers do not strictly ascend,
-/// `EndpointTwice` where two have one endpoint. `OutOfMemory` comes only where neither of the first
-/// two holds.
+/// Ok if these can be the members of a configuration, else why they cannot. The first that holds:
+/// `TooMany` if there are more than 1,024, `NotSorted` if their identifiers do not strictly ascend,
+/// `EndpointTwice` if two have one endpoint. `OutOfMemory` comes only if neither of the first two
+/// holds.
 pub(crate) fn check_members(alloc: Global, processes: &[Process]) -> Result<(), ConfigError>
     ensures valid { OnOk result (AreMembers processes.now) }
     ensures allowed { OnOk result (members_fault processes.now ≡ None) }

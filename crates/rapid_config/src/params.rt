@@ -29,12 +29,15 @@ impl Model for Params {
 }
 
 impl Params {
-    /// The parameters K, H and L. `BadParams` exactly where they are not in order.
+    /// The most rings.
+    pub const MOST_RINGS: u8 = 16;
+
+    /// The parameters K, H and L. `BadParams` exactly if they are not in order.
     pub fn new(k: u8, h: u8, l: u8) -> Result<Params, ConfigError>
         ensures exactly { OkIff result (AreParams (record { k = k; h = h; l = l })) (record { k = k; h = h; l = l }) }
         ensures refused { IfErr result (λ e. e ≡ ConfigError.BadParams) }
     {
-        if l >= 1 && l <= h && h <= k && k <= 16 {
+        if l >= 1 && l <= h && h <= k && k <= Params::MOST_RINGS {
             Ok(Params { k, h, l })
         } else {
             Err(ConfigError::BadParams)

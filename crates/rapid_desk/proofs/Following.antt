@@ -2,7 +2,7 @@
 use Rattle.std.proofs.Common.{◌≡◌, ◌≢◌, ℕ, zero, suc, ◌+◌, ◌<◌, Bool, true, false, cond, Option, Some, None, List, [], ◌∷◌, ◌++◌, length, get_or, set, refl, sym, ap, ◌∙◌, subst, inl, inr, arith}
 use Rattle.std.specs.Prelude.{MatchOption, IfSome, IsSomeAnd, slice_get}
 use Rattle.std.specs.List.{AllZip}
-use Rattle.atomic_table.specs.Seated.{TableId}
+use Rattle.rapid_line.specs.Ends.{SinkState}
 use Rattle.rapid_line.specs.Line.{StartsWith, Untaken}
 use Rattle.rapid_model.specs.Node.{Node, configuration_of, has_installed}
 use Rattle.rapid_model.specs.Configuration.{Configuration, Stamp, stamp}
@@ -107,20 +107,16 @@ follow_announced false shown published published1 old new same f a = subst (λ h
 lost_full : (s : Served) (room : ℕ) → room ≡ s.capacity + 1 → Untaken s.put s.known room → IsLost s Full
 lost_full s room is untaken = (room, omega (arith, is), untaken)
 
--- what contracts see of an end that puts
-abbrev pub Putting : Type 0
-Putting = TableId × List Notice × List Notice × ℕ
+abbrev pub served_by : SinkState Notice → Option ℕ → ℕ → Served
+served_by sink since capacity = record { queue = sink.queue; since = since; capacity = capacity; put = sink.put; known = sink.known }
 
-abbrev pub served_by : Putting → Option ℕ → ℕ → Served
-served_by sink since capacity = record { queue = sink.0; since = since; capacity = capacity; put = sink.1; known = sink.2 }
-
-pub lost_here : (sink counted back : Putting) (since : Option ℕ) (capacity : ℕ) (old : Served) → served_by sink since capacity ≡ old → counted ≡ sink → (back.0 ≡ counted.0) × (back.2 ≡ counted.2) × (back.3 ≡ counted.3) → back.1 ≡ counted.1 → Untaken counted.1 counted.2 counted.3 → sink.3 ≡ capacity + 1
+pub lost_here : (sink counted back : SinkState Notice) (since : Option ℕ) (capacity : ℕ) (old : Served) → served_by sink since capacity ≡ old → counted ≡ sink → (back.queue ≡ counted.queue) × (back.known ≡ counted.known) × (back.room ≡ counted.room) → back.put ≡ counted.put → Untaken counted.put counted.known counted.room → sink.room ≡ capacity + 1
     → (served_by back since capacity ≡ old) × IsLost old Full
 lost_here sink counted back since capacity old shown same queue put untaken room =
     let here : served_by back since capacity ≡ served_by sink since capacity =
-    λ i. record { queue = (queue.0 ∙ ap (λ (x : Putting). x.0) same) i; since = since; capacity = capacity; put = (put ∙ ap (λ (x : Putting). x.1) same) i; known = (queue.1 ∙ ap (λ (x : Putting). x.2) same) i } in
-    let now : Untaken sink.1 sink.2 sink.3 = subst (λ (x : Putting). Untaken x.1 x.2 x.3) same untaken in
-    (here ∙ shown, subst (λ s. IsLost s Full) shown (lost_full (served_by sink since capacity) sink.3 room now))
+    λ i. record { queue = (queue.0 ∙ ap (λ (x : SinkState Notice). x.queue) same) i; since = since; capacity = capacity; put = (put ∙ ap (λ (x : SinkState Notice). x.put) same) i; known = (queue.1 ∙ ap (λ (x : SinkState Notice). x.known) same) i } in
+    let now : Untaken sink.put sink.known sink.room = subst (λ (x : SinkState Notice). Untaken x.put x.known x.room) same untaken in
+    (here ∙ shown, subst (λ s. IsLost s Full) shown (lost_full (served_by sink since capacity) sink.room room now))
 
 -- ---- one subscription more, and one that is compared
 

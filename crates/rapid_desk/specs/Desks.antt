@@ -17,7 +17,7 @@ use Rattle.rapid_desk.specs.declared.notice.State.TheVariants as mark
 use Rattle.rapid_desk.specs.declared.error.DeskError.{DeskError}
 use Rattle.rapid_desk.specs.declared.error.DeskError.TheVariants.{JournalFull, OutOfMemory, Node, TooManySubscribers, BadCapacity, Unpublished}
 
--- The stamps that a writer has published, none where there is no writer yet.
+-- The stamps that a writer has published, none if there is no writer yet.
 abbrev pub seen_by : Option Publishing → List Stamp
 seen_by None = []
 seen_by (Some w) = w.seen
@@ -41,7 +41,7 @@ pub record DeskValue : Type 0 where
   -- the subscriptions that it serves, by age
   pub subscriptions : List Served
 
--- What is told of a step: the view of what the node shows where it installed something, and else nothing.
+-- What subscribers get of a step: the view of what the node shows if it installed something, else nothing.
 abbrev pub Announced : Bool → Option Configuration → List Served → List Served → Type 0
 Announced true (Some c) old new = AllZip (Offered c) old new
 Announced true None old new = new ≡ old
@@ -101,7 +101,8 @@ pub record Keeps (s : DeskState) : Type 0 where
   pub few : length s.journal ≤ 65536
   pub full : s.full ≡ true → length s.journal ≡ 65536
 
--- The desk after a step that went well: what is installed is published, and the journal has the event, or begins anew where a configuration was entered.
+-- The desk after a step that went well: what is installed is published, and the journal has the event, or begins anew
+-- if a configuration was entered.
 pub record Advances (old : DeskState) (event : model.Event) (new : DeskState) : Type 0 where
   pub entry : new.entry ≡ next_entry old new.node (model.configuration_of new.node)
   pub journal : new.journal ≡ next_journal old event new.node
@@ -159,7 +160,7 @@ abbrev pub Grown : Option Configuration → List Stamp → List Stamp → Type 0
 Grown None old new = ⊥
 Grown (Some c) old new = (new ≡ old ++ stamp c ∷ []) × IsNextShown old c.height
 
--- What is published after a step: also what the node shows where it installed something, and else what was.
+-- What is published after a step: what was, and what the node shows if it installed something.
 abbrev pub Shown : Bool → Option Configuration → List Stamp → List Stamp → Type 0
 Shown true shown old new = Grown shown old new
 Shown false shown old new = new ≡ old
@@ -200,7 +201,7 @@ seed_state c me =
 abbrev pub joiner_state : Process → List ℕ → DeskState
 joiner_state me seed = record { entry = model.joiner_node me seed; journal = []; full = false; node = model.joiner_node me seed; published = [] }
 
--- Why there is no subscription of this capacity at a desk that serves so many.
+-- Why there is no subscription of this capacity at a desk that serves this many.
 abbrev pub NotSubscribed : ℕ → ℕ → DeskError → Type 0
 NotSubscribed capacity n BadCapacity = (capacity ≡ 0) ⊎ (1024 < capacity)
 NotSubscribed capacity n TooManySubscribers = (0 < capacity) × (capacity ≤ 1024) × (64 ≤ n)

@@ -24,7 +24,7 @@ height_from h (Change v ∷ xs) = height_from (Some v.height) xs
 height_from h (Lag loss ∷ xs) = height_from h xs
 height_from h (End ∷ xs) = height_from h xs
 
--- a view of this height may come next, where that of the view before all is known or not
+-- a view of this height may come next, after a view before all whose height is known or not
 abbrev pub IsNextFrom : Option ℕ → List Notice → ℕ → Type 0
 IsNextFrom since before height = MatchOption (height_from since before) (Unit {0}) (λ last. height ≡ last + 1)
 

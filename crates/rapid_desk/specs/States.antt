@@ -32,12 +32,12 @@ pub record HasEnded (d : DeskState) : Type 0 where
 abbrev pub IsDesk : DeskState → Type 0
 IsDesk d = IsLive d ⊎ HasEnded d
 
--- The entry after a step: the node as it enters a configuration, where one was installed.
+-- The entry after a step: the node as it enters a configuration, if one was installed.
 abbrev pub next_entry : DeskState → Node → Option Configuration → Node
 next_entry d new None = d.entry
 next_entry d new (Some c) = if has_installed d.node new then node_at (Entered c new.me new.installed new.decisions) else d.entry
 
--- The journal after a step: empty where something was installed.
+-- The journal after a step: empty if something was installed.
 abbrev pub next_journal : DeskState → Event → Node → List JournalRecord
 next_journal d e new = if has_installed d.node new then [] else with_event d.journal e
 

@@ -34,7 +34,7 @@ impl<R: Wait + Copy + Drop> Model for Board<R> {
 }
 
 impl<R: Wait + Copy + Drop> Board<R> {
-    /// A board on which nothing is published yet, for so many seats.
+    /// A board on which nothing is published yet, for this many seats.
     pub(crate) fn new(rt: R, alloc: Global, count: usize) -> Board<R>
         requires { (0 < count) × (count ≤ 64) }
         ensures { result ≡ record { published = []; seats = false; count = count } }

@@ -61,7 +61,7 @@ impl<R: Wait + Copy + Drop> Model for Desk<R> {
 }
 
 /// Publishes what the node shows.
-fn show<R: Wait + Copy + Drop>(
+fn publish_shown<R: Wait + Copy + Drop>(
     board: &mut Board<R>,
     alloc: Global,
     node: &Node,
@@ -79,7 +79,7 @@ fn show<R: Wait + Copy + Drop>(
 
 /// Takes in the node that the step made, which has installed a configuration: that is published,
 /// and the journal begins anew.
-fn enter<R: Wait + Copy + Drop>(
+fn adopt_installed<R: Wait + Copy + Drop>(
     held: &mut Held,
     board: &mut Board<R>,
     alloc: Global,
@@ -92,8 +92,9 @@ fn enter<R: Wait + Copy + Drop>(
     ensures refused { IfErr result (NotEntered held.old held.new) }
     ensures unchanged { OnErr result (board.new ≡ board.old) }
 {
+    // asked for first: a view that is published cannot be taken back
     let entry = held.copy_next()?;
-    if show(board, alloc, held.next()).is_err() {
+    if publish_shown(board, alloc, held.next()).is_err() {
         held.halt();
         return Err(DeskError::Unpublished);
     }
@@ -102,7 +103,7 @@ fn enter<R: Wait + Copy + Drop>(
 }
 
 /// Takes in the node that the step made.
-fn settle<R: Wait + Copy + Drop>(
+fn adopt_next<R: Wait + Copy + Drop>(
     held: &mut Held,
     board: &mut Board<R>,
     alloc: Global,
@@ -119,7 +120,7 @@ fn settle<R: Wait + Copy + Drop>(
     ensures count { board.new.count ≡ board.old.count }
 {
     if held.installs() {
-        return enter(held, board, alloc);
+        return adopt_installed(held, board, alloc);
     }
     held.keep(event)?;
     Ok(())
@@ -176,7 +177,7 @@ impl<R: Wait + Copy + Drop> Desk<R> {
     ///
     /// # Errors
     ///
-    /// `OutOfMemory`, and `Unpublished` where the view could not be published: there is no desk.
+    /// `OutOfMemory`, and `Unpublished` if the view could not be published. There is no desk then.
     #[tactic(auto, using(crate::proofs::Keeping::keeps_seed_held, crate::proofs::Keeping::seed_is))]
     pub fn seed(
         rt: R,
@@ -208,8 +209,7 @@ impl<R: Wait + Copy + Drop> Desk<R> {
     }
 
     /// The desk of a process that joins by the seed at this endpoint. It publishes nothing until it
-    /// is in a configuration. The caller asks for 1 to 64 seats. `OutOfMemory` where there was
-    /// none.
+    /// is in a configuration. The caller asks for 1 to 64 seats. `OutOfMemory` if there was none.
     pub fn joiner(
         rt: R,
         alloc: Global,
@@ -231,7 +231,7 @@ impl<R: Wait + Copy + Drop> Desk<R> {
         })
     }
 
-    /// The node is the replay of the journal from its entry and what it installed is published, or
+    /// The node is the replay of the journal from its entry, and what it installed is published; or
     /// it has halted. While it joins nothing is published. It does nothing: what it ensures is for
     /// proofs.
     #[inline(always)]
@@ -275,16 +275,17 @@ impl<R: Wait + Copy + Drop> Desk<R> {
     }
 
     /// One event at the node, and what is to be sent after it, in order. Afterwards the journal has
-    /// the event, or begins anew where a configuration was entered, which is published then and put
-    /// for each subscriber.
+    /// the event. If a configuration was entered, the journal begins anew, and the view is
+    /// published and put for each subscriber.
     ///
     /// # Errors
     ///
-    /// Checked first: `JournalFull` where 65,536 records are kept and the event needs another, and
-    /// from then on. `OutOfMemory` where there was none for what the desk keeps. Both leave node,
-    /// journal and published list. `Node` where the node has halted, or does in this step: it sends
-    /// nothing of the step. `Unpublished` where the new view could not be published: the node halts
-    /// and sends nothing of the step, and its installed list is one longer than the published one.
+    /// Checked first: `JournalFull` if 65,536 records are kept and the event needs another, and
+    /// from then on. `OutOfMemory` if there was none for what the desk keeps. Both leave node,
+    /// journal and published list. `Node` if the node has halted, or does in this step: it sends
+    /// nothing of the step. `Unpublished` if the new view could not be published. The node halts
+    /// then and sends nothing of the step, and its installed list is one longer than the published
+    /// one.
     pub fn step(&mut self, event: Event) -> Result<Outputs, DeskError>
         ensures outputs { IfOk result (λ sent. HasOutcome self.old.state.node.me (node_step self.old.state.node (event_of event)) self.new.state.node sent.items) }
         ensures advances { OnOk result (Advances self.old.state (event_of event) self.new.state) }
@@ -297,8 +298,10 @@ impl<R: Wait + Copy + Drop> Desk<R> {
     {
         match self.held.prepare(&event) {
             Ok(sent) => {
+                // asked before the two nodes change places
                 let installed = self.held.installs();
-                settle(&mut self.held, &mut self.board, self.alloc, event)?;
+                adopt_next(&mut self.held, &mut self.board, self.alloc, event)?;
+                // last, so that whoever takes a change finds its view at a seat
                 let node = self.held.node();
                 announce(&mut self.outlets, &self.rt, self.alloc, node, installed);
                 Ok(sent)
@@ -320,18 +323,18 @@ impl<R: Wait + Copy + Drop> Desk<R> {
         self.board.take_seats()
     }
 
-    /// A subscription to the views that come after the one that is published last, with room for so
-    /// many that wait.
+    /// A subscription to the views that come after the one that is published last, with room for
+    /// `capacity` of them to wait.
     ///
     /// # Errors
     ///
-    /// `BadCapacity` where the capacity is not 1 to 1,024, else `TooManySubscribers` where the desk
+    /// `BadCapacity` if the capacity is not 1 to 1,024, else `TooManySubscribers` if the desk
     /// serves 64, else `OutOfMemory`.
     pub fn subscribe(&mut self, capacity: usize) -> Result<Subscription, DeskError>
         ensures same { (self.new.state ≡ self.old.state) × (self.new.seats ≡ self.old.seats) × (self.new.count ≡ self.old.count) }
         ensures ok { OnOk result ((0 < capacity) × (capacity ≤ 1024) × (length self.old.subscriptions < 64)) }
-        ensures served { IfOk result (λ subscription. self.new.subscriptions ≡ self.old.subscriptions ++ record { queue = subscription.0; since = shown_height self.old.state.published; capacity = capacity; put = []; known = [] } ∷ []) }
-        ensures untaken { IfOk result (λ subscription. subscription.1 ≡ []) }
+        ensures served { IfOk result (λ subscription. self.new.subscriptions ≡ self.old.subscriptions ++ record { queue = subscription.queue; since = shown_height self.old.state.published; capacity = capacity; put = []; known = [] } ∷ []) }
+        ensures untaken { IfOk result (λ subscription. subscription.taken ≡ []) }
         ensures refused { IfErr result (NotSubscribed capacity (length self.old.subscriptions)) }
         ensures unchanged { OnErr result (self.new.subscriptions ≡ self.old.subscriptions) }
     {
@@ -341,6 +344,7 @@ impl<R: Wait + Copy + Drop> Desk<R> {
         if self.outlets.len() >= MOST_SUBSCRIBERS {
             return Err(DeskError::TooManySubscribers);
         }
+        // what is published, not what the node shows: they differ after `Unpublished`
         let since = self.board.height();
         let (outlet, subscription) = subscribe(self.alloc, capacity, since)?;
         match self.outlets.push(outlet) {
@@ -349,8 +353,9 @@ impl<R: Wait + Copy + Drop> Desk<R> {
         }
     }
 
-    /// Ends the subscriptions made so far, which count no more: what is there is still taken. Who
-    /// owns a desk whose node has halted closes it, else its subscribers wait for ever.
+    /// Ends the subscriptions made so far, which count no more; what waits in them can still be
+    /// taken. Whoever owns a desk whose node has halted closes it, else its subscribers wait for
+    /// ever.
     pub fn close(&mut self)
         ensures { self.new ≡ record self.old { subscriptions = [] } }
     {
@@ -362,10 +367,10 @@ impl<R: Wait + Copy + Drop> Desk<R> {
     /// once, and is known to be taken from then on. The number is that of its subscription among
     /// those that the desk serves, by age.
     pub fn compare(&mut self, number: usize, subscription: &mut Subscription)
-        requires served { IsSomeAnd (slice_get self.old.subscriptions number) (λ s. s.queue ≡ subscription.old.0) }
+        requires served { IsSomeAnd (slice_get self.old.subscriptions number) (λ s. s.queue ≡ subscription.old.queue) }
         ensures same { (self.new ≡ record self.old { subscriptions = self.new.subscriptions }) × (subscription.new ≡ subscription.old) }
-        ensures known { IfSome (slice_get self.old.subscriptions number) (λ s. self.new.subscriptions ≡ slice_set self.old.subscriptions number (with_known subscription.old.1 s)) }
-        ensures order { IfSome (slice_get self.old.subscriptions number) (λ s. StartsWith s.put subscription.old.1) }
+        ensures known { IfSome (slice_get self.old.subscriptions number) (λ s. self.new.subscriptions ≡ slice_set self.old.subscriptions number (with_known subscription.old.taken s)) }
+        ensures order { IfSome (slice_get self.old.subscriptions number) (λ s. StartsWith s.put subscription.old.taken) }
     {
         self.outlets[number].compare(subscription);
     }

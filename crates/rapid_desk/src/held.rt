@@ -19,6 +19,10 @@ use std::mem;
 /// What a desk holds: its node, the journal of what happened since the node entered its
 /// configuration, and the node as it was there. `next` has room for the node that a step makes, so
 /// that a step takes no room for it.
+///
+/// A step is made in a copy, which then takes the node's place, so an event that is refused changes
+/// nothing. One that installs nothing allocates only for the journal, and for what the copy shares
+/// no more. The node before stays in `next` until the next step.
 #[derive(Drop)]
 pub struct Held {
     alloc: Global,
@@ -42,7 +46,7 @@ impl Model for Held {
     ghost view = { λ h. record { entry = h.entry.value; journal = records h.journal.items; full = h.full; node = h.node.value; next = h.next.value } };
 }
 
-/// Gets room for the records of an event. `JournalFull` where it had to be refused before, or the
+/// Gets room for the records of an event. `JournalFull` if one was refused so before, or if the
 /// event needs a record more than the journal may have.
 #[tactic(auto, using(crate::proofs::Stepping::full_is))]
 fn get_room(
@@ -56,7 +60,8 @@ fn get_room(
     ensures refused { IfErr result (HasNoRoom full.old (records journal.old.items) (event_of event.now) full.new) }
 {
     let added = journal::added(journal.as_slice(), event);
-    if *full || journal.len() + added > journal::MOST {
+    // once full it stays so, also for an event that needs no record: an earlier one was refused
+    if *full || journal.len() + added > journal::MOST_RECORDS {
         *full = true;
         return Err(DeskError::JournalFull);
     }
@@ -73,7 +78,8 @@ fn copy_into(place: &mut Node, node: &Node) -> Result<(), AllocError>
 }
 
 impl Held {
-    /// Where nothing has happened since the node was at its entry.
+    /// What is held of this node before any event: the journal has no record, and its entry is the
+    /// node.
     pub(crate) fn new(alloc: Global, node: Node) -> Result<Held, AllocError>
         ensures { IfOk result (λ h. (h.entry ≡ node) × (h.journal ≡ []) × (h.full ≡ false) × (h.node ≡ node)) }
     {
@@ -90,7 +96,7 @@ impl Held {
         })
     }
 
-    /// Makes the step in a copy of the node. The copy takes its place where it has halted.
+    /// Makes the step in a copy of the node. If the copy has halted it takes the node's place.
     pub(crate) fn prepare(&mut self, event: &Event) -> Result<Outputs, DeskError>
         requires { length self.old.journal ≤ 65536 }
         ensures same { (self.new.entry ≡ self.old.entry) × (self.new.journal ≡ self.old.journal) }

@@ -11,12 +11,12 @@ use rapid_node::Event;
 use std::alloc::AllocError;
 
 /// How many records a journal has at most.
-pub(crate) const MOST: usize = 65_536;
+pub(crate) const MOST_RECORDS: usize = 65_536;
 
 /// A record of a journal.
 #[derive(Debug, Drop)]
 pub enum JournalRecord {
-    /// So many successive ticks.
+    /// This many successive ticks.
     Ticks(u32),
     /// Another event.
     Other(Event),
@@ -65,7 +65,7 @@ fn join_tick(journal: &mut Vec<JournalRecord>)
     }
 }
 
-/// A record more. Want of memory leaves the journal as it was.
+/// A record more. If out of memory the journal is as it was.
 fn push(journal: &mut Vec<JournalRecord>, last: JournalRecord) -> Result<(), AllocError>
     ensures added { OnOk result (journal.new.items ≡ journal.old.items ++ last ∷ []) }
     ensures unchanged { OnErr result (journal.new.items ≡ journal.old.items) }
@@ -76,7 +76,7 @@ fn push(journal: &mut Vec<JournalRecord>, last: JournalRecord) -> Result<(), All
     }
 }
 
-/// An event more. Want of memory leaves the journal as it was.
+/// An event more. If out of memory the journal is as it was.
 pub(crate) fn add(journal: &mut Vec<JournalRecord>, event: Event) -> Result<(), AllocError>
     ensures added { OnOk result (records journal.new.items ≡ model.with_event (records journal.old.items) (event_of event)) }
     ensures unchanged { OnErr result (journal.new.items ≡ journal.old.items) }

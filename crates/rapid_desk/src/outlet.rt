@@ -31,20 +31,21 @@ impl Model for Outlet {
 
     ghost Value = { Served };
 
-    ghost view = { λ o. record { queue = o.sink.0; since = o.since; capacity = o.capacity; put = o.sink.1; known = o.sink.2 } };
+    ghost view = { λ o. record { queue = o.sink.queue; since = o.since; capacity = o.capacity; put = o.sink.put; known = o.sink.known } };
 
-    ghost invariant = { λ o. (o.state ≡ state_of o.sink.1) × (o.sink.3 ≡ o.capacity + 1) };
+    ghost invariant = { λ o. (o.state ≡ state_of o.sink.put) × (o.sink.room ≡ o.capacity + 1) };
 }
 
-/// A subscription with room for so many changes, from a view of this height on.
+/// A subscription with room for this many changes, from a view of this height on.
 pub(crate) fn subscribe(
     alloc: Global,
     capacity: usize,
     since: Option<u64>,
 ) -> Result<(Outlet, Subscription), AllocError>
     requires { (0 < capacity) × (capacity ≤ 1024) }
-    ensures { IfOk result (λ r. (r.0 ≡ record { queue = r.1.0; since = since; capacity = capacity; put = []; known = [] }) × (r.1.1 ≡ [])) }
+    ensures { IfOk result (λ r. (r.0 ≡ record { queue = r.1.queue; since = since; capacity = capacity; put = []; known = [] }) × (r.1.taken ≡ [])) }
 {
+    // one more than the changes, for the mark
     let (sink, source) = rapid_line::line(alloc, capacity + 1)?;
     let outlet = Outlet {
         sink,
@@ -84,6 +85,7 @@ impl Outlet {
         ensures put { OnOk result (self.new ≡ with_notice self.old (Notice.Change configuration.now)) }
         ensures lost { IfErr result (λ loss. (self.new ≡ self.old) × IsLost self.old loss) }
     {
+        // the last place is the mark's
         if self.sink.len(rt) >= self.capacity {
             return Err(Loss::Full);
         }
@@ -102,6 +104,7 @@ impl Outlet {
         requires { state_of self.old.put ≡ State.Open }
         ensures { self.new ≡ with_notice self.old (Notice.Lag loss) }
     {
+        // it never waits, since that place is free; nothing proves this, so it is put by waiting
         self.sink.put_when_free(rt, Notice::Lag(loss));
         self.state = State::Lagged;
     }
@@ -113,6 +116,7 @@ impl Outlet {
         if self.state != State::Open {
             return;
         }
+        // it never waits: as for the other mark
         self.sink.put_when_free(rt, Notice::End);
         self.state = State::Closed;
     }
@@ -120,10 +124,10 @@ impl Outlet {
     /// What the subscriber has taken is a beginning of what was put, and is known to be taken from
     /// then on.
     pub(crate) fn compare(&mut self, subscription: &mut Subscription)
-        requires { self.old.queue ≡ subscription.old.0 }
-        ensures known { self.new ≡ with_known subscription.old.1 self.old }
+        requires { self.old.queue ≡ subscription.old.queue }
+        ensures known { self.new ≡ with_known subscription.old.taken self.old }
         ensures same { subscription.new ≡ subscription.old }
-        ensures order { StartsWith self.old.put subscription.old.1 }
+        ensures order { StartsWith self.old.put subscription.old.taken }
     {
         self.sink.compare(&mut subscription.source);
     }

@@ -31,23 +31,23 @@ pub struct Subscription {
 }
 
 impl Model for Subscription {
-    ghost use Rattle.std.specs.Prelude.{◌≡◌, List};
-    ghost use Rattle.atomic_table.specs.Seated.{TableId};
+    ghost use Rattle.std.specs.Prelude.{◌≡◌};
+    ghost use Rattle.rapid_line.specs.Ends.{SourceState};
     ghost use Rattle.rapid_desk.specs.declared.notice.Notice.{Notice};
     ghost use Rattle.rapid_desk.specs.Notices.{state_of};
 
-    ghost Value = { TableId × List Notice };
+    ghost Value = { SourceState Notice };
 
     ghost view = { λ s. s.source };
 
-    ghost invariant = { λ s. s.state ≡ state_of s.source.1 };
+    ghost invariant = { λ s. s.state ≡ state_of s.source.taken };
 }
 
 #[tactic(auto, using(crate::proofs::Marks::state_of_now))]
 impl Subscription {
     pub(crate) fn new(source: Source<Notice, Successive>) -> Subscription
-        requires { source.1 ≡ [] }
-        ensures { (result.0 ≡ source.0) × (result.1 ≡ []) }
+        requires { source.taken ≡ [] }
+        ensures { (result.queue ≡ source.queue) × (result.taken ≡ []) }
     {
         Subscription {
             source,
@@ -57,8 +57,8 @@ impl Subscription {
 
     /// The next change, or why there is none.
     pub fn take<R: Wait>(&mut self, rt: &R) -> Taken
-        ensures queue { self.new.0 ≡ self.old.0 }
-        ensures taken { Told result self.old.1 self.new.1 }
+        ensures queue { self.new.queue ≡ self.old.queue }
+        ensures taken { Told result self.old.taken self.new.taken }
     {
         match self.state {
             State::Lagged => Taken::Lagged,
@@ -69,9 +69,9 @@ impl Subscription {
 
     /// What the queue has next.
     fn next<R: Wait>(&mut self, rt: &R) -> Taken
-        requires { state_of self.old.1 ≡ State.Open }
-        ensures queue { self.new.0 ≡ self.old.0 }
-        ensures taken { Told result self.old.1 self.new.1 }
+        requires { state_of self.old.taken ≡ State.Open }
+        ensures queue { self.new.queue ≡ self.old.queue }
+        ensures taken { Told result self.old.taken self.new.taken }
     {
         match self.source.take(rt) {
             None => Taken::Empty,

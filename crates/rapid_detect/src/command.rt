@@ -92,7 +92,7 @@ fn report(kind: Kind, line: &[u8]) -> Option<Command>
     Some(Command::Report(kind, place_named(line)?))
 }
 
-/// A batch, where no words follow its name.
+/// A batch, if no words follow its name.
 fn batch(line: &[u8]) -> Option<Command>
     ensures { option_map command_of result ≡ batch_in (words line.now) }
 {

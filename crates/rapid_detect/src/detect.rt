@@ -52,7 +52,7 @@ pub struct DetectRun {
     alerts: Vec<Alert>,
 }
 
-/// From here on alerts and batches are taken, where `watermarks` was.
+/// From here on alerts and batches are taken, if `watermarks` was.
 fn start(alloc: Global, phase: &mut Phase)
     ensures state { (joiners edges : ℕ) (alerts : List alert.Alert) → run_by phase.new joiners edges alerts ≡ reporting (run_by phase.old joiners edges alerts) }
     ensures started { is_building phase.new ≡ false }
@@ -62,7 +62,7 @@ fn start(alloc: Global, phase: &mut Phase)
     }
 }
 
-/// The same, where the table is made: its phase is moved here and at no alert.
+/// The same, if the table is made: its phase is moved here and at no alert.
 #[inline(never)]
 fn end_building(alloc: Global, phase: &mut Phase)
     ensures state { (joiners edges : ℕ) (alerts : List alert.Alert) → run_by phase.new joiners edges alerts ≡ reporting (run_by phase.old joiners edges alerts) }
@@ -182,6 +182,7 @@ impl DetectRun {
             Phase::Unmarked => Ok(Reply::Refused(Refusal::NoWatermarks)),
             Phase::Building(_) => unreachable!(),
             Phase::Reporting(detector) => {
+                // the alerts go only once the detector has taken them
                 let cut = detector.batch(self.alerts.as_slice())?;
                 let skipped = detector.skipped();
                 self.alerts.clear();
@@ -238,8 +239,8 @@ impl Engine for DetectRun {
 }
 
 /// Reads lines and writes what they print, and nothing else. After a fault a beginning of that is
-/// written: `Read` where the input could not be read, `Write` where the output could not be
-/// written, `OutOfMemory` where there was no memory.
+/// written: `Read` if the input could not be read, `Write` if the output could not be written,
+/// `OutOfMemory` if there was no memory.
 pub fn run_detect<R: Read, W: Write>(
     alloc: Global,
     reader: &mut R,

@@ -88,7 +88,7 @@ fn write_cut(cut: &Option<Cut>, output: &mut Vec<u8>) -> Result<(), AllocError>
     }
 }
 
-/// Appends how many alerts were skipped, where some were.
+/// Appends how many alerts were skipped, if some were.
 fn write_skipped(skipped: usize, output: &mut Vec<u8>) -> Result<(), AllocError>
     ensures { OnOk result (output.new.items ≡ output.old.items ++ skipped_text skipped) }
 {
@@ -109,8 +109,8 @@ fn write_batch(cut: &Option<Cut>, skipped: usize, output: &mut Vec<u8>) -> Resul
     Ok(())
 }
 
-/// Appends a reply; for a refusal nothing is allocated where the output has room. Where there is no
-/// memory the output is as it was.
+/// Appends a reply; for a refusal nothing is allocated if the output has room. If out of memory the
+/// output is as it was.
 pub fn write_reply(reply: &Reply, output: &mut Vec<u8>) -> Result<(), AllocError>
     ensures ok { OnOk result (output.new.items ≡ output.old.items ++ reply_text reply.now) }
     ensures unchanged { OnErr result (output.new.items ≡ output.old.items) }

@@ -6,12 +6,12 @@ use Rattle.rapid_model.specs.EndpointText.{value_of, parts}
 use Rattle.rapid_endpoint.specs.declared.parse_error.ParseError.TheVariants.{PartRange}
 use Rattle.rapid_endpoint.specs.Texts.{is_byte, address_from, address_from_parts}
 
--- Where the first place is past the end, no element passes.
+-- If the first place is past the end, no element passes.
 pub none_passes : {X : Type 0} (p : X → Bool) (xs : List X) → position_or_len p xs ≡ length xs → list_any p xs ≡ false
 none_passes p [] h = refl
 none_passes p (x ∷ xs) h = grind (arith, none_passes p xs)
 
--- Where it is before the end, one does.
+-- If it is before the end, one does.
 pub one_passes : {X : Type 0} (p : X → Bool) (xs : List X) → position_or_len p xs < length xs → list_any p xs ≡ true
 one_passes p [] h = absurd (omega arith)
 one_passes p (x ∷ xs) h = grind (arith, one_passes p xs)
@@ -51,7 +51,7 @@ first_part_gives host None h = one_part host h
 first_part_gives host (Some x) h =
     (first_of_parts host h.0 ∙ sym (λ i. h.1 i ∷ parts (h.2 i)), some_part x.1.now)
 
--- One value where all four tests hold, and else another.
+-- One value if all four tests hold, and else another.
 all_four : {X : Type 0} (a b c d : Bool) (x y : X) → (if a && b && c && d then x else y) ≡ (if not (a && (b && (c && (d && true)))) then y else x)
 all_four true true true true x y = refl
 all_four true true true false x y = refl

@@ -26,7 +26,7 @@ then_assoc Less b c = refl
 then_assoc Equal b c = refl
 then_assoc Greater b c = refl
 
--- Where the first parts are as long as each other, they decide, and else the second parts do.
+-- If the first parts are equal the second parts decide, else the first parts do. They are of one length.
 pub cmp_joined : (us vs xs ys : List ℕ) → length us ≡ length vs
     → bytes_cmp (us ++ xs) (vs ++ ys) ≡ ordering_then (bytes_cmp us vs) (bytes_cmp xs ys)
 cmp_joined [] [] xs ys e = refl
@@ -46,12 +46,12 @@ tied Less b h = absurd (false≢true h)
 tied Equal b h = refl
 tied Greater b h = absurd (false≢true h)
 
--- Where the first parts are not the same, they decide.
+-- If the first parts differ, they decide.
 pub first_decides : (us vs xs ys : List ℕ) → length us ≡ length vs → same_bytes us vs ≡ false
     → bytes_cmp us vs ≡ bytes_cmp (us ++ xs) (vs ++ ys)
 first_decides us vs xs ys e h = not_tied (bytes_cmp us vs) (bytes_cmp xs ys) h ∙ sym (cmp_joined us vs xs ys e)
 
--- Where they are, the second parts do.
+-- If they are the same, the second parts do.
 pub second_decides : (us vs xs ys : List ℕ) → length us ≡ length vs → same_bytes us vs ≡ true
     → bytes_cmp xs ys ≡ bytes_cmp (us ++ xs) (vs ++ ys)
 second_decides us vs xs ys e h = tied (bytes_cmp us vs) (bytes_cmp xs ys) h ∙ sym (cmp_joined us vs xs ys e)
@@ -61,7 +61,7 @@ then_is_eq Less b = refl
 then_is_eq Equal b = refl
 then_is_eq Greater b = refl
 
--- Such strings are the same where both parts are.
+-- Such strings are the same if both parts are.
 pub same_joined : (us vs xs ys : List ℕ) → length us ≡ length vs
     → same_bytes (us ++ xs) (vs ++ ys) ≡ (same_bytes us vs && same_bytes xs ys)
 same_joined us vs xs ys e = ap is_eq (cmp_joined us vs xs ys e) ∙ then_is_eq (bytes_cmp us vs) (bytes_cmp xs ys)
@@ -87,7 +87,7 @@ pub cmp_endpoints : (a b : List ℕ) (p q : ℕ) → length a ≡ 4 → length b
 cmp_endpoints a b p q e f h k =
     cmp_joined a b (to_be_bytes w16 p) (to_be_bytes w16 q) (e ∙ sym f) ∙ ap (ordering_then (bytes_cmp a b)) (cmp_two_bytes p q h k)
 
--- They are the same where their addresses and ports are.
+-- They are the same if their addresses and ports are.
 pub same_endpoints : (a b : List ℕ) (p q : ℕ) → length a ≡ 4 → length b ≡ 4 → p < 2 ^ 16 → q < 2 ^ 16
     → same_bytes (a ++ to_be_bytes w16 p) (b ++ to_be_bytes w16 q) ≡ (pointwise nat_eq a b && nat_eq p q)
 same_endpoints a b p q e f h k =
@@ -99,11 +99,11 @@ pub endpoint_part : (id place : List ℕ) → length id ≡ 16 → length (id ++
 endpoint_part id place e f =
     ap (take 6) (second_part 16 id place e) ∙ take_all 6 place (omega (arith, length-append id place))
 
--- The answer of `a && b`, where a is true.
+-- The answer of `a && b`, if a is true.
 pub and_then_second : (a b c : Bool) → a ≡ b → a ≡ true → c ≡ (b && c)
 and_then_second a b c e h = sym (ap (λ (d : Bool). d && c) (sym e ∙ h))
 
--- The answer of `a && b`, where a is false.
+-- The answer of `a && b`, if a is false.
 pub and_else_first : (a b c : Bool) → a ≡ b → a ≡ false → a ≡ (b && c)
 and_else_first a b c e h = h ∙ sym (ap (λ (d : Bool). d && c) (sym e ∙ h))
 

@@ -1,4 +1,4 @@
--- Two byte strings are the same just where they are equal.
+-- Two byte strings are the same exactly if they are equal.
 use Rattle.std.specs.Prelude.{◌≡◌, ℕ, List, true}
 use Rattle.std.proofs.Common.{sym, ◌∙◌}
 use Rattle.std.specs.Cmp.Lexicographic.{texts_ties}

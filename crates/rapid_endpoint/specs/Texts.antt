@@ -8,21 +8,21 @@ use Rattle.rapid_endpoint.specs.declared.parse_error.ParseError.{ParseError}
 use Rattle.rapid_endpoint.specs.declared.parse_error.ParseError.TheVariants.{NotFourParts, PartRange, BadIdentifier}
 use Rattle.rapid_endpoint.specs.ParseErrors.{error_of}
 
--- The value where there is no fault, and else its error.
+-- The value if there is no fault, and else its error.
 abbrev pub unless_fault : Option EndpointFault → List ℕ → Result (List ℕ) ParseError
 unless_fault None value = Ok value
 unless_fault (Some fault) value = Err (error_of fault)
 
--- What a text is read as where it is to be an endpoint: the bytes of the address and the port, or the first fault.
+-- What a text is read as if it is to be an endpoint: the bytes of the address and the port, or the first fault.
 abbrev pub endpoint_from : List ℕ → Result (List ℕ) ParseError
 endpoint_from text = unless_fault (endpoint_fault text) (address_in text ++ to_be_bytes w16 (port_in text))
 
--- The value where there is one.
+-- The value if there is one.
 abbrev pub or_bad_identifier : Option (List ℕ) → Result (List ℕ) ParseError
 or_bad_identifier None = Err BadIdentifier
 or_bad_identifier (Some value) = Ok value
 
--- What a text is read as where it is to be an identifier: the sixteen bytes of the UUID that it spells.
+-- What a text is read as if it is to be an identifier: the sixteen bytes of the UUID that it spells.
 abbrev pub identifier_from : List ℕ → Result (List ℕ) ParseError
 identifier_from text = or_bad_identifier (uuid.parsed text)
 

@@ -14,9 +14,9 @@ impl Endpoint {
     /// The endpoint that a text such as `127.0.0.1:7000` spells. What stands before the first
     /// colon, or all, is the host.
     ///
-    /// Errors, in this order: `NotFourParts` where the host has not exactly four parts between
-    /// dots, `PartRange` where a part is no number from 0 to 255, `BadPort` where there is no colon
-    /// or what follows it is no number from 0 to 65,535. Numbers have no needless zero in front.
+    /// Errors, in this order: `NotFourParts` if the host has not exactly four parts between dots,
+    /// `PartRange` if a part is no number from 0 to 255, `BadPort` if there is no colon or what
+    /// follows it is no number from 0 to 65,535. Numbers have no needless zero in front.
     pub fn parse(text: &str) -> Result<Endpoint, ParseError>
         ensures { result ≡ endpoint_from text.now }
     {
@@ -44,7 +44,7 @@ fn cut(text: &str, separator: char) -> Option<(&str, &str)>
     text.split_once(separator)
 }
 
-// The first part of a host and what follows its dot, where the host has two parts or more.
+// The first part of a host and what follows its dot, if the host has two parts or more.
 fn first_part(host: &str) -> Option<(&str, &str)>
     ensures { MatchOption result (parts host.now ≡ host.now ∷ [])
         (λ x. (parts host.now ≡ x.0.now ∷ parts x.1.now) × (0 < length (parts x.1.now))) }
@@ -52,7 +52,7 @@ fn first_part(host: &str) -> Option<(&str, &str)>
     cut(host, '.')
 }
 
-// The four parts of a host, where it has just four.
+// The four parts of a host, if it has just four.
 fn four_parts(host: &str) -> Option<(&str, &str, &str, &str)>
     ensures { MatchOption result ((length (parts host.now) == 4) ≡ false)
         (λ x. parts host.now ≡ x.0.now ∷ x.1.now ∷ x.2.now ∷ x.3.now ∷ []) }
@@ -77,7 +77,7 @@ fn parse_address(host: &str) -> Result<[u8; 4], ParseError>
     }
 }
 
-// The bytes that four parts spell, where each is a number up to 255.
+// The bytes that four parts spell, if each is a number up to 255.
 fn address_of(first: &str, second: &str, third: &str, fourth: &str) -> Option<[u8; 4]>
     ensures { result ≡ (if is_byte first.now && is_byte second.now && is_byte third.now && is_byte fourth.now
         then Some (value_of first.now ∷ value_of second.now ∷ value_of third.now ∷ value_of fourth.now ∷ []) else None) }

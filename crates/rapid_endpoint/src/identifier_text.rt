@@ -11,7 +11,7 @@ impl ProcessId {
     /// The identifier that the text of a UUID spells, in each of the forms that `uuid` reads:
     /// hyphenated, simple, braced and URN, in either case.
     ///
-    /// Errors: `BadIdentifier` where the text is no UUID.
+    /// Errors: `BadIdentifier` if the text is no UUID.
     pub fn parse(text: &str) -> Result<ProcessId, ParseError>
         ensures { result ≡ identifier_from text.now }
     {

@@ -71,8 +71,8 @@ impl Process {
         bytes
     }
 
-    /// The process in front of the bytes, and how many bytes it takes. There is none where the
-    /// bytes are fewer than a process has.
+    /// The process in front of the bytes, and how many bytes it takes. None if there are fewer
+    /// bytes than a process has.
     pub fn read(bytes: &[u8]) -> Option<(Process, usize)>
         ensures short { IsNone result ↔ (length bytes.now < 22) }
         ensures front { IfSome result (λ r. (r.0 ≡ take 22 bytes.now) × (r.1 ≡ 22)) }

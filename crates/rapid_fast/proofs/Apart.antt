@@ -1,4 +1,4 @@
--- One more for a cut, where the first cut's counter stands apart.
+-- One more for a cut, if the first cut's counter stands apart.
 use Rattle.std.proofs.Common.{◌≡◌, ℕ, ◌+◌, Bool, true, false, cond, refl, sym, ap, subst, ◌∙◌, Option, Some, None, unwrap_or}
 use Rattle.std.specs.Cmp.{eq_by_cmp_equiv}
 use Rattle.std.specs.FinMap as map

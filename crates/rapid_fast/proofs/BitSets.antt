@@ -12,7 +12,7 @@ use Rattle.std.proofs.lemmas.List.FromFn.{length-range_with_len}
 use Rattle.std.proofs.lemmas.Nat.Bits.{bit_at_set_same, bit_at_set_other, bit_at-zero}
 use Rattle.rapid_fast.specs.Bits.{has_bit, positions_of}
 
--- a number below those of a range isn't among them
+-- a number below those of a range is not among them
 none_before : (f : ℕ → Bool) (q a n : ℕ) → q < a → list_any (λ y. y == q) (filter f (range_with_len a n)) ≡ false
 none_before f q a zero h = refl
 none_before f q a (suc n) h =
@@ -30,7 +30,7 @@ none_after f q a (suc n) h =
       | false ↦ none_after f q (a + 1) n (omega arith)
     ]
 
--- one of them is there where it passes the test
+-- one of them is there if it passes the test
 one_within : (f : ℕ → Bool) (q a n : ℕ) → a ≤ q → q < a + n → list_any (λ y. y == q) (filter f (range_with_len a n)) ≡ f q
 one_within f q a zero h k = absurd (omega arith)
 one_within f q a (suc n) h k =

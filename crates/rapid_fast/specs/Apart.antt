@@ -9,7 +9,7 @@ abbrev pub with_first : Option (Cut × ℕ) → Counts → Counts
 with_first None others = others
 with_first (Some first) others = map.insert others first.0 first.1
 
--- Where no cut was counted first, none was counted.
+-- If no cut was counted first, none was counted.
 abbrev pub FirstStandsApart : Option (Cut × ℕ) → Counts → Type 0
 FirstStandsApart None others = others ≡ map.empty
 FirstStandsApart (Some first) others = Unit {0}

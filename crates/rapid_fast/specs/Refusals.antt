@@ -4,7 +4,7 @@ use Rattle.rapid_model.specs.FastRound.{FastRound}
 use Rattle.rapid_fast.specs.declared.round.HearError.{HearError}
 use Rattle.rapid_fast.specs.declared.round.HearError.TheVariants.{NotMember, OutOfMemory}
 
--- The position is no member's; want of memory is answered to members alone.
+-- The position is no member's; out of memory is answered to members alone.
 abbrev pub IsHearRefusal : FastRound → ℕ → HearError → Type 0
 IsHearRefusal f p NotMember = f.size ≤ p
 IsHearRefusal f p OutOfMemory = p < f.size

@@ -42,8 +42,8 @@ fn place(counts: &[(Cut, usize)], cut: &Cut) -> Result<usize, usize>
     counts.binary_search_by(|count| count.0.cmp(cut))
 }
 
-/// A copy of a cut, where one is wanted.
-pub(crate) fn copy_where(wanted: bool, alloc: Global, cut: &Cut) -> Result<Option<Cut>, AllocError>
+/// A copy of a cut, if one is wanted.
+pub(crate) fn copy_if(wanted: bool, alloc: Global, cut: &Cut) -> Result<Option<Cut>, AllocError>
     ensures { IfOk result (λ copy. copy ≡ (if wanted then Some cut.now else None)) }
 {
     if wanted {
@@ -81,19 +81,19 @@ impl CutCounts {
         self.counts.as_slice()
     }
 
-    /// Counts one more for a cut. Want of memory leaves the counters as they were.
+    /// Counts one more for a cut. If out of memory the counters are as they were.
     pub fn add(&mut self, cut: &Cut) -> Result<(), AllocError>
         requires room { count_of self.old cut.now ≤ 1024 }
         ensures ok { OnOk result (self.new ≡ one_more self.old cut.now) }
         ensures unchanged { OnErr result (self.new ≡ self.old) }
     {
-        // a cut that was counted has one at least, so none is answered
+        // a cut that was counted has at least one, so none is answered
         self.add_up_to(cut, 0)?;
         Ok(())
     }
 
-    /// Counts one more for a cut; the cut, where there are then just so many. Want of memory leaves
-    /// the counters as they were.
+    /// Counts one more for a cut; the cut, if there are then exactly this many. If out of memory
+    /// the counters are as they were.
     pub fn add_up_to(&mut self, cut: &Cut, enough: usize) -> Result<Option<Cut>, AllocError>
         requires room { count_of self.old cut.now ≤ 1024 }
         ensures ok { OnOk result (self.new ≡ one_more self.old cut.now) }
@@ -104,12 +104,13 @@ impl CutCounts {
         match place(&self.counts, cut) {
             Ok(i) => {
                 let count = self.counts[i].1 + 1;
-                let reached = copy_where(count == enough, self.alloc, cut)?;
+                let reached = copy_if(count == enough, self.alloc, cut)?;
+                // last, since the copy may be refused
                 self.counts[i].1 += 1;
                 Ok(reached)
             }
             Err(i) => {
-                let reached = copy_where(enough == 1, self.alloc, cut)?;
+                let reached = copy_if(enough == 1, self.alloc, cut)?;
                 let cut = cut.try_copy(self.alloc)?;
                 self.counts.insert(i, (cut, 1))?;
                 Ok(reached)

@@ -1,5 +1,5 @@
-//! The fast round of Fast Paxos (Lamport, 2006): a cut is decided where a fast quorum of members
-//! votes for it.
+//! The fast round of Fast Paxos (Lamport, 2006): a cut is decided if a fast quorum of members votes
+//! for it.
 #![tactic(auto)]
 
 mod counts;

@@ -17,7 +17,7 @@ pub enum HearError {
     /// The position is no member's.
     #[error("no member has this position")]
     NotMember,
-    /// Want of memory; nothing changed.
+    /// Out of memory; nothing changed.
     #[error("out of memory")]
     OutOfMemory,
 }
@@ -70,12 +70,12 @@ impl FastRound {
         }
     }
 
-    /// The own vote; the cut, where this vote completes a fast quorum for it. A second vote is
+    /// The own vote; the cut, if this vote completes a fast quorum for it. A second vote is
     /// ignored.
     ///
     /// # Errors
     ///
-    /// `NotMember` where the own position isn't below the number of members; `OutOfMemory`. Both
+    /// `NotMember` if the own position is not below the number of members; `OutOfMemory`. Both
     /// leave the round as it was.
     pub fn vote(&mut self, cut: &Cut) -> Result<Option<Cut>, HearError>
         ensures decided { IfOk result (λ d. d ≡ fast_decision self.old.round self.old.position cut.now) }
@@ -89,12 +89,12 @@ impl FastRound {
         self.hear(self.position, cut)
     }
 
-    /// A vote of the member at a position; the cut, where this vote completes a fast quorum for it.
-    /// A second vote of a member is ignored.
+    /// A vote of the member at a position; the cut, if this vote completes a fast quorum for it. A
+    /// second vote of a member is ignored.
     ///
     /// # Errors
     ///
-    /// `NotMember` where the position isn't below the number of members; `OutOfMemory`. Both leave
+    /// `NotMember` if the position is not below the number of members; `OutOfMemory`. Both leave
     /// the round as it was.
     #[inline(always)]
     pub fn hear(&mut self, position: usize, cut: &Cut) -> Result<Option<Cut>, HearError>
@@ -109,12 +109,13 @@ impl FastRound {
         if position >= self.size {
             return Err(HearError::NotMember);
         }
-        self.take(position, cut).map_err(|_| HearError::OutOfMemory)
+        self.count_vote(position, cut)
+            .map_err(|_| HearError::OutOfMemory)
     }
 
     /// Takes the vote of a member.
     #[inline(always)]
-    fn take(&mut self, position: usize, cut: &Cut) -> Result<Option<Cut>, AllocError>
+    fn count_vote(&mut self, position: usize, cut: &Cut) -> Result<Option<Cut>, AllocError>
         requires { position < self.old.round.size }
         ensures decided { IfOk result (λ d. d ≡ fast_decision self.old.round position cut.now) }
         ensures heard { OnOk result (self.new ≡ after_vote self.old position cut.now) }

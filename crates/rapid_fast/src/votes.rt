@@ -5,7 +5,7 @@ ghost use Rattle.std.specs.FinMap as map;
 ghost use Rattle.rapid_model.specs.FastRound.{count_of, one_more};
 
 use crate::CutCounts;
-use crate::counts::copy_where;
+use crate::counts::copy_if;
 use rapid_config::Cut;
 use std::alloc::{AllocError, Global};
 use std::marker::Model;
@@ -45,8 +45,8 @@ impl VoteCounts {
         }
     }
 
-    /// Counts one more vote for a cut; the cut, where there are then just so many. Want of memory
-    /// leaves the counters as they were.
+    /// Counts one more vote for a cut; the cut, if there are then exactly this many. If out of
+    /// memory the counters are as they were.
     #[inline(always)]
     pub(crate) fn add(&mut self, cut: &Cut, enough: usize) -> Result<Option<Cut>, AllocError>
         requires room { count_of self.old cut.now ≤ 1024 }
@@ -60,12 +60,12 @@ impl VoteCounts {
                 if first.0 != *cut {
                     return self.others.add_up_to(cut, enough);
                 }
-                let reached = copy_where(first.1 + 1 == enough, self.alloc, cut)?;
+                let reached = copy_if(first.1 + 1 == enough, self.alloc, cut)?;
                 first.1 += 1;
                 Ok(reached)
             }
             None => {
-                let reached = copy_where(enough == 1, self.alloc, cut)?;
+                let reached = copy_if(enough == 1, self.alloc, cut)?;
                 self.first = Some((cut.try_copy(self.alloc)?, 1));
                 Ok(reached)
             }

@@ -93,7 +93,7 @@ range_in a zero k i = absurd i
 range_in a (suc n) k (inl e) = (omega arith, omega arith)
 range_in a (suc n) k (inr i) = let rest = range_in (a + 1) n k i in (omega (arith, rest.0), omega (arith, rest.1))
 
--- where each number gives something, the i-th that is given is that of the i-th number
+-- if each number gives something, the i-th that is given is that of the i-th number
 pub given_by_number : {B : Type 0} (f : ℕ → Option B) (a n : ℕ) → ((k : ℕ) → a ≤ k → k < a + n → (y : B) × (f k ≡ Some y))
     → (length (filter_map f (range_with_len a n)) ≡ n) × ((i : ℕ) → i < n → slice_get (filter_map f (range_with_len a n)) i ≡ f (a + i))
 given_by_number f a zero h = (refl, λ i l. absurd (omega arith))

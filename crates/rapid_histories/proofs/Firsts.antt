@@ -129,7 +129,7 @@ module _ (s t : ℕ → Bool) (k : ℕ) (b : Bool) (new : s k ≡ false) (more :
             omega (arith, size-cons a (range_with_len (a + 1) n) s, size-cons a (range_with_len (a + 1) n) t, size_within (a + 1) n (omega (arith, other)) (omega arith), here)
       ]
 
-  -- one position more, where b
+  -- one position more, if b
   pub size_more : (n : ℕ) → k < n → size (positions n) t ≡ size (positions n) s + cond b 1 0
   size_more n h = size_within 0 n (omega arith) (omega arith)
 

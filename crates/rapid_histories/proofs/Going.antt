@@ -119,7 +119,7 @@ last_of total (y ∷ ys) o = let rest = last_of total ys o in last_more total o 
 
 -- ---- the nearest going round upwards to j
 
--- whether x is met before j where the ring begins
+-- whether x is met before j from where the ring begins
 abbrev near : ℕ → Process → Process → ℕ
 near k j x = cond (is_before k x j) 1 0
 
@@ -170,7 +170,7 @@ not_itself k x j =
     none_between (is_before k x j) (is_before k j j) (is_before k j x) (ap is_lt (tied_itself (ring_total k) j))
     (ap (λ r. is_lt r && is_before k x j) (turned k x j) ∙ not_both (ring_cmp k x j))
 
--- where a member is not j, some member is next before j
+-- if a member is not j, some member is next before j
 pub some_before : (ms : List Process) (k : ℕ) (o j : Process) → In ms o → same_bytes o j ≡ false → (x : Process) × In ms x × (is_next_before ms k j x ≡ true)
 some_before ms k o j at other = (x, inside.0, and_from _ _ inside.1 (all_of (λ m. not (is_between k x m j)) ms (λ m i. none m i (same_bytes m j) refl)))
   where

@@ -190,7 +190,7 @@ module _ (n : ℕ) (notices : List Notice) (l : Learner) (p : ℕ) (b : Ballot) 
       let many = ap classic_size k.many in
       omega (arith, much, few, many)
 
-  -- where none was complete and this is not, none is
+  -- if none was complete and this is not, none is
   none_full : full ≡ false → ((c : Ballot) (u : Cut) → HasClassicQuorum n notices c u → ⊥) → (c : Ballot) (u : Cut) → HasClassicQuorum n said c u → ⊥
   none_full h was c u quorum = by (is_of c u ((b, v), p)) refl
     where

@@ -3,7 +3,7 @@ use Rattle.std.specs.Prelude.{ℕ, ◌<◌, Bool, false, ◌==◌, List, All, Op
 use Rattle.std.specs.List.{find}
 use Rattle.std.specs.Option.{option_map}
 
--- What the position said first, none where it said nothing.
+-- What the position said first, none if it said nothing.
 abbrev pub first : {X : Type 0} → List (ℕ × X) → ℕ → Option X
 first said p = option_map (λ x. x.1) (find (λ x. x.0 == p) said)
 

@@ -16,7 +16,7 @@ SubjectsAreExact =
 abbrev pub SubjectsStandByRing : Type 0
 SubjectsStandByRing = (c : Configuration) (o : Process) → AllPairs (λ x y. x.0 < y.0) (subjects_of c o)
 
--- Where some member is not j, there is one observer for each ring, and the i-th is the one on ring i.
+-- If some member is not j, there is one observer for each ring, and the i-th is the one on ring i.
 abbrev pub ObserversStandByRing : Type 0
 ObserversStandByRing =
     (c : Configuration) (o j : Process) → IsTrue (is_member c o) → same_bytes o j ≡ false →

@@ -62,8 +62,8 @@ PromisesCount =
     (set.len (after_given (begun c b) given).heard ≡ size (positions c.size) (promisers b given))
     × TopIsOf c.size b given (after_given (begun c b) given).top (after_given (begun c b) given).counts
 
--- A promise brings a request exactly where it completes a classic quorum for the ballot, and it is for the value that
--- the promises then give.
+-- A promise brings a request exactly if it completes a classic quorum for the ballot, and it is for the value that the
+-- promises then give.
 abbrev pub PromisesComplete : Type 0
 PromisesComplete =
     (c : Coordinator) (b : Ballot) (given : List Given) (p : ℕ) (at : Ballot) (vote : Option (Vote Cut)) (own : Option Cut) (v : Cut) →

@@ -29,7 +29,7 @@ FirstVotesCount =
     (n : ℕ) (votes : List (ℕ × Cut)) (v : Cut) → OfMembers n votes →
     count_of (round_after n votes).counts v ≡ size (positions n) (voters votes v)
 
--- A vote decides exactly the cut that it is for, where it completes a fast quorum for it.
+-- A vote decides exactly the cut that it is for, if it completes a fast quorum for it.
 abbrev pub VotesComplete : Type 0
 VotesComplete =
     (n : ℕ) (votes : List (ℕ × Cut)) (p : ℕ) (v w : Cut) → OfMembers n votes → p < n →

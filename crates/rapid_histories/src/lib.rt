@@ -26,13 +26,13 @@ pub fn subjects_are_exact()
     ensures by_ring { SubjectsStandByRing }
 {}
 
-/// Where there is another member, a process has one observer on each ring, which stand by ring.
+/// If there is another member, a process has one observer on each ring, which stand by ring.
 pub fn observers_stand_by_ring()
     ensures { ObserversStandByRing }
 {}
 
 /// After any votes, a fast round counts for each cut the positions whose first vote was for it. A
-/// vote decides exactly where it completes a fast quorum for its cut, and none does after that.
+/// vote decides exactly if it completes a fast quorum for its cut, and none does after that.
 pub fn first_votes_decide()
     ensures counts { FirstVotesCount }
     ensures complete { VotesComplete }
@@ -40,8 +40,8 @@ pub fn first_votes_decide()
 {}
 
 /// After any notices, a learner counts for each ballot and cut the positions that gave notice of
-/// it. A notice teaches exactly where it is the first that completes a classic quorum for one
-/// ballot and one cut, and none does after that.
+/// it. A notice teaches exactly if it is the first that completes a classic quorum for one ballot
+/// and one cut, and none does after that.
 pub fn notices_teach()
     ensures counts { GiversCount }
     ensures complete { NoticesComplete }
@@ -50,7 +50,7 @@ pub fn notices_teach()
 
 /// After any promises since it began a ballot, a coordinator has heard the positions that promised
 /// it, and counts what their first promises report at the highest ballot. A promise brings a
-/// request exactly where it completes a classic quorum and the promises then give a value, and none
+/// request exactly if it completes a classic quorum and the promises then give a value, and none
 /// does after that.
 pub fn promises_ask()
     ensures counts { PromisesCount }
@@ -58,8 +58,8 @@ pub fn promises_ask()
     ensures once { RequestsOnce }
 {}
 
-/// Of five members the fourth vote for one cut decides, where votes for another cut and second
-/// votes count for nothing.
+/// Of five members the fourth vote for one cut decides; votes for another cut and second votes
+/// count for nothing.
 pub fn the_fourth_of_five_decides()
     ensures last { fast_decision (round_after 5 three_of_five) 3 one_cut ≡ Some one_cut }
     ensures other { fast_decision (round_after 5 three_of_five) 3 other_cut ≡ None }
@@ -74,8 +74,8 @@ pub fn the_third_of_five_teaches()
     ensures neither { learnt (learner_after 5 two_and_two) 0 high_ballot one_cut ≡ None }
 {}
 
-/// Of five members the third promise of the ballot completes a classic quorum, where a second
-/// promise of one and a promise of another ballot count for nothing.
+/// Of five members the third promise of the ballot completes a classic quorum; a second promise of
+/// one, and a promise of another ballot, count for nothing.
 pub fn the_third_of_five_completes()
     ensures before { HasMajority 5 low_ballot two_promises → ⊥ }
     ensures again { HasMajority 5 low_ballot (two_promises ++ (0, (low_ballot, None)) ∷ []) → ⊥ }

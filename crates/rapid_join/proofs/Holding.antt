@@ -39,7 +39,7 @@ same_endpoints ps xs ys e moved =
     ∙ sym (set.contains-from_list processes_total xs q))
     ∙ ap (λ (l : List (List ℕ)). set.from_list {R = bytes_cmp} l) e
 
--- a process collides with members where one of them has its identifier, or where its endpoint is among theirs
+-- a process collides with members if one of them has its identifier, or if its endpoint is among theirs
 pub collides_is : (ps : List Process) (p : Process) → collides ps p ≡ (list_any (same_identifier p) ps || set.contains (endpoints_of ps) (endpoint p))
 unfolding endpoints_of
 collides_is ps p = split ps ∙ ap (λ b. list_any (same_identifier p) ps || b) (sym (set.contains-from_list processes_total (map endpoint ps) (endpoint p)))
@@ -61,12 +61,12 @@ pub collides_by : (ms ps : List Process) (p : Process) (a b : Bool) → ms ≡ p
 collides_by ms ps p a b e f g =
     ap (λ (x : Bool). x || b) (f ∙ ap (list_any (same_identifier p)) e) ∙ ap (λ (x : Bool). list_any (same_identifier p) ps || x) g ∙ sym (collides_is ps p)
 
--- where the identifier is held, its search alone says so
+-- if the identifier is held, its search alone says so
 pub collides_at_once : (ms ps : List Process) (p : Process) (a : Bool) → ms ≡ ps → a ≡ list_any (same_identifier p) ms → a ≡ true → a ≡ collides ps p
 collides_at_once ms ps p a e f held =
     held ∙ ap (λ (x : Bool). x || set.contains (endpoints_of ps) (endpoint p)) (sym held)
     ∙ collides_by ms ps p a (set.contains (endpoints_of ps) (endpoint p)) e f refl
 
--- where it is not, the search by endpoint does
+-- if it is not, the search by endpoint does
 pub collides_by_endpoint : (ms ps : List Process) (p : Process) (a b : Bool) → ms ≡ ps → a ≡ list_any (same_identifier p) ms → a ≡ false → b ≡ set.contains (endpoints_of ps) (endpoint p) → b ≡ collides ps p
 collides_by_endpoint ms ps p a b e f free g = ap (λ (x : Bool). x || b) (sym free) ∙ collides_by ms ps p a b e f g

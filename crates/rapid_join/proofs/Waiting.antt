@@ -25,7 +25,7 @@ pub told_to_all : (next : Configuration) (ks : List Process) → IsStrictlySorte
 unfolding confirms
 told_to_all next ks h = ap (map (λ j. (j, answer_after next j))) (keys_in_order ks h)
 
--- where none is left, all are answered
+-- if none is left, all are answered
 pub none_left : {X Y K : Type 0} (f : X → Y) (g : K → Y) (told : List X) (left start ks : List K) → map f told ++ map g left ≡ map g start → left ≡ [] → start ≡ ks → map f told ≡ map g ks
 none_left f g told left start ks h none all =
     sym (append-nil (map f told)) ∙ ap (λ l. map f told ++ map g l) (sym none) ∙ h ∙ ap (map g) all
@@ -34,7 +34,7 @@ none_left f g told left start ks h none all =
 pub none_few : (s : ProcessSet) → s ≡ set.empty → set.len s ≤ 512
 none_few s e = let none = ap set.len e ∙ set.len-empty process_cmp in omega (arith, none)
 
--- where there is room for a joiner, they are few with it
+-- if there is room for a joiner, they are few with it
 pub few_with : (s : ProcessSet) (j : Process) → set.len s ≤ 512 → is_full_for s j ≡ false → set.len (set.insert s j) ≤ 512
 few_with s j few room =
     elim (set.contains s j) as (λ b. set.contains s j ≡ b → set.len (set.insert s j) ≤ 512) [

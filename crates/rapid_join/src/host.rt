@@ -15,7 +15,7 @@ ghost use Rattle.rapid_join.specs.Hosts.{fresh_host};
 use crate::endpoints::MemberEndpoints;
 use crate::pending::PendingSet;
 use crate::{HostAnswer, Reply, RingObservers};
-use rapid_config::{ConfigId, Configuration};
+use rapid_config::{ConfigId, Configuration, Cut};
 use rapid_endpoint::Process;
 use rapid_rings::{ObserverTable, Rings};
 use std::alloc::{AllocError, Global};
@@ -53,7 +53,7 @@ impl Model for Host {
 
 impl Host {
     /// The most joiners that can be pending.
-    pub const MOST: usize = 512;
+    pub const MOST: usize = Cut::MOST_JOINERS;
 
     /// The host of a member in a configuration, at which nobody is pending. It computes the rings
     /// of the configuration.
@@ -91,9 +91,9 @@ impl Host {
     }
 
     /// A joiner's first question. The answer is the first of these that holds: `Confirm` of the
-    /// configuration where the joiner is a member, `EndpointInUse` where a member has its
-    /// identifier or its endpoint, `TooManyJoiners` where 512 others are pending here, else `Safe`
-    /// with its observers by ring, of whom there is one where the host is of a member.
+    /// configuration if the joiner is a member, `EndpointInUse` if a member has its identifier or
+    /// its endpoint, `TooManyJoiners` if 512 others are pending here, else `Safe` with its
+    /// observers by ring, of whom there is at least one if the host is a member's.
     #[tactic(auto, unfolding(rapid_model::specs::Host::pre_join))]
     pub fn pre_join(&self, joiner: &Process) -> Result<HostAnswer, AllocError>
         ensures answer { IfOk result (λ answer. host_answer_of answer ≡ model.pre_join self.now.config self.now.pending joiner.now) }
@@ -112,11 +112,11 @@ impl Host {
     }
 
     /// A joiner's request to its observer on a ring, in the configuration with the identifier. The
-    /// answer is the first of these that holds: `Confirm` of the configuration where the joiner is
-    /// a member, `ConfigurationChanged` where the identifier is another, `EndpointInUse` where a
-    /// member has the joiner's identifier or endpoint, `Nothing` where this member does not observe
-    /// it on the ring, `TooManyJoiners` where 512 others are pending here, else `Raise`, and the
-    /// joiner is pending. Want of memory leaves the host as it was.
+    /// answer is the first of these that holds: `Confirm` of the configuration if the joiner is a
+    /// member, `ConfigurationChanged` if the identifier is another, `EndpointInUse` if a member has
+    /// the joiner's identifier or endpoint, `Nothing` if this member does not observe it on the
+    /// ring, `TooManyJoiners` if 512 others are pending here, else `Raise`, and the joiner is
+    /// pending. If out of memory the host is as it was.
     #[tactic(auto, unfolding(rapid_model::specs::Host::join_request))]
     pub fn join_request(
         &mut self,
@@ -148,8 +148,8 @@ impl Host {
     }
 
     /// What each pending joiner gets after a change to the next configuration, by ascending
-    /// process: `Confirm` of it where the joiner is a member there, else `ConfigurationChanged`.
-    /// None is pending afterwards. Want of memory leaves the host as it was.
+    /// process: `Confirm` of it if the joiner is a member there, else `ConfigurationChanged`. None
+    /// is pending afterwards. If out of memory the host is as it was.
     pub fn confirms(
         &mut self,
         next: &Configuration,

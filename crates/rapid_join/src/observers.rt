@@ -5,6 +5,7 @@ ghost use Rattle.std.specs.Arc.{arc_slice_items};
 ghost use Rattle.std.specs.Option.{option_to_list};
 ghost use Rattle.rapid_model.specs.Host.{observers_for};
 
+use rapid_config::Params;
 use rapid_endpoint::Process;
 use rapid_rings::{ObserverTable, Rings};
 use std::alloc::{AllocError, Global};
@@ -31,7 +32,7 @@ impl Model for RingObservers {
 
 impl RingObservers {
     /// The most rings.
-    pub const MOST: usize = 16;
+    pub const MOST: usize = Params::MOST_RINGS as usize;
 
     /// These observers, from ring 0 on.
     pub fn new(observers: Vec<Process>) -> Result<RingObservers, AllocError>

@@ -56,7 +56,7 @@ impl PendingSet {
         self.joiners.contains(joiner)
     }
 
-    /// Adds a joiner. Want of memory leaves the set as it was.
+    /// Adds a joiner. If out of memory the set is as it was.
     pub(crate) fn insert(&mut self, joiner: Process) -> Result<(), AllocError>
         ensures ok { OnOk result (self.new ≡ set.insert self.old joiner) }
         ensures unchanged { OnErr result (self.new ≡ self.old) }

@@ -15,7 +15,7 @@ module _ {T : Type 0} where
   abbrev pub Waiting : List T → List T → List T → Type 0
   Waiting put known items = (taken : List T) × (put ≡ taken ++ items) × StartsWith taken known
 
-  -- at one moment so many of what was put were still to be taken
+  -- at one moment this many of what was put were still to be taken
   abbrev pub Untaken : List T → List T → ℕ → Type 0
   Untaken put known n = (items : List T) × (length items ≡ n) × Waiting put known items
 

@@ -20,14 +20,14 @@ pub struct Sink<T: Drop, P: Order<T>> {
 }
 
 impl<T: Drop, P: Order<T>> Model for Sink<T, P> {
-    ghost use Rattle.std.specs.Prelude.{◌≡◌, ℕ, List, true, false};
+    ghost use Rattle.std.specs.Prelude.{◌≡◌, true, false};
     ghost use Rattle.std.specs.Arc.{arc_value};
-    ghost use Rattle.atomic_table.specs.Seated.{TableId};
     ghost use Rattle.crossbeam_queue.specs.Passes.{view as pass_view, IsPassOf, ruled_capacity};
+    ghost use Rattle.rapid_line.specs.Ends.{SinkState};
 
-    ghost Value = { TableId × List T × List T × ℕ };
+    ghost Value = { SinkState T };
 
-    ghost view = { λ s. (s.pass.table_id, (pass_view s.pass).put, (pass_view s.pass).taken, ruled_capacity (arc_value s.queue)) };
+    ghost view = { λ s. record { queue = s.pass.table_id; put = (pass_view s.pass).put; known = (pass_view s.pass).taken; room = ruled_capacity (arc_value s.queue) } };
 
     ghost invariant = { λ s. IsPassOf (arc_value s.queue) s.pass × ((pass_view s.pass).puts ≡ true) × ((pass_view s.pass).takes ≡ false) };
 }
@@ -40,26 +40,26 @@ pub struct Source<T: Drop, P: Order<T>> {
 }
 
 impl<T: Drop, P: Order<T>> Model for Source<T, P> {
-    ghost use Rattle.std.specs.Prelude.{◌≡◌, List, true, false};
+    ghost use Rattle.std.specs.Prelude.{◌≡◌, true, false};
     ghost use Rattle.std.specs.Arc.{arc_value};
-    ghost use Rattle.atomic_table.specs.Seated.{TableId};
     ghost use Rattle.crossbeam_queue.specs.Passes.{view as pass_view, IsPassOf};
+    ghost use Rattle.rapid_line.specs.Ends.{SourceState};
 
-    ghost Value = { TableId × List T };
+    ghost Value = { SourceState T };
 
-    ghost view = { λ s. (s.pass.table_id, (pass_view s.pass).taken) };
+    ghost view = { λ s. record { queue = s.pass.table_id; taken = (pass_view s.pass).taken } };
 
     ghost invariant = { λ s. IsPassOf (arc_value s.queue) s.pass × ((pass_view s.pass).takes ≡ true) };
 }
 
-/// An empty queue for so many items, at least one.
+/// An empty queue for this many items, at least one.
 pub fn line<T: Drop, P: Order<T>>(
     alloc: Global,
     capacity: usize,
 ) -> Result<(Sink<T, P>, Source<T, P>), AllocError>
     requires { 0 < capacity }
-    ensures empty { IfOk result (λ r. (r.0.0 ≡ r.1.0) × (r.0.1 ≡ []) × (r.1.1 ≡ [])) }
-    ensures room { IfOk result (λ r. (r.0.2 ≡ []) × (r.0.3 ≡ capacity)) }
+    ensures empty { IfOk result (λ r. (r.0.queue ≡ r.1.queue) × (r.0.put ≡ []) × (r.1.taken ≡ [])) }
+    ensures room { IfOk result (λ r. (r.0.known ≡ []) × (r.0.room ≡ capacity)) }
 {
     let (queue, mut writer) = RuledArrayQueue::ruled(alloc, capacity)?;
     let reader = queue.another::<Roles>(&mut writer);
@@ -80,19 +80,19 @@ impl<T: Drop, P: Order<T>> Sink<T, P> {
     /// Puts an item if there is room. The item comes back only if at one moment of the call the
     /// queue was full: as many items as it has room for were still to be taken.
     pub fn put<R: Wait>(&mut self, rt: &R, item: T) -> Result<(), T>
-        requires { P.next self.old.1 item }
-        ensures queue { (self.new.0 ≡ self.old.0) × (self.new.2 ≡ self.old.2) × (self.new.3 ≡ self.old.3) }
-        ensures put { MatchResult result (λ _. self.new.1 ≡ self.old.1 ++ item ∷ []) (λ x. (x ≡ item) × (self.new.1 ≡ self.old.1)) }
-        ensures full { IfErr result (λ _. Untaken self.old.1 self.old.2 self.old.3) }
+        requires { P.next self.old.put item }
+        ensures queue { (self.new.queue ≡ self.old.queue) × (self.new.known ≡ self.old.known) × (self.new.room ≡ self.old.room) }
+        ensures put { MatchResult result (λ _. self.new.put ≡ self.old.put ++ item ∷ []) (λ x. (x ≡ item) × (self.new.put ≡ self.old.put)) }
+        ensures full { IfErr result (λ _. Untaken self.old.put self.old.known self.old.room) }
     {
         push(rt, &self.queue, &mut self.pass, item)
     }
 
     /// Puts an item, and waits for room if there is none.
     pub fn put_when_free<R: Wait>(&mut self, rt: &R, item: T)
-        requires { P.next self.old.1 item }
-        ensures queue { (self.new.0 ≡ self.old.0) × (self.new.2 ≡ self.old.2) × (self.new.3 ≡ self.old.3) }
-        ensures put { self.new.1 ≡ self.old.1 ++ item ∷ [] }
+        requires { P.next self.old.put item }
+        ensures queue { (self.new.queue ≡ self.old.queue) × (self.new.known ≡ self.old.known) × (self.new.room ≡ self.old.room) }
+        ensures put { self.new.put ≡ self.old.put ++ item ∷ [] }
     {
         let mut item = item;
         for _ in rt.forever() {
@@ -104,20 +104,20 @@ impl<T: Drop, P: Order<T>> Sink<T, P> {
         unreachable!()
     }
 
-    /// How many items were in the queue at one moment of the call. So many were still to be taken.
+    /// How many items were in the queue, and still to be taken, at one moment of the call.
     pub fn len<R: Wait>(&mut self, rt: &R) -> usize
         ensures same { self.new ≡ self.old }
-        ensures untaken { (result ≤ self.old.3) × Untaken self.old.1 self.old.2 result }
+        ensures untaken { (result ≤ self.old.room) × Untaken self.old.put self.old.known result }
     {
         count(rt, &self.queue, &mut self.pass)
     }
 
     /// What was taken is a beginning of what was put, and is known to be taken from then on.
     pub fn compare(&mut self, source: &mut Source<T, P>)
-        requires { self.old.0 ≡ source.old.0 }
-        ensures same { (self.new.0 ≡ self.old.0) × (self.new.1 ≡ self.old.1) × (self.new.3 ≡ self.old.3) × (source.new ≡ source.old) }
-        ensures known { self.new.2 ≡ source.old.1 }
-        ensures order { StartsWith self.old.1 source.old.1 }
+        requires { self.old.queue ≡ source.old.queue }
+        ensures same { (self.new.queue ≡ self.old.queue) × (self.new.put ≡ self.old.put) × (self.new.room ≡ self.old.room) × (source.new ≡ source.old) }
+        ensures known { self.new.known ≡ source.old.taken }
+        ensures order { StartsWith self.old.put source.old.taken }
     {
         compare(&self.queue, &mut self.pass, &mut source.pass);
     }
@@ -126,8 +126,8 @@ impl<T: Drop, P: Order<T>> Sink<T, P> {
 impl<T: Drop, P: Order<T>> Source<T, P> {
     /// Takes the oldest item.
     pub fn take<R: Wait>(&mut self, rt: &R) -> Option<T>
-        ensures queue { self.new.0 ≡ self.old.0 }
-        ensures taken { MatchOption result (self.new.1 ≡ self.old.1) (λ x. (self.new.1 ≡ self.old.1 ++ x ∷ []) × P.next self.old.1 x) }
+        ensures queue { self.new.queue ≡ self.old.queue }
+        ensures taken { MatchOption result (self.new.taken ≡ self.old.taken) (λ x. (self.new.taken ≡ self.old.taken ++ x ∷ []) × P.next self.old.taken x) }
     {
         pop(rt, &self.queue, &mut self.pass)
     }

@@ -53,7 +53,7 @@ sends_at s (x ∷ xs) ys e =
     let same : x ∷ xs ≡ ys = cc in
     ap (λ (l : List Alert). says_batch (record s { outbox = flush s.outbox }) l) same
 
--- where there is a batch to flush, it goes out and is taken
+-- if there is a batch to flush, it goes out and is taken
 pub sends_some : (s : MemberState) (ys : List Alert) → Some ys ≡ batch_of (unflushed s.outbox) → sends_batch s ≡ says_batch (record s { outbox = flush s.outbox }) ys
 unfolding sends_batch
 sends_some s ys e = sends_at s (unflushed s.outbox) ys e

@@ -10,17 +10,17 @@ no_batch [] b e h = refl
 no_batch (x ∷ xs) None e h = cc
 no_batch (x ∷ xs) (Some ys) e h = cc
 
--- where none waits, a flush changes nothing
+-- if none waits, a flush changes nothing
 pub still_flushed : (o : Outbox) → unflushed o ≡ [] → flush o ≡ o
 still_flushed o e =
     let same : o.flushed + length (unflushed o) ≡ o.flushed = ap (λ xs. o.flushed + length xs) e ∙ omega arith in
     ap (λ n. record { raised = o.raised; flushed = n }) same
 
--- where none waits, there is no batch
+-- if none waits, there is no batch
 pub none_flushed : (o : Outbox) → unflushed o ≡ [] → batch_of (unflushed o) ≡ None
 none_flushed o e = ap batch_of e
 
--- where a flush gave no batch, none waits after it
+-- if a flush gave no batch, none waits after it
 pub all_flushed : (o new : Outbox) (b : Option (List Alert)) (waits : Bool) → new ≡ flush o → b ≡ batch_of (unflushed o) → waits ≡ is_some b → waits ≡ false → unflushed new ≡ []
 all_flushed o new b waits same e w h =
     let none : unflushed o ≡ [] = no_batch (unflushed o) b e cc in

@@ -13,7 +13,7 @@ abbrev pub AreSameParts : Rest → Rest → Type 0
 AreSameParts a b =
     (arc_value b.ballots ≡ arc_value a.ballots)
     × (arc_value b.raised ≡ arc_value a.raised)
-    × (arc_value b.watch ≡ arc_value a.watch)
+    × (arc_value b.detection ≡ arc_value a.detection)
     × (arc_value b.waiting ≡ arc_value a.waiting)
 
 -- The member of these parts: whether it has voted, its ticks, and the tick of the first vote.
@@ -23,7 +23,7 @@ member_of c v r voted tick first =
       config = c.configuration;
       me = c.me;
       outbox = (arc_value r.raised).outbox;
-      detector = (arc_value r.watch).detector;
+      detector = (arc_value r.detection).detector;
       fast = v.round.round;
       acceptor = (arc_value r.ballots).acceptor;
       coordinator = (arc_value r.ballots).coordinator;
@@ -48,7 +48,7 @@ pub record IsContext (c : Context) : Type 0 where
 pub record AreParts (c : Context) (v : Votes) (r : Rest) : Type 0 where
   pub outbox_rings : (arc_value r.raised).table ≡ c.configuration
   pub outbox_owner : (arc_value r.raised).owner ≡ c.me
-  pub detector_rings : (arc_value r.watch).table ≡ c.configuration
+  pub detector_rings : (arc_value r.detection).table ≡ c.configuration
   pub fast_size : v.round.round.size ≡ length c.configuration.members
   pub coordinator_size : (arc_value r.ballots).coordinator.size ≡ length c.configuration.members
   pub learner_size : (arc_value r.ballots).learner.size ≡ length c.configuration.members

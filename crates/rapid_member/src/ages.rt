@@ -9,8 +9,11 @@ use std::alloc::{AllocError, Global};
 use std::collections::BTreeMap;
 use std::marker::Model;
 
-/// The age to which processes grow.
-const MOST: u8 = 41;
+/// The age at which an unstable process is echoed.
+pub(crate) const ECHO_AGE: u8 = 40;
+
+/// The age to which processes grow: one more, so that a process has the age of an echo once.
+const OLDEST: u8 = ECHO_AGE + 1;
 
 /// At how many successive ticks, at most 41, each process was unstable.
 #[derive(Debug, Drop)]
@@ -54,16 +57,17 @@ impl Ages {
     pub(crate) fn next(&self, unstable: &[Process]) -> Result<Ages, AllocError>
         ensures { IfOk result (λ ages. ages ≡ next_ages self.now unstable.now) }
     {
+        // from the last on, as the definition makes the map
         let count = unstable.len();
         let mut next = Ages::new(self.alloc);
         for i in 0..count {
             let process = unstable[count - 1 - i];
-            next.insert(process, self.of(&process).saturating_add(1).min(MOST))?;
+            next.insert(process, self.of(&process).saturating_add(1).min(OLDEST))?;
         }
         Ok(next)
     }
 
-    /// Sets the age of a process. Want of memory leaves the ages as they were.
+    /// Sets the age of a process. If out of memory the ages are as they were.
     fn insert(&mut self, process: Process, age: u8) -> Result<(), AllocError>
         ensures ok { OnOk result (self.new ≡ map.insert self.old process age) }
         ensures unchanged { OnErr result (self.new ≡ self.old) }

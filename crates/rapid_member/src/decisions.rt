@@ -15,7 +15,7 @@ use std::marker::Model;
 use std::sync::ArcSlice;
 
 /// How many decisions are kept.
-const KEPT: usize = 64;
+const KEPT_DECISIONS: usize = 64;
 
 /// The last 64 configurations that were left, each with the cut decided there. Copies share one
 /// list.
@@ -64,7 +64,11 @@ impl Decisions {
         ensures { IfOk result (λ d. d ≡ last_64 (self.now ++ (id, cut) ∷ [])) }
     {
         let decided = self.decided.as_slice();
-        let first = if decided.len() == KEPT { 1 } else { 0 };
+        let first = if decided.len() == KEPT_DECISIONS {
+            1
+        } else {
+            0
+        };
         let mut kept = copy_all(alloc, &decided[first..])?;
         kept.push((id, cut))?;
         let decided = ArcSlice::from_vec(kept)?;
@@ -83,7 +87,7 @@ impl Decisions {
         Some(&found.1)
     }
 
-    /// Answers a message about a configuration that was left. Want of memory says nothing.
+    /// Answers a message about a configuration that was left. If out of memory it says nothing.
     pub fn catch_up(
         &self,
         alloc: Global,

@@ -60,6 +60,7 @@ fn say_all(
     ensures said { OnOk result (out.new.items ≡ out.old.items ++ outputs me (flat_map (λ x. answer_to x.0 x.1) (map answered_of answers.now))) }
     ensures unchanged { OnErr result (out.new.items ≡ out.old.items) }
 {
+    // gathered apart, so that nothing is said if memory runs out on the way
     let mut said = Vec::new(alloc);
     for (joiner, answered) in answers {
         say_answer(alloc, &mut said, me, joiner, answered)?;
@@ -78,6 +79,7 @@ fn send_requests(
     ensures said { OnOk result (out.new.items ≡ out.old.items ++ outputs me (map (λ x. Says (To x.0) x.1) (map request_of requests.now))) }
     ensures unchanged { OnErr result (out.new.items ≡ out.old.items) }
 {
+    // gathered apart, so that nothing is sent if memory runs out on the way
     let mut said = Vec::new(alloc);
     for request in requests {
         let body = Body::JoinRequest(request.id, request.ring);
@@ -87,7 +89,7 @@ fn send_requests(
     Ok(())
 }
 
-/// Sends, in the name of this process, what a joiner answers. Want of memory sends nothing.
+/// Sends, in the name of this process, what a joiner answers. If out of memory it sends nothing.
 pub fn send_joining(
     alloc: Global,
     out: &mut Vec<Output>,
@@ -105,8 +107,8 @@ pub fn send_joining(
 }
 
 /// Says, in the name of this process, to the joiners that wait at a member what they get after a
-/// change to the next configuration. None waits afterwards. Want of memory says nothing; who waits
-/// is open then, and the rest of the member stays.
+/// change to the next configuration. None waits afterwards. If out of memory it says nothing; who
+/// waits is open then, and the rest of the member stays.
 pub fn confirm_pending(
     alloc: Global,
     out: &mut Vec<Output>,

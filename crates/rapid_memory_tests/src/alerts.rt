@@ -19,7 +19,7 @@ fn alert(kind: Kind, ring: u8, observer: u16, subject: u16) -> Alert {
     }
 }
 
-/// How many alerts the next batch has; 0 where there is none.
+/// How many alerts the next batch has; 0 if there is none.
 fn flushed(outbox: &mut Outbox<Table>) -> Result<usize, AllocError> {
     match outbox.flush()? {
         Some(batch) => Ok(batch.alerts().len()),
@@ -33,7 +33,7 @@ enum Call {
     /// An alert of a kind, on a ring, of an observer, on a subject. It is raised, again if no memory
     /// was to be had.
     RaiseAgain(Kind, u8, u16, u16),
-    /// A batch of so many alerts, asked for again if no memory was to be had.
+    /// A batch of this many alerts, asked for again if no memory was to be had.
     FlushAgain(usize),
 }
 
@@ -88,11 +88,11 @@ const AGAIN: [Call; 2] = [Call::RaiseAgain(Kind::Join, 0, 1, 2), Call::FlushAgai
 
 /// After a refused growth the outbox is as it was, and the next call works.
 #[test]
-fn want_of_memory_leaves_the_outbox_as_it_was(rt: HostRuntime) -> Result<(), Fail> {
+fn out_of_memory_leaves_the_outbox_as_it_was(rt: HostRuntime) -> Result<(), Fail> {
     runs(rt.alloc(), &AGAIN)
 }
 
-/// So many alerts of process 1 on process 5.
+/// This many alerts of process 1 on process 5.
 fn alerts(alloc: Global, many: usize) -> Result<Vec<Alert>, AllocError> {
     let mut alerts = Vec::new(alloc);
     for _ in 0..many {
@@ -108,7 +108,7 @@ fn copy_has_two(alloc: Global) -> Result<bool, BatchError> {
 }
 
 #[test]
-fn want_of_memory_in_batches(rt: HostRuntime) -> Result<(), Fail> {
+fn out_of_memory_in_batches(rt: HostRuntime) -> Result<(), Fail> {
     assert!(rt; copy_has_two(rt.alloc())?);
     Ok(())
 }

@@ -91,7 +91,7 @@ fn done<R: Wait>(rt: &R, alloc: Global, door: &Door, jobs: &[Job]) -> Result<u64
 /// refused for another reason, so that a clerk which went on would have come to more jobs than
 /// that.
 #[test]
-fn a_clerk_stops_at_want_of_memory(rt: HostRuntime) -> Result<(), Fail> {
+fn a_clerk_stops_if_out_of_memory(rt: HostRuntime) -> Result<(), Fail> {
     let door = Door::until(6);
     let unsent = Job::Event(Deliver(0));
     let jobs = [joins(), Job::Turn, Job::Turn, Job::Turn, Job::Turn, unsent];
@@ -120,7 +120,7 @@ fn adds_up<L: Ledger + Send + Sync, R: Threads + Wait + Sync>(
 }
 
 #[test]
-fn what_clerks_did_is_stored_with_want_of_memory(rt: HostRuntime) -> Result<(), Fail> {
+fn what_clerks_did_is_stored_if_out_of_memory(rt: HostRuntime) -> Result<(), Fail> {
     assert!(rt; adds_up::<Brand, HostRuntime>(&rt, rt.alloc(), Blank::new(33))?);
     Ok(())
 }

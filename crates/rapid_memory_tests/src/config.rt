@@ -8,7 +8,7 @@ use std::alloc::{AllocError, Global};
 use std::test::Fail;
 
 #[test]
-fn want_of_memory_in_texts(rt: HostRuntime) -> Result<(), Fail> {
+fn out_of_memory_in_texts(rt: HostRuntime) -> Result<(), Fail> {
     let printed = Endpoint::new([127, 0, 0, 1], 7000).to_string(rt.alloc())?;
     assert!(rt; printed.as_str() == "127.0.0.1:7000");
     Ok(())
@@ -29,7 +29,7 @@ fn are(processes: &[Process], names: &[Name]) -> bool {
 }
 
 #[test]
-fn want_of_memory_in_cuts(rt: HostRuntime) -> Result<(), Fail> {
+fn out_of_memory_in_cuts(rt: HostRuntime) -> Result<(), Fail> {
     let copy = cut(rt.alloc(), &[(2, 2), (3, 3)])?.try_copy(rt.alloc())?;
     assert!(rt; are(copy.processes(), &[(2, 2), (3, 3)]));
     Ok(())
@@ -59,14 +59,14 @@ fn is_read_again(alloc: Global, configuration: &Configuration) -> Result<bool, F
 }
 
 #[test]
-fn want_of_memory_in_readings(rt: HostRuntime) -> Result<(), Fail> {
+fn out_of_memory_in_readings(rt: HostRuntime) -> Result<(), Fail> {
     let two = founded(rt.alloc(), (3, 3, 1), 2)?;
     assert!(rt; is_read_again(rt.alloc(), &two)?);
     Ok(())
 }
 
 #[test]
-fn want_of_memory_in_changes(rt: HostRuntime) -> Result<(), Fail> {
+fn out_of_memory_in_changes(rt: HostRuntime) -> Result<(), Fail> {
     let cut = cut(rt.alloc(), &[(2, 2), (3, 3)])?;
     let next = founded(rt.alloc(), (3, 3, 1), 2)?.apply(rt.alloc(), &cut)?;
     assert!(rt; are(next.members(), &[(1, 1), (3, 3)]));

@@ -13,8 +13,8 @@ use std::test::Fail;
 /// A call of a detector, and what it answers.
 #[derive(Clone, Copy, Debug)]
 enum Call<'a> {
-    /// A batch that removes, the numbers of its cut, none where it has no cut, and how many alerts
-    /// are skipped. It is handed in again if no memory was to be had.
+    /// A batch that removes, the numbers of its cut, none if it has no cut, and how many alerts are
+    /// skipped. It is handed in again if no memory was to be had.
     RemoveAgain(&'a [Edge], &'a [u16], usize),
     /// How many reports there are on a process.
     Tally(u16, usize),
@@ -58,7 +58,7 @@ fn is_cut_of(cut: &Option<Cut>, numbers: &[u16]) -> bool {
     }
 }
 
-/// Whether a batch has this cut and skips so many alerts.
+/// Whether a batch has this cut and skips this many alerts.
 fn has_cut(
     detector: &mut Detector<Table>,
     alerts: &[Alert],
@@ -69,7 +69,7 @@ fn has_cut(
     Ok(is_cut_of(&found, cut) && detector.skipped() == skipped)
 }
 
-/// Whether a batch that removes has this cut and skips so many alerts.
+/// Whether a batch that removes has this cut and skips this many alerts.
 fn cuts(
     alloc: Global,
     detector: &mut Detector<Table>,
@@ -79,8 +79,8 @@ fn cuts(
     has_cut(detector, alerts.as_slice(), cut, skipped)
 }
 
-/// Whether a batch that removes has this cut and skips so many alerts, handed in again if no memory
-/// was to be had: the detector is then as it was.
+/// Whether a batch that removes has this cut and skips this many alerts, handed in again if no
+/// memory was to be had: the detector is then as it was.
 fn cuts_again(
     alloc: Global,
     detector: &mut Detector<Table>,
@@ -131,6 +131,6 @@ const BRINGS: [Call; 3] = [
 /// After a refused growth the detector is as it was, so that batches handed in again bring the same
 /// cut.
 #[test]
-fn want_of_memory_leaves_the_detector_as_it_was(rt: HostRuntime) -> Result<(), Fail> {
+fn out_of_memory_leaves_the_detector_as_it_was(rt: HostRuntime) -> Result<(), Fail> {
     runs(rt.alloc(), &BRINGS)
 }

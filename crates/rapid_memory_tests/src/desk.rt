@@ -38,7 +38,7 @@ fn confirmation(configuration: Configuration) -> Result<Event, MessageError> {
     Ok(Event::Receive(message))
 }
 
-/// The desk of process 1 alone, with so many seats. If its first view was not published, memory
+/// The desk of process 1 alone, with this many seats. If its first view was not published, memory
 /// had run out.
 fn alone<R: Wait + Abort>(rt: &R, alloc: Global, seats: usize) -> Result<Box<Desk<&R>>, Fail>
     requires { (0 < seats) × (seats ≤ 64) }
@@ -141,7 +141,7 @@ fn all_see_three<R: Wait + Abort>(
 }
 
 #[test]
-fn want_of_memory_at_decisions(rt: HostRuntime) -> Result<(), Fail> {
+fn out_of_memory_at_decisions(rt: HostRuntime) -> Result<(), Fail> {
     let mut desk = alone(&rt, rt.alloc(), 1)?;
     let mut subscription = desk.subscribe(2)?;
     let mut seats = desk.take_seats().expect(&rt, "the seats");
@@ -163,7 +163,7 @@ fn has_seats_once_in<R: Wait + Abort>(
 }
 
 #[test]
-fn want_of_memory_at_a_first_view(rt: HostRuntime) -> Result<(), Fail> {
+fn out_of_memory_at_a_first_view(rt: HostRuntime) -> Result<(), Fail> {
     let seed = Endpoint::new([127, 0, 0, 1], 1);
     let desk = Desk::joiner(&rt, rt.alloc(), process(2), seed, 1)?;
     let mut desk = Box::new(rt.alloc(), desk)?;

@@ -109,7 +109,7 @@ const ONE: [Name; 1] = [(1, 1)];
 
 /// After a refused growth the host is as it was, so that it answers the same when it is asked again.
 #[test]
-fn want_of_memory_leaves_the_host_as_it_was(rt: HostRuntime) -> Result<(), Fail> {
+fn out_of_memory_leaves_the_host_as_it_was(rt: HostRuntime) -> Result<(), Fail> {
     runs(rt.alloc(), &ONE, (1, 1), &[Call::ThreeWait(&ONE)])
 }
 
@@ -119,7 +119,7 @@ const TWO: [Name; 2] = [(1, 1), (2, 2)];
 const SAFE: [Call; 1] = [Call::CopyQuestions(&[(6, 6, 1)])];
 
 #[test]
-fn want_of_memory_in_a_copied_host(rt: HostRuntime) -> Result<(), Fail> {
+fn out_of_memory_in_a_copied_host(rt: HostRuntime) -> Result<(), Fail> {
     runs(rt.alloc(), &TWO, (1, 1), &SAFE)
 }
 
@@ -140,7 +140,7 @@ fn asks_one(alloc: Global) -> Result<bool, AllocError> {
 }
 
 #[test]
-fn want_of_memory_in_requests_to_join(rt: HostRuntime) -> Result<(), Fail> {
+fn out_of_memory_in_requests_to_join(rt: HostRuntime) -> Result<(), Fail> {
     assert!(rt; asks_one(rt.alloc())?);
     Ok(())
 }

@@ -14,11 +14,11 @@ use std::test::Fail;
 /// What a message says. A cut of one process is the number of that process, and any other is 0.
 #[derive(Clone, Copy, Debug, PartialEq, Eq)]
 enum Said {
-    /// So many alerts.
+    /// This many alerts.
     Batch(usize),
     /// A fast vote.
     Vote(u16),
-    /// A configuration of so many members.
+    /// A configuration of this many members.
     Confirm(usize),
     /// What no node says here.
     Other,
@@ -68,7 +68,7 @@ enum Step<'a> {
     Tries(Word, &'a [u16], Outcome<'a>),
 }
 
-/// The number of the only process of a cut, and 0 where there are more.
+/// The number of the only process of a cut, and 0 if there are more.
 fn only(cut: &Cut) -> u16 {
     match cut.processes() {
         [process] => process.endpoint().port(),
@@ -94,8 +94,8 @@ fn whom(to: Destination) -> To {
     }
 }
 
-/// The founding configuration of the processes with these numbers, with so many rings and these two
-/// marks.
+/// The founding configuration of the processes with these numbers, with this many rings and these
+/// two marks.
 fn founding(
     rt: &impl Abort,
     alloc: Global,
@@ -205,8 +205,8 @@ fn assert_members(rt: &impl Abort, shown: &[Process], members: &[u16]) {
     }
 }
 
-/// Checks that the last configuration that a node installed has this identifier, this height and so
-/// many members.
+/// Checks that the last configuration that a node installed has this identifier, this height and
+/// this many members.
 fn assert_last(rt: &impl Abort, node: &Node, id: ConfigId, height: u64, members: usize) {
     let last = node.installed().last().expect(rt, "a stamp");
     assert_eq!(rt; last.height(), height);
@@ -228,12 +228,12 @@ fn assert_phase(rt: &impl Abort, node: &Node, phase: Phase) {
     assert_eq!(rt; node.phase(), phase);
 }
 
-/// Tells a node of an event, and answers what it sends.
+/// Gives a node an event, and answers what it sends.
 fn told_of(node: &mut Node, event: &Event) -> Result<Outputs, NodeFault> {
     node.step(event)
 }
 
-/// Tells a node of an event that is not needed any more, and answers what it sends.
+/// Gives a node an event that is not needed any more, and answers what it sends.
 fn told(node: &mut Node, event: Event) -> Result<Outputs, NodeFault> {
     told_of(node, &event)
 }
@@ -253,14 +253,14 @@ fn assert_outputs(rt: &impl Abort, outputs: &Outputs, expected: &[(To, Said)]) {
     assert_eq!(rt; outputs.len(), expected.len());
 }
 
-/// Tells a node of an event, at which it sends nothing.
+/// Gives a node an event at which it sends nothing.
 fn hears(rt: &impl Abort, node: &mut Node, event: Event) -> Result<(), Fail> {
     let outputs = told(node, event)?;
     assert!(rt; outputs.is_empty());
     Ok(())
 }
 
-/// Checks the step of a founder among so many founders at an event: it has the outcome, or, out
+/// Checks the step of a founder among this many founders at an event: it has the outcome, or, out
 /// of memory, the node has halted and shows the founding configuration alone.
 fn tries(rt: &impl Abort, node: &mut Node, event: Event, founders: &[u16], outcome: Outcome) {
     match told(node, event) {
@@ -329,7 +329,7 @@ const TICK: [Step; 2] = [
 ];
 
 #[test]
-fn want_of_memory_at_a_tick_with_a_batch(rt: HostRuntime) -> Result<(), Fail> {
+fn out_of_memory_at_a_tick_with_a_batch(rt: HostRuntime) -> Result<(), Fail> {
     lives(&rt, rt.alloc(), (3, 3, 1), &[1, 2], &TICK)
 }
 
@@ -345,7 +345,7 @@ const BATCH: [Step; 1] = [Step::Tries(
 )];
 
 #[test]
-fn want_of_memory_at_a_batch_with_a_vote(rt: HostRuntime) -> Result<(), Fail> {
+fn out_of_memory_at_a_batch_with_a_vote(rt: HostRuntime) -> Result<(), Fail> {
     lives(&rt, rt.alloc(), (1, 1, 1), &[1, 2], &BATCH)
 }
 
@@ -365,6 +365,6 @@ const DECISION: [Step; 2] = [
 ];
 
 #[test]
-fn want_of_memory_at_a_decision(rt: HostRuntime) -> Result<(), Fail> {
+fn out_of_memory_at_a_decision(rt: HostRuntime) -> Result<(), Fail> {
     lives(&rt, rt.alloc(), (1, 1, 1), &[1], &DECISION)
 }

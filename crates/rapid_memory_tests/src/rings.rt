@@ -91,7 +91,7 @@ fn follow_one(alloc: Global) -> Result<bool, ConfigError> {
 }
 
 #[test]
-fn want_of_memory_in_rings(rt: HostRuntime) -> Result<(), Fail> {
+fn out_of_memory_in_rings(rt: HostRuntime) -> Result<(), Fail> {
     assert!(rt; follow_one(rt.alloc())?);
     Ok(())
 }
@@ -161,11 +161,11 @@ const TAKES_ALL: [Call; 5] = [
 /// After a refused growth the table is as it was, so that the edge is put there when it is put
 /// again.
 #[test]
-fn want_of_memory_leaves_the_table_as_it_was(rt: HostRuntime) -> Result<(), Fail> {
+fn out_of_memory_leaves_the_table_as_it_was(rt: HostRuntime) -> Result<(), Fail> {
     runs(rt.alloc(), (2, 2, 1), &TAKES_ALL)
 }
 
-/// A probe of the edge on a ring: its result and the verdict, none where there is no edge.
+/// A probe of the edge on a ring: its result and the verdict, none if there is no edge.
 type Probe = (u8, bool, Option<Verdict>);
 
 /// Whether all probes have their verdicts, in order.
@@ -258,6 +258,6 @@ const AS_THEY_WERE: [Step; 3] = [
 
 /// After a refused growth the next call works, and what was copied is as it was.
 #[test]
-fn want_of_memory_leaves_the_monitors_as_they_were(rt: HostRuntime) -> Result<(), Fail> {
+fn out_of_memory_leaves_the_monitors_as_they_were(rt: HostRuntime) -> Result<(), Fail> {
     monitors_run(rt.alloc(), 1, &AS_THEY_WERE)
 }

@@ -21,7 +21,7 @@ const PRE_JOIN: [u8; 28] = [
     0, 0, 0, 0x18, 1, 8, 0, 0, 0, 0, 0, 0, 0, 0, 0, 0, 0, 0, 0, 0, 0, 2, 0x7f, 0, 0, 1, 0, 2,
 ];
 
-/// A reader that gives at most so many bytes a call.
+/// A reader that gives at most this many bytes a call.
 #[derive(Drop)]
 struct Slow<'a> {
     input: &'a [u8],
@@ -39,7 +39,7 @@ impl Read for Slow<'_> {
 }
 
 #[test]
-fn want_of_memory_in_receiving(rt: HostRuntime) -> Result<(), Fail> {
+fn out_of_memory_in_receiving(rt: HostRuntime) -> Result<(), Fail> {
     let mut reader = Metered::new(Slow {
         input: &PRE_JOIN,
         step: 5,
@@ -51,7 +51,7 @@ fn want_of_memory_in_receiving(rt: HostRuntime) -> Result<(), Fail> {
 }
 
 #[test]
-fn want_of_memory_in_a_queue(rt: HostRuntime) -> Result<(), Fail> {
+fn out_of_memory_in_a_queue(rt: HostRuntime) -> Result<(), Fail> {
     let (mut queue, mut end) = SenderQueue::new(rt.alloc(), 3)?;
     let frame = Bytes::copy_from_slice(rt.alloc(), &PRE_JOIN)?;
     queue.put(&rt, Endpoint::new([127, 0, 0, 1], 7), frame.clone()?)?;
@@ -97,7 +97,7 @@ where
 const WHOLE: &[u8] = b"height 0 members 127.0.0.1:7413\nheight 0 members 127.0.0.1:7413\n";
 
 #[test]
-fn want_of_memory_in_a_founder(rt: HostRuntime) -> Result<(), Fail> {
+fn out_of_memory_in_a_founder(rt: HostRuntime) -> Result<(), Fail> {
     let mut input = b"tick 3\nview\nquit\n".as_slice();
     let mut printed = Vec::with_capacity(rt.alloc(), 256)?;
     let mut err = Vec::with_capacity(rt.alloc(), 256)?;

@@ -15,7 +15,7 @@ use std::sync::Wait;
 use std::test::*;
 use std::thread::Threads;
 
-/// A writer that allocates nothing. It has room for so many bytes, and takes none beyond.
+/// A writer that allocates nothing. It has room for this many bytes, and takes none beyond.
 #[derive(Drop)]
 struct Fixed<'a> {
     bytes: &'a mut [u8],
@@ -48,7 +48,7 @@ const IMPLIED_INPUT: &[u8] =
 
 /// Wherever memory runs out, the run ends by name, with a beginning of its output.
 #[test]
-fn ends_by_name_for_want_of_memory(rt: HostRuntime) {
+fn ends_by_name_if_out_of_memory(rt: HostRuntime) {
     let whole = b"refused BadLine\ncut 5 6\n";
     let mut output = [0u8; 64];
     let mut writer = Fixed {
@@ -75,7 +75,7 @@ const RECOVERED_VIEWS: &[u8] = b"node 1 height 0 members 1 2 3\nnode 2 height 0 
 /// Wherever memory runs out, the run ends by name, or counts it: then an event was refused for it,
 /// or a node halted. If memory never runs out the output is whole.
 #[test]
-fn ends_by_name_or_counts_want_of_memory(rt: HostRuntime) {
+fn ends_by_name_or_counts_out_of_memory(rt: HostRuntime) {
     let mut output = [0u8; 512];
     let mut writer = Fixed {
         bytes: &mut output,
@@ -94,10 +94,11 @@ fn ends_by_name_or_counts_want_of_memory(rt: HostRuntime) {
     }
 }
 
-/// The reports here have fewer bytes than this, so that a text with room for so many does not grow.
+/// The reports here have fewer bytes than this, so that a text with room for this many does not
+/// grow.
 const ROOM: usize = 200;
 
-/// What is written of a cluster of so many nodes, with 10 rings and the marks 9 and 3.
+/// What is written of a cluster of this many nodes, with 10 rings and the marks 9 and 3.
 fn written<R: Threads + Wait + Sync>(
     rt: &R,
     alloc: Global,
@@ -114,7 +115,7 @@ fn written<R: Threads + Wait + Sync>(
 }
 
 #[test]
-fn a_report_may_end_with_want_of_memory(rt: HostRuntime) -> Result<(), Fail> {
+fn a_report_may_end_if_out_of_memory(rt: HostRuntime) -> Result<(), Fail> {
     let text = written(&rt, rt.alloc(), 2, 2, 6)?;
     assert!(rt; text.as_slice().ends_with(b"\nagree yes\n"));
     Ok(())

@@ -37,7 +37,7 @@ fn heard(round: &mut FastRound, position: usize, cut: &Cut) -> Result<Option<Cut
     }
 }
 
-/// The position at which a cut is decided, where four vote for it and one for another.
+/// The position at which a cut is decided, if four vote for it and one for another.
 fn decided_at(round: &mut FastRound, x: &Cut, y: &Cut) -> Result<Option<usize>, HearError> {
     for (position, cut) in [(0, x), (1, y), (2, x), (3, x), (4, x)] {
         if heard(round, position, cut)?.is_some() {
@@ -49,7 +49,7 @@ fn decided_at(round: &mut FastRound, x: &Cut, y: &Cut) -> Result<Option<usize>, 
 
 /// After a refused growth the round is as it was, so that votes given again make the same decision.
 #[test]
-fn want_of_memory_leaves_the_round_as_it_was(rt: HostRuntime) -> Result<(), Fail> {
+fn out_of_memory_leaves_the_round_as_it_was(rt: HostRuntime) -> Result<(), Fail> {
     let x = cut(rt.alloc(), 6)?;
     let y = cut(rt.alloc(), 7)?;
     let mut round = FastRound::new(rt.alloc(), 5, 0);
@@ -66,7 +66,7 @@ fn copy_decides(round: &mut FastRound, x: &Cut) -> Result<bool, Fail> {
 }
 
 #[test]
-fn want_of_memory_in_a_copied_round(rt: HostRuntime) -> Result<(), Fail> {
+fn out_of_memory_in_a_copied_round(rt: HostRuntime) -> Result<(), Fail> {
     let x = cut(rt.alloc(), 6)?;
     let mut round = FastRound::new(rt.alloc(), 2, 0);
     assert!(rt; copy_decides(&mut round, &x)?);
@@ -128,7 +128,7 @@ const Y: Option<u8> = Some(7);
 /// After a refused growth the coordinator is as it was, so that promises heard again make the same
 /// request.
 #[test]
-fn want_of_memory_leaves_the_coordinator_as_it_was(rt: HostRuntime) -> Result<(), Fail> {
+fn out_of_memory_leaves_the_coordinator_as_it_was(rt: HostRuntime) -> Result<(), Fail> {
     let mut coordinator = Coordinator::new(rt.alloc(), 5, 0);
     let ballot = coordinator.begin(Ballot::FAST)?;
     let six = promise(rt.alloc(), ballot, X)?;
@@ -154,7 +154,7 @@ fn learns(
     Ok(is_cut(learnt.as_ref(), wanted))
 }
 
-/// Whether a learner learns as it has to, where a notice is heard again if no memory was to be had.
+/// Whether a learner learns as it has to; a notice is heard again if no memory was to be had.
 fn learns_again(
     learner: &mut Learner,
     position: usize,
@@ -172,7 +172,7 @@ fn learns_again(
 
 /// After a refused growth the learner is as it was, so that notices heard again teach the same cut.
 #[test]
-fn want_of_memory_leaves_the_learner_as_it_was(rt: HostRuntime) -> Result<(), Fail> {
+fn out_of_memory_leaves_the_learner_as_it_was(rt: HostRuntime) -> Result<(), Fail> {
     let x = cut(rt.alloc(), 6)?;
     let mut learner = Learner::new(rt.alloc(), 3);
     assert!(rt; learns_again(&mut learner, 0, &x, None)?);
@@ -209,7 +209,7 @@ fn promised_again(acceptor: &mut Acceptor, ballot: Ballot) -> Result<Promise, Pr
 /// After a refused growth the acceptor is as it was, so that it makes its promise and its vote when
 /// it is asked again.
 #[test]
-fn want_of_memory_leaves_the_acceptor_as_it_was(rt: HostRuntime) -> Result<(), Fail> {
+fn out_of_memory_leaves_the_acceptor_as_it_was(rt: HostRuntime) -> Result<(), Fail> {
     let x = cut(rt.alloc(), 6)?;
     let mut acceptor = Acceptor::new(rt.alloc());
     assert!(rt; votes_again(&mut acceptor, &x));
@@ -233,7 +233,7 @@ fn copy_learns(
 }
 
 #[test]
-fn want_of_memory_in_copies(rt: HostRuntime) -> Result<(), Fail> {
+fn out_of_memory_in_copies(rt: HostRuntime) -> Result<(), Fail> {
     let x = cut(rt.alloc(), 6)?;
     let low = classic(2, 0);
     let mut learner = Learner::new(rt.alloc(), 3);

@@ -86,7 +86,7 @@ const GROWING: [Parts; 4] = [
 /// After a refused growth the feed is as it was: the piece is fed again, and the message comes when
 /// it is asked for again.
 #[test]
-fn want_of_memory_leaves_the_feed_as_it_was(rt: HostRuntime) -> Result<(), Fail> {
+fn out_of_memory_leaves_the_feed_as_it_was(rt: HostRuntime) -> Result<(), Fail> {
     for body in &GROWING {
         assert!(rt; survives(rt.alloc(), body)?, "at {body:?}");
     }

@@ -32,7 +32,7 @@ fn is_accounted_for(world: &mut World, event: &WorldEvent) -> bool {
 }
 
 #[test]
-fn want_of_memory_in_a_step(rt: HostRuntime) -> Result<(), Fail> {
+fn out_of_memory_in_a_step(rt: HostRuntime) -> Result<(), Fail> {
     let mut world = alone(rt.alloc())?;
     let _started = world.step(&Start(process(2), endpoint(1)))?;
     assert!(rt; is_accounted_for(&mut world, &Tick(id(2))));
@@ -55,7 +55,7 @@ fn join() -> [WorldEvent; 9] {
 }
 
 #[test]
-fn want_of_memory_in_a_run(rt: HostRuntime) -> Result<(), Fail> {
+fn out_of_memory_in_a_run(rt: HostRuntime) -> Result<(), Fail> {
     let mut world = alone(rt.alloc())?;
     let accepted = world.run(&join());
     assert_eq!(rt; accepted, world.accepted());

@@ -29,7 +29,7 @@ together xs ys h = equal_when_same xs ys (by (same_bytes xs ys) h)
 apart : (xs ys : List ℕ) → true ≡ not (same_bytes xs ys) → xs ≡ ys → ⊥
 apart xs ys h e = let same = same_when_equal xs ys e in cc
 
--- alerts of one observer for one configuration are from the sender where these are the sender and the identifier
+-- alerts of one observer for one configuration are from the sender if these are the sender and the identifier
 pub all_from : (observer sender : Process) (config id : List ℕ) (xs : List Alert) →
     All (λ a. a.observer ≡ observer) xs → All (λ a. a.config ≡ config) xs →
     false ≡ not (same_bytes observer sender) → false ≡ not (same_bytes config id) → All (IsFrom sender id) xs

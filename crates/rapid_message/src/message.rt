@@ -14,8 +14,7 @@ use rapid_paxos::{Ballot, copy_vote};
 use std::alloc::{AllocError, Global};
 use std::marker::Model;
 
-/// What a message says. Where it begins with an identifier, that is of the configuration that it is
-/// about.
+/// What a message says. An identifier in front is that of the configuration that it is about.
 #[derive(Debug, Drop)]
 pub enum Body {
     /// Alerts of the sender.
@@ -70,8 +69,7 @@ impl Body {
         })
     }
 
-    /// The identifier of the configuration for which the message is answered with a decision, once
-    /// the receiver has left it.
+    /// The configuration of the message, if a receiver that has left it answers with its decision.
     pub fn caught_up_by(&self) -> Option<ConfigId>
         ensures { result ≡ caught_up_by (body_of self.now) }
     {
@@ -113,11 +111,10 @@ impl Model for Message {
 }
 
 impl Message {
-    /// The message of this sender that says this, where the sender can say it. The error is
-    /// `OtherObserver` where a batch has alerts of another than the sender, else
-    /// `OtherConfiguration` where it has alerts for another configuration than the one that it
-    /// names; `FastBallot` where a Prepare, a Promise, an Accept or an Accepted is at the fast
-    /// ballot; `NoObserver` where a reply Safe names no observer.
+    /// The message of this sender that says this, if the sender can say it. `OtherObserver` if a
+    /// batch has alerts of another than the sender, else `OtherConfiguration` if it has alerts for
+    /// another configuration than the one that it names. `FastBallot` if a Prepare, a Promise, an
+    /// Accept or an Accepted is at the fast ballot. `NoObserver` if a reply Safe names no observer.
     pub fn new(sender: Process, body: Body) -> Result<Message, MessageError>
         ensures value { IfOk result (λ message. message ≡ record { sender = sender; body = body_of body }) }
         ensures said { OnOk result (CanSay sender body) }
@@ -127,7 +124,8 @@ impl Message {
         Ok(Message::of(sender, body))
     }
 
-    /// The message of a sender that can say this.
+    /// The message of a sender that can say this. What a member says is known to be such, and is not
+    /// looked through again.
     pub fn of(sender: Process, body: Body) -> Message
         requires { CanSay sender body }
         ensures { result ≡ record { sender = sender; body = body_of body } }

@@ -14,8 +14,8 @@ pub enum Destination {
     /// To one endpoint.
     To(Endpoint),
     /// To each other member, by identifier, of the configuration in which the sender is a member
-    /// *before* the step that this goes out in: a step that installs another configuration still
-    /// speaks to the members of the one it leaves.
+    /// *before* the step. So a step that installs another configuration still speaks to the members
+    /// of the one that it leaves.
     Others,
 }
 

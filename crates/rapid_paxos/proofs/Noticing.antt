@@ -35,7 +35,7 @@ notices_exact a b e =
     let q : a.1 ≡ b.1 = fin.nat_cmp-IsAntisymmetric _ _ (second_equal (key_cmp a.0 b.0) (nat_cmp a.1 b.1) e) in
     λ i. (p i, q i)
 
--- a notice ties with another where its ballot and cut tie and its position does
+-- a notice ties with another if its ballot and cut tie and its position does
 tied_parts : (k : Key) (p : ℕ) (n : Notice) → eq_by_cmp notice_cmp (k, p) n ≡ (eq_by_cmp key_cmp k n.0 && eq_by_cmp nat_cmp p n.1)
 tied_parts k p n = by (key_cmp k n.0)
   where

@@ -8,13 +8,13 @@ use Rattle.rapid_paxos.specs.declared.acceptor.AcceptError.TheVariants as accept
 use Rattle.rapid_paxos.specs.declared.acceptor.PromiseError.{PromiseError}
 use Rattle.rapid_paxos.specs.declared.acceptor.PromiseError.TheVariants as promise
 
--- Want of memory is answered only where a vote would be cast.
+-- Out of memory is answered only if a vote would be cast.
 abbrev pub IsAcceptRefusal : Result (Unit {0}) model.AcceptorRefusal → AcceptError → Type 0
 IsAcceptRefusal r (accept.Promised b) = r ≡ Err (model.Promised b)
 IsAcceptRefusal r accept.AlreadyVoted = r ≡ Err model.AlreadyVoted
 IsAcceptRefusal r accept.OutOfMemory = IsOk r
 
--- Want of memory is answered only where a promise would be given.
+-- Out of memory is answered only if a promise would be given.
 abbrev pub IsPromiseRefusal : Result (Option (Vote Cut)) model.AcceptorRefusal → PromiseError → Type 0
 IsPromiseRefusal r (promise.Promised b) = r ≡ Err (model.Promised b)
 IsPromiseRefusal r promise.OutOfMemory = IsOk r

@@ -17,7 +17,7 @@ pub enum PromiseError {
     /// It has promised or voted at this ballot, which is not lower.
     #[error("a ballot at or above this one was promised")]
     Promised(Ballot),
-    /// Want of memory; nothing changed.
+    /// Out of memory; nothing changed.
     #[error("out of memory")]
     OutOfMemory,
 }
@@ -43,7 +43,7 @@ pub enum AcceptError {
     /// It has voted at this ballot.
     #[error("it has voted at this ballot")]
     AlreadyVoted,
-    /// Want of memory; nothing changed.
+    /// Out of memory; nothing changed.
     #[error("out of memory")]
     OutOfMemory,
 }
@@ -128,13 +128,13 @@ impl Acceptor {
         self.rnd
     }
 
-    /// Promises to vote at no ballot below this one, which is above all promised; the promise
-    /// reports the last vote.
+    /// Promises to vote at no ballot below this one, which is above all that it promised or voted
+    /// at. The promise reports the last vote.
     ///
     /// # Errors
     ///
-    /// `Promised(rnd)` where the ballot isn't above `rnd`; `OutOfMemory`. Both leave the acceptor
-    /// as it was.
+    /// `Promised(rnd)` if the ballot is not above `rnd`; `OutOfMemory`. Both leave the acceptor as
+    /// it was.
     #[tactic(auto, unfolding(rapid_model::specs::Acceptor::promise_answer, rapid_model::specs::Acceptor::after_promise))]
     pub fn promise(&mut self, ballot: Ballot) -> Result<Promise, PromiseError>
         ensures promised { OnOk result (self.new ≡ model.after_promise self.old ballot) }
@@ -155,8 +155,8 @@ impl Acceptor {
     ///
     /// # Errors
     ///
-    /// `Promised(rnd)` where the ballot is below `rnd`, then `AlreadyVoted` where it has voted at
-    /// this ballot; `OutOfMemory`. Each leaves the acceptor as it was.
+    /// `Promised(rnd)` if the ballot is below `rnd`, then `AlreadyVoted` if it has voted at this
+    /// ballot; `OutOfMemory`. Each leaves the acceptor as it was.
     #[tactic(auto, unfolding(rapid_model::specs::Acceptor::accepts, rapid_model::specs::Acceptor::after_accept, rapid_model::specs::Acceptor::accept_answer))]
     pub fn accept(&mut self, ballot: Ballot, cut: &Cut) -> Result<(), AcceptError>
         ensures accepted { OnOk result (self.new ≡ model.after_accept self.old ballot cut.now) }

@@ -2,6 +2,7 @@
 ghost use Rattle.std.specs.Prelude.{◌≡◌, ◌≤◌, ◌<◌, ℕ, IfSome, IfNone};
 ghost use Rattle.rapid_model.specs.Ballot.{fast_ballot, IsClassicBallot, IsBallot};
 
+use rapid_config::Configuration;
 use std::marker::Model;
 
 /// A ballot: a round and the position of its coordinator, in this order.
@@ -25,6 +26,12 @@ impl Model for Ballot {
 }
 
 impl Ballot {
+    /// The first round of a classic ballot, behind that of the fast one.
+    pub const FIRST_ROUND: u8 = 2;
+
+    /// The last round of a classic ballot.
+    pub const LAST_ROUND: u8 = 250;
+
     /// The ballot of the fast round, which needs no first phase.
     pub const FAST: Ballot = Ballot {
         round: 1,
@@ -37,7 +44,8 @@ impl Ballot {
         ensures some { IfSome result (λ b. (b ≡ record { round = round; position = position }) × IsClassicBallot b) }
         ensures none { IfNone result (IsClassicBallot (record { round = round; position = position }) → ⊥) }
     {
-        if !(2..=250).contains(&round) || position >= 1024 {
+        let rounds = Ballot::FIRST_ROUND..=Ballot::LAST_ROUND;
+        if !rounds.contains(&round) || position >= Configuration::MOST {
             return None;
         }
         Some(Ballot {

@@ -39,8 +39,8 @@ impl RoundsUsed {
 /// The coordinator of one member: the ballot that it began last, who promised it, and how many of
 /// them reported each cut at the highest ballot of a vote.
 ///
-/// That it asks only for what the rule of Fast Paxos lets it ask for, and once a ballot, is the
-/// contract of `rapid_agreement::coordinators_ask_lawfully`.
+/// It asks only for what the rule of Fast Paxos lets it ask for, and once a ballot: the contract of
+/// `rapid_agreement::coordinators_ask_lawfully` says so.
 #[derive(Debug, Drop)]
 pub struct Coordinator {
     size: usize,
@@ -84,7 +84,7 @@ fn request(ballot: Ballot, cut: Option<Cut>) -> Option<Accept>
     }
 }
 
-/// The first cut that at least so many reported.
+/// The first cut that at least this many reported.
 fn reported_by(entries: &[(Cut, usize)], enough: usize) -> Option<&Cut>
     ensures { option_map (λ v. v.now) result ≡ option_map (λ e. e.0) (find (λ e. nat_le enough e.1) entries.now) }
 {
@@ -117,7 +117,7 @@ impl Coordinator {
     ///
     /// # Errors
     ///
-    /// `RoundsUsed` where that round is above 250; the coordinator is as it was.
+    /// `RoundsUsed` if that round is above 250; the coordinator is as it was.
     #[tactic(auto, unfolding(rapid_model::specs::Coordinator::next_ballot))]
     pub fn begin(&mut self, above: Ballot) -> Result<Ballot, RoundsUsed>
         ensures ballot { IfOk result (λ b. model.next_ballot self.old above ≡ Some b) }
@@ -138,15 +138,15 @@ impl Coordinator {
         Ok(ballot)
     }
 
-    /// Hears the promise of the member at a position; the request to be sent, at the promise that
-    /// completes a classic quorum, where the promises heard and the own proposal give a cut to ask
-    /// for. A promise of another ballot than that begun last, or of a position heard already, is
-    /// ignored. Want of memory leaves the coordinator as it was.
+    /// Hears the promise of the member at a position. The request to be sent is answered at the
+    /// promise that completes a classic quorum, if the promises heard and the own proposal give a
+    /// cut to ask for. A promise of another ballot than that begun last, or of a position heard
+    /// already, is ignored. If out of memory the coordinator is as it was.
     ///
-    /// The cut is the one that the rule of Fast Paxos allows (Lamport, 2006): the own proposal
-    /// where no vote was reported, else the only cut reported at the highest ballot, else the one
-    /// that so many reported there that a fast quorum may have chosen it, else the least of those
-    /// reported there by its bytes.
+    /// The cut is the one that the rule of Fast Paxos allows (Lamport, 2006): the own proposal if
+    /// no vote was reported, else the only cut reported at the highest ballot. If several are
+    /// reported there, it is the one that a fast quorum may have chosen, by the number of its
+    /// reports. If there is none such, it is the least of those by its bytes.
     pub fn hear_promise(
         &mut self,
         position: usize,
@@ -164,10 +164,12 @@ impl Coordinator {
         if !self.counts_promise(position, promise.ballot) {
             return Ok(None);
         }
+        // one that comes after the quorum still counts, and asks for nothing
         if self.heard.len() + 1 != classic_size(self.size) {
             self.report(position, &promise.vote)?;
             return Ok(None);
         }
+        // what is asked for may be refused its memory: the promise is counted only once it is there
         let mut next = self.try_copy()?;
         next.report(position, &promise.vote)?;
         let cut = next.value(own)?;
@@ -197,6 +199,7 @@ impl Coordinator {
             if self.top == Some(*ballot) {
                 self.counts.add(cut)?;
             } else if self.top < Some(*ballot) {
+                // only votes at the highest ballot reported count, so counting begins anew
                 let mut counts = CutCounts::new(self.alloc);
                 counts.add(cut)?;
                 self.counts = counts;

@@ -75,7 +75,7 @@ impl NoticeSet {
         }
     }
 
-    /// Adds a notice. Want of memory leaves the set as it was.
+    /// Adds a notice. If out of memory the set is as it was.
     pub fn insert(&mut self, position: usize, ballot: Ballot, cut: &Cut) -> Result<(), AllocError>
         requires { position < 1024 }
         ensures ok { OnOk result (self.new ≡ set.insert self.old ((ballot, cut.now), position)) }

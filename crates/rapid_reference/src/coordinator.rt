@@ -21,6 +21,14 @@ const SEQUENCES: usize = 68_921;
 /// A vote at a ballot.
 type Vote = (Ballot, Number);
 
+/// What a promise says: who gives it, at which ballot, and which vote it reports.
+#[derive(Clone, Copy)]
+struct Said {
+    position: usize,
+    ballot: Ballot,
+    vote: Option<Vote>,
+}
+
 /// The first promise of each position for the ballot begun last.
 #[derive(Drop)]
 struct PromiseList {
@@ -47,7 +55,7 @@ impl PromiseList {
         reported.filter(|report| *report == Some(vote)).count()
     }
 
-    /// Whether a fast quorum of so many members may have cast this vote: all that promised and
+    /// Whether a fast quorum of this many members may have cast this vote: all that promised and
     /// reported something else are few enough.
     fn may_be_chosen(&self, size: usize, vote: Vote) -> bool
         requires { size ≤ 1024 }
@@ -56,7 +64,7 @@ impl PromiseList {
         others <= size.saturating_sub(fast_size(size))
     }
 
-    /// The cut that the promises of so many members allow.
+    /// The cut that the promises of this many members allow.
     fn value(&self, size: usize, own: Option<Number>) -> Option<Number>
         requires { size ≤ 1024 }
     {
@@ -73,21 +81,20 @@ impl PromiseList {
         Some(if is_six { six } else { seven })
     }
 
-    /// The cut to ask for, at the promise that completes a classic quorum of so many members.
+    /// The cut to ask for, at the promise that completes a classic quorum of this many members.
     fn hear(
         &mut self,
         size: usize,
-        position: usize,
-        ballot: Ballot,
-        vote: Option<Vote>,
+        said: Said,
         own: Option<Number>,
     ) -> Result<Option<Number>, AllocError>
         requires { size ≤ 1024 }
     {
-        if self.begun != Some(ballot) || self.promises.iter().any(|it| it.0 == position) {
+        let position = said.position;
+        if self.begun != Some(said.ballot) || self.promises.iter().any(|it| it.0 == position) {
             return Ok(None);
         }
-        self.promises.push((position, vote))?;
+        self.promises.push((position, said.vote))?;
         if self.promises.len() != classic_size(size) {
             return Ok(None);
         }
@@ -116,37 +123,39 @@ fn asked(accept: &Option<Accept>) -> Option<Vote> {
     }
 }
 
-/// A promise reaches both, where the own proposal is the cut of number 7 if the position is even;
-/// answers whether a request was sent.
+/// A promise reaches both. The own proposal is the cut of number 7 if the position is even. The
+/// answer says whether a request was sent.
 fn hear(
     alloc: Global,
     cuts: &Cuts,
     coordinator: &mut Coordinator,
     list: &mut PromiseList,
-    position: usize,
-    ballot: Ballot,
-    vote: Option<Vote>,
+    said: Said,
     size: usize,
 ) -> Result<bool>
-    requires member { position < coordinator.old.size }
+    requires member { said.position < coordinator.old.size }
     requires few { size ≤ 1024 }
     ensures size { coordinator.new.size ≡ coordinator.old.size }
 {
     let promise = Promise {
-        ballot,
-        vote: reported(alloc, cuts, vote)?,
+        ballot: said.ballot,
+        vote: reported(alloc, cuts, said.vote)?,
     };
-    let own = if position % 2 == 0 { Some(7) } else { None };
-    let expected = list.hear(size, position, ballot, vote, own)?;
-    let own = if position % 2 == 0 {
+    let own = if said.position % 2 == 0 {
+        Some(7)
+    } else {
+        None
+    };
+    let expected = list.hear(size, said, own)?;
+    let own = if said.position % 2 == 0 {
         Some(cuts.of(7))
     } else {
         None
     };
-    let accept = coordinator.hear_promise(position, &promise, own)?;
+    let accept = coordinator.hear_promise(said.position, &promise, own)?;
     let answer = asked(&accept);
     let expected = match expected {
-        Some(number) => Some((ballot, number)),
+        Some(number) => Some((said.ballot, number)),
         None => None,
     };
     if answer != expected {
@@ -167,8 +176,8 @@ fn begin(alloc: Global, coordinator: &mut Coordinator, list: &mut PromiseList) -
     Ok(())
 }
 
-/// Tries one sequence, where votes are reported at the fast ballot and at one above; answers how
-/// many requests were sent in it.
+/// Tries one sequence, if votes are reported at the fast ballot and at one above; answers how many
+/// requests were sent in it.
 fn try_one(
     alloc: Global,
     cuts: &Cuts,
@@ -199,23 +208,19 @@ fn try_one(
                 0 => None,
                 kind => Some((voted[kind / 3], NUMBERS[kind % 2])),
             };
-            let is_sent = hear(
-                alloc,
-                cuts,
-                &mut coordinator,
-                &mut list,
+            let said = Said {
                 position,
-                ballots[call / 4 % 2],
+                ballot: ballots[call / 4 % 2],
                 vote,
-                size,
-            )?;
+            };
+            let is_sent = hear(alloc, cuts, &mut coordinator, &mut list, said, size)?;
             requests = requests.saturating_add(usize::from(is_sent));
         }
     }
     Ok(requests)
 }
 
-/// Tries every sequence among so many members, and answers how many requests were sent.
+/// Tries every sequence among this many members, and answers how many requests were sent.
 pub fn compare(alloc: Global, cuts: &Cuts, size: usize) -> Result<usize>
     requires some { 1 ≤ size }
     requires few { size ≤ 1024 }

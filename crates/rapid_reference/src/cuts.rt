@@ -44,7 +44,7 @@ impl Cuts {
     }
 }
 
-/// The number of a cut's first process, where there is a cut.
+/// The number of a cut's first process, if there is a cut.
 pub fn number_in(cut: &Option<Cut>) -> Option<Number> {
     match cut {
         Some(cut) => Some(number_of(cut)),

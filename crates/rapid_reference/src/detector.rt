@@ -69,7 +69,8 @@ impl ReportList {
         Ok(all)
     }
 
-    /// The processes with so many reports, or more but fewer than so many.
+    /// The processes with at least the first of these numbers of reports, but fewer than the
+    /// second.
     fn within(&self, alloc: Global, least: usize, below: usize) -> Result<Vec<Number>, AllocError> {
         let all = self.closure(alloc)?;
         let mut found = Vec::new(alloc);

@@ -62,7 +62,7 @@ fn try_one(alloc: Global, cuts: &Cuts, size: usize, sequence: usize) -> Result<u
     Ok(decisions)
 }
 
-/// Tries every sequence among so many members, and answers how many decisions came.
+/// Tries every sequence among this many members, and answers how many decisions came.
 pub fn compare(alloc: Global, cuts: &Cuts, size: usize) -> Result<usize>
     requires some { 1 ≤ size }
     requires few { size ≤ 1024 }

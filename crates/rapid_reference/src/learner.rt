@@ -21,7 +21,7 @@ struct NoticeList {
 }
 
 impl NoticeList {
-    /// The cut, where `enough` of four positions gave notice of it at this ballot and none was
+    /// The cut, if `enough` of four positions gave notice of it at this ballot and none was
     /// answered.
     fn hear(
         &mut self,
@@ -74,7 +74,7 @@ fn try_one(
     Ok(learnt)
 }
 
-/// Tries every sequence among so many members, and answers how many cuts were learnt.
+/// Tries every sequence among this many members, and answers how many cuts were learnt.
 pub fn compare(alloc: Global, cuts: &Cuts, size: usize) -> Result<usize>
     requires few { size ≤ 1024 }
 {

@@ -11,7 +11,7 @@ use std::alloc::Global;
 /// How many processes there are.
 const PROCESSES: u16 = 1024;
 
-/// The number of the process that observes another on a ring: the one so many places behind it.
+/// The number of the process that observes another on a ring: the one this many places behind it.
 fn observer(ring: u8, subject: u16) -> u16 {
     let behind = subject.saturating_add(u16::from(ring));
     if behind < PROCESSES {

@@ -201,7 +201,7 @@ fn a_node_wants_its_port(rt: HostRuntime) -> io::Result<()> {
 }
 
 #[test]
-fn answers_1_where_the_input_fails(rt: HostRuntime) {
+fn answers_1_if_the_input_fails(rt: HostRuntime) {
     let mut reader = Faulty {
         input: b"batch\nbat",
     };
@@ -226,7 +226,7 @@ fn answers_1_where_the_input_fails(rt: HostRuntime) {
 }
 
 #[test]
-fn answers_1_where_the_output_fails(rt: HostRuntime) {
+fn answers_1_if_the_output_fails(rt: HostRuntime) {
     let detect: &[&str] = &["rapidd", "detect"];
     let help: &[&str] = &["rapidd", "--help"];
     for words in [detect, help] {
@@ -249,7 +249,7 @@ fn answers_1_where_the_output_fails(rt: HostRuntime) {
 }
 
 #[test]
-fn answers_where_there_are_no_words(rt: HostRuntime) {
+fn answers_if_there_are_no_words(rt: HostRuntime) {
     let mut err = Vec::new(rt.alloc());
     assert_eq!(rt;
         without_words(&io::Error::from(ErrorKind::OutOfMemory), &mut err),

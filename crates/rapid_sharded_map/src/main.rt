@@ -43,8 +43,8 @@ fn weight(member: &Process, key: &str) -> u64 {
     )
 }
 
-/// The member that owns a key, at which the key weighs most, so that a change of the members moves
-/// no key between two that stay. None where there are no members.
+/// The member that owns a key: the one for which the key weighs most. So a change of the members
+/// moves no key between two that stay. None if there are no members.
 #[tactic(auto, using(crate::proofs::Members::in_at))]
 fn owner(configuration: &Configuration, key: &str) -> Option<Process>
     ensures { IfSome result (λ owner. is_member configuration.now owner ≡ true) }

@@ -1,4 +1,4 @@
-// A clerk stops where its world takes no further event.
+// A clerk stops once its world takes no further event.
 
 ghost use Rattle.std.specs.Prelude.{◌≡◌, ◌≤◌};
 
@@ -28,7 +28,7 @@ impl Gate for Door {
     fn left(&self, _worker: usize, _turn: u64) {}
 }
 
-/// How many turns one clerk of this ledger takes in a world of process 1, where so many are there to
+/// How many turns one clerk of this ledger takes in a world of process 1, if this many are there to
 /// be taken.
 fn taken<L: Ledger + Send + Sync, R: Threads + Wait + Sync>(
     rt: &R,
@@ -49,7 +49,7 @@ fn taken<L: Ledger + Send + Sync, R: Threads + Wait + Sync>(
     Ok(run_clerks(rt, alloc, &book, door, &mut share, 1, turns)?)
 }
 
-/// No clerk goes on where no further event is accepted.
+/// No clerk goes on once no further event is accepted.
 #[test]
 fn a_full_world_stops_a_clerk(rt: HostRuntime) -> Result<(), Fail> {
     let door = Door {

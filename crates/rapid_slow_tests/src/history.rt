@@ -26,7 +26,7 @@ fn decision(rt: &impl Abort, alloc: Global, node: &Node) -> Result<Event, Fail> 
     Ok(Event::Receive(Message::new(process(2), Body::Decision(shown, cut))?))
 }
 
-/// Installs a view, which has the second process where the one before has it not.
+/// Installs a view, which has the second process if the one before has it not.
 fn install_one(rt: &impl Abort, alloc: Global, node: &mut Node) -> Result<(), Fail> {
     let event = decision(rt, alloc, &*node)?;
     let outputs = node.step(&event)?;
@@ -34,7 +34,7 @@ fn install_one(rt: &impl Abort, alloc: Global, node: &mut Node) -> Result<(), Fa
     Ok(())
 }
 
-/// Installs so many views, which have the second process and have it not, in turn.
+/// Installs this many views, which have the second process and have it not, in turn.
 fn install(rt: &impl Abort, alloc: Global, node: &mut Node, count: usize) -> Result<(), Fail> {
     for _ in 0..count {
         install_one(rt, alloc, node)?;

@@ -90,7 +90,7 @@ line_ends (x ∷ y ∷ ys) rest h =
     at true ls e = ap (in_front x) e
     at false ls e = ap (in_front x) e
 
--- What is kept of a line has no end where the line has none.
+-- What is kept of a line has no end if the line has none.
 pub no_end_kept : (xs ys zs : List ℕ) (n : ℕ) → zs ≡ xs ++ take n ys → has_no_end xs ≡ true → has_no_end ys ≡ true → has_no_end zs ≡ true
 no_end_kept xs ys zs n e h k = rw e (no_end_append xs (take n ys) h (no_end_take n ys k))
 
@@ -132,7 +132,7 @@ pub first_line : (x : ℕ) (xs : List ℕ) → HasFirst (lines (x ∷ xs)) (drop
 first_line x [] = first_by_end x [] (x == line_feed) (first_alone x (x == carriage_return))
 first_line x (y ∷ ys) = first_by_end x (y ∷ ys) (x == line_feed) (first_step x ((x == carriage_return) && ends_here (y ∷ ys)) (lines (y ∷ ys)) (drop_through line_feed (y ∷ ys)) (first_line y ys))
 
--- The same where so many bytes stand in front in which no line ends.
+-- The same with bytes in front in which no line ends.
 abbrev pub HasLongFirst : ℕ → List (List ℕ) → List ℕ → Type 0
 HasLongFirst n ls later = (l : List ℕ) × (ls ≡ l ∷ lines later) × (n ≤ length l + 1)
 

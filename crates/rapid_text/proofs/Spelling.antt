@@ -47,7 +47,7 @@ read_step n d ds true false e h =
     none_both true = refl
     none_both false = refl
 
--- Digit by digit, the value of a word of digits comes, where it is below 2^64.
+-- Digit by digit, the value of a word of digits comes, if it is below 2^64.
 pub spelled_is : (n : ℕ) (ds : List ℕ) → n < 2 ^ 64 → spelled_from n ds ≡ fits n ds (list_all is_digit ds)
 spelled_is n [] h = let e : nat_lt n (2 ^ 64) ≡ true = grind (arith, nat_tests) in rw e refl
 spelled_is n (d ∷ ds) h = read_step n d ds (is_digit d) _ refl (spelled_is (with_digit n d) ds)

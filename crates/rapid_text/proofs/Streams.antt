@@ -1,4 +1,4 @@
--- What lines print, where an input comes in parts.
+-- What lines print if an input comes in parts.
 use Rattle.std.proofs.Common.{◌≡◌, ◌≢◌, ℕ, ◌+◌, ◌<◌, true, List, [], ◌∷◌, ◌++◌, length, take, drop, refl, ap, sym, ◌∙◌, subst, arith, inl, inr, append_assoc, append-nil, Result, Ok, Err, OnErr, Option, Some, None, IfSome, OnOk}
 use Rattle.std.specs.Io.BufRead.{drop_through}
 use Rattle.std.specs.Io.KnownBytes.{Appends, Consumes, IsAtEnd}
@@ -32,7 +32,7 @@ module _ {E : Type 0} (prints : E → List (List ℕ) → List ℕ → ℕ → T
   kept_same s (x ∷ xs) [] rest t n h k (inr e) w = absurd (omega (arith, e.1))
   kept_same s (x ∷ xs) (y ∷ ys) rest t n h k (inr e) w = long_same s _ _ _ _ (drop_through line_feed rest) t n e.0 e.1 (long_first x xs rest h) (long_first y ys rest k) w
 
-  -- Where a line ends in a part, the line is answered, and the rest of the part comes after it.
+  -- If a line ends in a part, the line is answered, and the rest of the part comes after it.
   pub line_answered : (s : E) (line kept front rest part later t : List ℕ) (n : ℕ) → has_no_end line ≡ true → has_no_end kept ≡ true → has_no_end front ≡ true → Keeps (line ++ front) kept → part ≡ front ++ line_feed ∷ rest
       → prints s (without_return kept ∷ lines (rest ++ later)) t n → prints s (lines (line ++ (part ++ later))) t n
   line_answered s line kept front rest part later t n h k f keeps e w =
@@ -42,7 +42,7 @@ module _ {E : Type 0} (prints : E → List (List ℕ) → List ℕ → ℕ → T
       (kept_same s (line ++ front) kept (line_feed ∷ rest ++ later) t n (no_end_append line front h f) k keeps
       (subst (λ ls. prints s ls t n) (sym (line_ends kept (rest ++ later) k)) w))
 
-  -- Where no line ends in a part, it is kept.
+  -- If no line ends in a part, it is kept.
   pub part_kept : (s : E) (line kept part later t : List ℕ) (n : ℕ) → has_no_end line ≡ true → has_no_end kept ≡ true → has_no_end part ≡ true → Keeps (line ++ part) kept
       → prints s (lines (kept ++ later)) t n → prints s (lines (line ++ (part ++ later))) t n
   part_kept s line kept part later t n h k f keeps w =
@@ -71,7 +71,7 @@ module _ {E : Type 0} (prints : E → List (List ℕ) → List ℕ → ℕ → T
   feeds_rest first s line held kept rest part before after f h k i keeps =
       record { said = f.said; appended = f.appended; goes_on = λ later t n w. f.goes_on later t n (part_kept s held kept rest later t n h k i keeps w) }
 
--- Want of memory ends a run in a part: what was said is a beginning, since the rest would print something.
+-- Out of memory ends a run in a part: what was said is a beginning, since the rest would print something.
 pub feeds_begun : {E : Type 0} (prints : E → List (List ℕ) → List ℕ → ℕ → Type 0) (speaks : Speaks prints) (first s : E) (line held part rest before after : List ℕ)
     → Feeds prints first s line held part rest before after → (later : List ℕ) → SaysFront prints first (lines (line ++ (part ++ later))) before after
 feeds_begun prints speaks first s line held part rest before after f later =
@@ -87,7 +87,7 @@ pub is_nil : (xs : List ℕ) → length xs ≡ 0 → xs ≡ []
 is_nil [] e = refl
 is_nil (x ∷ xs) e = absurd (omega arith)
 
--- Where the input ends, what is kept is the last line.
+-- If the input ends, what is kept is the last line.
 pub last_lines : (kept : List ℕ) → has_no_end kept ≡ true → length kept ≢ 0 → lines (kept ++ []) ≡ kept ∷ []
 last_lines [] h e = absurd (e refl)
 last_lines (x ∷ xs) h e = ap (λ ys. lines ys) (append-nil (x ∷ xs)) ∙ line_last x xs h
@@ -193,7 +193,7 @@ module _ {E : Type 0} (prints : E → List (List ℕ) → List ℕ → ℕ → T
             (u.goes_on (part ++ later) (a.said ++ t) n (a.goes_on later t n w)));
       }
 
-  -- Where the input is this, what was written and a beginning of what the rest prints are a beginning of what it prints.
+  -- If the input is this, what was written and a beginning of what the rest prints are a beginning of what it prints.
   front_by : (first : E) (input written : Option (List ℕ)) (state : E) (line : List ℕ) (left holds new : Option (List ℕ)) (whole later : List ℕ)
       → (u : IsUnderway prints first input written state line left holds) → whole ≡ u.read ++ later → WritesFront prints state (lines (line ++ later)) holds new
       → WritesFront prints first (lines whole) written new
@@ -236,7 +236,7 @@ module _ {E : Type 0} (prints : E → List (List ℕ) → List ℕ → ℕ → T
   underway_failed first (Some xs) written state line (Some ys) (Some zs) holds new u c e f =
       front_by first (Some xs) written state line (Some ys) holds new xs [] u (u.consumed ∙ ap (λ qs. u.read ++ qs) (c ∙ e)) f
 
-  -- At the end of the input, where all was answered.
+  -- At the end of the input, if all was answered.
   pub underway_end : (first : E) (input written : Option (List ℕ)) (state : E) (line : List ℕ) (met : ℕ) (left rest holds new : Option (List ℕ))
       → IsUnderway prints first input written state line left holds → Consumes left rest [] → IsAtEnd rest → Writes prints state (lines (line ++ [])) met holds new
       → IfSome input (λ xs. Writes prints first (lines xs) met written new)

@@ -1,5 +1,5 @@
--- How far a run over an input has come. What lines print is a relation: from a state on, these lines may print this text, where want
--- of memory is met so many times in all.
+-- How far a run over an input has come. What lines print is a relation: from a state on, these lines may print this
+-- text if memory runs out this many times in all.
 use Rattle.std.specs.Prelude.{◌≡◌, ℕ, true, List, ◌∷◌, ◌++◌, Option}
 use Rattle.std.specs.Io.KnownBytes.{Appends, Consumes}
 use Rattle.rapid_model.specs.Lines.{lines}
@@ -13,7 +13,7 @@ pub record Answers {E : Type 0} (prints : E → List (List ℕ) → List ℕ →
   pub appended : after ≡ before ++ said
   pub goes_on : (later : List (List ℕ)) (text : List ℕ) (met : ℕ) → prints new later text met → prints old (line ∷ later) (said ++ text) met
 
--- A line was answered that ends behind these bytes, where others were held of it.
+-- A line was answered that ends behind these bytes; others were held of it before.
 pub record EndsLine {E : Type 0} (prints : E → List (List ℕ) → List ℕ → ℕ → Type 0) (old new : E) (held front before after : List ℕ) : Type 0 where
   pub kept : List ℕ
   pub held_no_end : has_no_end held ≡ true

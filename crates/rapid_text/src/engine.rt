@@ -7,15 +7,15 @@ use std::alloc::AllocError;
 
 /// What answers the lines of an input, one after another.
 pub trait Engine {
-    // From this state on these lines may print this text, where want of memory is met so many
-    // times, those before among them.
+    // From this state on these lines may print this text, if memory runs out this many times in
+    // all, those before counted.
     ghost prints: { Self → List (List ℕ) → List ℕ → ℕ → Type 0 };
 
-    // How many times want of memory was met so far.
+    // How many times memory ran out so far.
     ghost met: { Self → ℕ };
 
-    /// Appends what the line prints to `output`, and goes on to the next state. Want of memory that
-    /// ends the run leaves the output as it was.
+    /// Appends what the line prints to `output`, and goes on to the next state. If out of memory
+    /// ends the run, the output is as it was.
     fn answer(&mut self, line: &[u8], output: &mut Vec<u8>) -> Result<(), AllocError>
         ensures ok { OnOk result (Answers prints self.old self.new line.now output.old.items output.new.items) }
         ensures unchanged { OnErr result (output.new.items ≡ output.old.items) };

@@ -25,7 +25,7 @@ fn all_allowed(line: &[u8]) -> bool
     allowed
 }
 
-/// The first word of a line and what follows it; none where the line has no words.
+/// The first word of a line and what follows it; none if the line has no words.
 pub fn split_word(line: &[u8]) -> Option<(&[u8], &[u8])>
     ensures { MatchOption result (words line.now ≡ [])
         (λ r. words line.now ≡ r.0.now ∷ words r.1.now) }
@@ -63,7 +63,7 @@ fn word_len(line: &[u8]) -> usize
     line.len()
 }
 
-/// The words, where these are three.
+/// The words, if these are three.
 pub fn three_words(line: &[u8]) -> Option<(&[u8], &[u8], &[u8])>
     ensures { MatchOption result (length (words line.now) ≢ 3) (λ r. words line.now ≡ r.0.now ∷ r.1.now ∷ r.2.now ∷ []) }
 {
@@ -76,7 +76,7 @@ pub fn three_words(line: &[u8]) -> Option<(&[u8], &[u8], &[u8])>
     }
 }
 
-/// The word, where this is one.
+/// The word, if this is one.
 pub fn one_word(line: &[u8]) -> Option<&[u8]>
     ensures { MatchOption result (length (words line.now) ≢ 1) (λ r. words line.now ≡ r.now ∷ []) }
 {
@@ -87,12 +87,15 @@ pub fn one_word(line: &[u8]) -> Option<&[u8]>
     }
 }
 
+/// How many digits the greatest number below 2^64 has.
+const MOST_DIGITS: usize = 20;
+
 /// The number that a word spells, without a needless zero in front, if it is one up to the limit.
 pub fn number(word: &[u8], limit: u64) -> Option<u64>
     ensures value { result ≡ number_up_to limit word.now }
     ensures small { IfSome result (λ n. n ≤ limit) }
 {
-    if word.is_empty() || word.len() > 20 || has_needless_zero(word) {
+    if word.is_empty() || word.len() > MOST_DIGITS || has_needless_zero(word) {
         return None;
     }
     let value = digits(word)?;

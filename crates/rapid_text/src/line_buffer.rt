@@ -61,7 +61,7 @@ impl LineBuffer {
         Ok(())
     }
 
-    /// The line, where it ends here: one carriage return at its end is no part of it.
+    /// The line, if it ends here: one carriage return at its end is no part of it.
     pub fn ended(&self) -> &[u8]
         ensures value { result.now ≡ without_return self.now }
         ensures unended { has_no_end self.now ≡ true }
@@ -77,7 +77,7 @@ impl LineBuffer {
         self.bytes.is_empty()
     }
 
-    /// The line, where the input ends here.
+    /// The line, if the input ends here.
     pub fn last(&self) -> &[u8]
         ensures value { result.now ≡ self.now }
         ensures unended { has_no_end self.now ≡ true }

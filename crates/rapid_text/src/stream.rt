@@ -1,4 +1,5 @@
-// From the bytes of an input to those of an output, a block at a time.
+// From the bytes of an input to those of an output, a block at a time. What a block prints is
+// written before the next is read, so that a terminal shows each answer at once.
 
 ghost use Rattle.std.specs.Prelude.{◌≡◌, ◌<◌, ◌≤◌, ℕ, List, [], ◌∷◌, ◌++◌, true, length, take, MatchOption, IfSome, OnOk, OnErr, IfOk};
 ghost use Rattle.std.specs.Io.KnownBytes.{Appends, Consumes, IsAtEnd, Keeps};
@@ -32,8 +33,8 @@ fn split_line(bytes: &[u8]) -> Option<(&[u8], &[u8])>
     None
 }
 
-/// Answers the line that ends behind these bytes: where nothing is kept of it they are all of it,
-/// and they are not copied.
+/// Answers the line that ends behind these bytes. If nothing is kept of it they are all of it, and
+/// are not copied.
 fn end_line<E: Engine>(
     engine: &mut E,
     line: &mut LineBuffer,
@@ -72,7 +73,7 @@ fn feed<E: Engine>(
     line.keep(rest)
 }
 
-/// Answers what stands after the last end of a line, where the input ends.
+/// Answers what stands after the last end of a line, if the input ends.
 fn finish<E: Engine>(
     engine: &mut E,
     line: &LineBuffer,
@@ -88,7 +89,7 @@ fn finish<E: Engine>(
     engine.answer(last, output)
 }
 
-/// Reads bytes into the block; none where the input has ended. A read that a signal interrupts is
+/// Reads bytes into the block; none if the input has ended. A read that a signal interrupts is
 /// tried again.
 fn read_some<R: Read>(reader: &mut R, block: &mut [u8]) -> Result<usize, RunFault>
     ensures bound { IfOk result (λ count. count ≤ length block.new) }
@@ -108,7 +109,7 @@ fn read_some<R: Read>(reader: &mut R, block: &mut [u8]) -> Result<usize, RunFaul
     Err(RunFault::Read)
 }
 
-/// Writes some of the bytes; none where a signal interrupts it.
+/// Writes some of the bytes; none if a signal interrupts it.
 fn write_some<W: Write>(writer: &mut W, bytes: &[u8]) -> Result<usize, RunFault>
     ensures bound { IfOk result (λ count. count ≤ length bytes.now) }
     ensures ok { IfOk result (λ count. Appends (W.contents writer.old) (W.contents writer.new) (take count bytes.now)) }
@@ -158,6 +159,7 @@ fn answer_block<E: Engine, W: Write>(
     ensures begun { OnErr result ((later : List ℕ) →
         WritesFront E.prints engine.old (lines (line.old ++ (block.now ++ later))) (W.contents writer.old) (W.contents writer.new)) }
 {
+    // what was answered before a fault is written too
     let fed = feed(engine, line, block, output);
     write_out(writer, output)?;
     fed?;
@@ -209,8 +211,8 @@ fn answer_all<E: Engine, R: Read, W: Write>(
 }
 
 /// Answers the lines of an input, which the reader gives, and writes what they print and nothing
-/// else. After a fault a beginning of that is written: `Read` where the input could not be read,
-/// `Write` where the output could not be written, `OutOfMemory` where there was no memory.
+/// else. After a fault a beginning of that is written: `Read` if the input could not be read,
+/// `Write` if the output could not be written, `OutOfMemory` if there was no memory.
 pub fn run<E: Engine, R: Read, W: Write>(
     alloc: Global,
     engine: &mut E,

@@ -22,7 +22,7 @@ pub fed_more : (s : StreamEnd) (xs ys : List ℕ) → fed (fed s xs) ys ≡ fed 
 fed_more (Left h) xs ys = ap Left (append_assoc h xs ys)
 fed_more (Fault f) xs ys = refl
 
--- Where more is wanted of some bytes, more was wanted of their beginning.
+-- If more is wanted of some bytes, more was wanted of their beginning.
 incomplete_front : (h xs : List ℕ) → IsIncomplete (h ++ xs) → IsIncomplete h
 incomplete_front h xs i = record {
   no_frame = λ whole rest b. i.no_frame whole (rest ++ xs) (record { fits = b.fits; is = ap (λ l. l ++ xs) b.is ∙ append_assoc (framed whole) rest xs });
@@ -42,7 +42,7 @@ pub none_wants : (s new : StreamEnd) → IsNext s new (Ok None) → Wants s
 none_wants (Left h) new n = (n.0, refl)
 none_wants (Fault f) new n = absurd n
 
--- Want of memory changes nothing in a feed.
+-- Out of memory changes nothing in a feed.
 short_stays : (s new : StreamEnd) → IsNext s new (Err wire.OutOfMemory) → new ≡ s
 short_stays (Left h) new n = n
 short_stays (Fault f) new n = absurd n.0

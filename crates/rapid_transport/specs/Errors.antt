@@ -13,7 +13,7 @@ code_of (Wire fault) = 3
 code_of QueueFull = 4
 code_of OutOfMemory = 99
 
--- A fault of a feed as an error: want of memory is one of its own.
+-- A fault of a feed as an error; out of memory is one of its own.
 abbrev pub of_fault : WireFault → TransportError
 of_fault wire.TooLong = Wire wire.TooLong
 of_fault wire.BadVersion = Wire wire.BadVersion

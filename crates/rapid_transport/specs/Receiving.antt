@@ -11,7 +11,7 @@ use Rattle.rapid_transport.specs.declared.error.TransportError.TheVariants.{Peer
 abbrev pub Wants : StreamEnd → Type 0
 Wants feed = IsNext feed feed (Ok None)
 
--- What is answered, where the feed held these bytes and holds those then, and this is left to read.
+-- What is answered if the feed held these bytes and holds those then, and this is left to read.
 abbrev pub Answers : StreamEnd → StreamEnd → Option (List ℕ) → Result (Option Message) TransportError → Type 0
 -- the message in front
 Answers held new left (Ok (Some m)) = IsNext held new (Ok (Some m))
@@ -26,7 +26,7 @@ Answers held new left (Err (Wire fault)) = IsNext held new (Err fault) × IsLast
 Answers held new left (Err QueueFull) = ⊥
 Answers held new left (Err OutOfMemory) = new ≡ held
 
--- Bytes are lost for want of memory alone.
+-- Bytes are lost only if out of memory.
 abbrev pub Loses : Result (Option Message) TransportError → List ℕ → Type 0
 Loses (Ok o) lost = lost ≡ []
 Loses (Err PeerClosed) lost = lost ≡ []
@@ -41,7 +41,7 @@ pub record Receives (old new : StreamEnd) (before left : Option (List ℕ)) (ans
   pub lost : List ℕ
   pub read : Consumes before left (taken ++ lost)
   pub loses : Loses answer lost
-  -- bytes are read only where more are wanted
+  -- bytes are read only if more are wanted
   pub wanted : taken ++ lost ≢ [] → Wants old
   pub answers : Answers (fed old taken) new left answer
 

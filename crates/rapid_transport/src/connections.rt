@@ -21,7 +21,7 @@ const MOST_CONNECTIONS: usize = 64;
 /// How long connecting takes at most, in milliseconds.
 const LONGEST_CONNECT: u64 = 100;
 
-/// How long a write waits at most where there is no room, in milliseconds.
+/// How long a write waits at most if there is no room, in milliseconds.
 const LONGEST_WAIT: u64 = 50;
 
 /// What became of a frame.
@@ -57,10 +57,10 @@ pub(crate) fn address_of(endpoint: Endpoint) -> SocketAddr {
     SocketAddr::V4(SocketAddrV4::new(address, endpoint.port()))
 }
 
-/// Opens a connection. It fails after 0.1 seconds, and so do writes after half of that in which
-/// there is no room. Where nobody listens at a port of the ephemeral range, the system may take that
-/// very port for this end, and the connection leads to itself: it is given up at once, or whoever
-/// owns the port could not listen at it.
+/// Opens a connection. It fails after 0.1 seconds, and a write fails after half of that without
+/// room. If nobody listens at a port of the ephemeral range, the system may take that very port for
+/// this end. Such a connection leads to itself and is given up at once, else the owner of the port
+/// could not listen at it.
 fn connect<R>(rt: &R, to: Endpoint) -> io::Result<TcpStream>
 where
     R: Net<Listener = TcpListener, Stream = TcpStream>,
@@ -70,6 +70,7 @@ where
     if stream.local_addr()? == stream.peer_addr()? {
         return Err(io::Error::from(ErrorKind::ConnectionRefused));
     }
+    // a frame is waited for, and the next may come much later
     stream.set_nodelay(true)?;
     stream.set_write_timeout(Some(Duration::from_millis(LONGEST_WAIT)))?;
     Ok(stream)
@@ -83,7 +84,7 @@ pub(crate) fn is_exhausted(error: &io::Error) -> bool {
     error.raw_os_error() == Some(TOO_MANY_OPEN)
 }
 
-/// Whether the peer has closed the connection. Nothing ever comes by an outgoing connection, so a
+/// Whether the peer has closed the connection. Nothing ever comes by an outgoing connection. So a
 /// look at what there is to read finds nothing, or the connection has ended: a peer that sends
 /// something back is none of ours.
 fn is_closed(stream: &TcpStream) -> io::Result<bool> {
@@ -112,7 +113,7 @@ impl Connections {
         self.all.iter().position(|connection| connection.to == to)
     }
 
-    /// Closes the oldest connection where there is no room for another.
+    /// Closes the oldest connection if there is no room for another.
     fn make_room(&mut self)
         ensures { vec_len self.new.all < 64 }
     {
@@ -121,15 +122,15 @@ impl Connections {
         }
     }
 
-    /// Keeps a connection open; not where there is no memory for that.
+    /// Keeps a connection open, unless there is no memory for that.
     fn keep(&mut self, to: Endpoint, stream: TcpStream) {
         self.make_room();
         let _ = self.all.push(Connection { to, stream });
     }
 
-    /// Sends a frame by the connection to this endpoint that is open, which is closed where that
-    /// fails; none where no connection is open, or where the peer has closed it: a write would take
-    /// the frame nevertheless, and nobody would get it.
+    /// Sends a frame by the open connection to this endpoint, and closes the connection if that
+    /// fails. None if no connection is open, or if the peer has closed it: a write would take the
+    /// frame nevertheless, and nobody would get it.
     fn send_by_open<R: Clock>(&mut self, rt: &R, to: Endpoint, frame: &Bytes) -> Option<Outcome> {
         let place = self.place(to)?;
         if is_closed(&self.all[place].stream).unwrap_or(true) {
@@ -143,7 +144,7 @@ impl Connections {
         Some(outcome)
     }
 
-    /// Sends a frame by a new connection to this endpoint, which stays open where that succeeds.
+    /// Sends a frame by a new connection to this endpoint, which stays open if that succeeds.
     fn send_by_new<R>(&mut self, rt: &R, to: Endpoint, frame: &Bytes, meters: &Meters) -> Outcome
     where
         R: Net<Listener = TcpListener, Stream = TcpStream> + Clock,
@@ -165,11 +166,11 @@ impl Connections {
         outcome
     }
 
-    /// Sends a frame to this endpoint, by the connection that is open or else by a new one, and
-    /// says whether it was sent without a fault. Where the open one has failed, as it does when
-    /// somebody cut it, all of the frame goes by a new one, and the answer is false. Nothing is sent
-    /// to an endpoint that is not local. A peer that is too slow is left alone for a while: nothing
-    /// is sent to it then.
+    /// Sends a frame to this endpoint, by the open connection or else by a new one. The answer says
+    /// whether it was sent without a fault. If the open one fails, as it does once somebody has cut
+    /// it, all of the frame goes by a new one, and the answer is false. Nothing is sent to an
+    /// endpoint that is not local. A peer that is too slow is left alone for a while: nothing is
+    /// sent to it then.
     pub(crate) fn deliver<R>(
         &mut self,
         rt: &R,
@@ -187,6 +188,8 @@ impl Connections {
         let outcome = match by_open {
             Some(Outcome::Sent) => Outcome::Sent,
             Some(Outcome::Late) => Outcome::Late,
+            // of the first try the peer has a part at most, which ends within a frame, so the frame
+            // comes only once
             Some(Outcome::Broken) | None => self.send_by_new(rt, to, frame, meters),
         };
         match outcome {

@@ -1,4 +1,5 @@
-// Readers and writers that count how many of their calls failed.
+// Readers and writers that count how many of their calls failed. Those of std do not say which of
+// their calls failed, so the engines stand on traits of their own, which promise it.
 
 ghost use Rattle.std.specs.Prelude.{◌≡◌, ◌≤◌, ℕ, List, Option, length, IfOk};
 ghost use Rattle.std.specs.Io.KnownBytes.{ReadConsumes, WriteAppends};
@@ -22,10 +23,10 @@ pub trait Counted {
 
 /// A reader that counts how many of its calls failed.
 pub trait CountedRead: Counted {
-    // The bytes that reads will give from here on, where they are known.
+    // The bytes that reads will give from here on, if they are known.
     ghost remaining: { Self → Option (List ℕ) };
 
-    /// Reads bytes into the block: none only at the end of the input, or where there is no room.
+    /// Reads bytes into the block: none only at the end of the input, or if there is no room.
     fn read_some(&mut self, block: &mut [u8]) -> Result<usize, Failed>
         ensures bound { IfOk result (λ count. count ≤ length block.new) }
         ensures bytes { ReadConsumes (remaining self.old) (remaining self.new) result block.new }
@@ -34,7 +35,7 @@ pub trait CountedRead: Counted {
 
 /// A writer that counts how many of its calls failed.
 pub trait CountedWrite: Counted {
-    // The bytes that the writer holds, where they are known.
+    // The bytes that the writer holds, if they are known.
     ghost contents: { Self → Option (List ℕ) };
 
     /// Writes some of the bytes from the first on, and says how many.
@@ -69,7 +70,7 @@ impl<S: Drop> Metered<S> {
     }
 }
 
-/// The outcome of a call, which is counted where it failed.
+/// The outcome of a call, which is counted if it failed.
 fn count<T>(failed: &mut u64, outcome: Result<T, Failed>) -> Result<T, Failed>
     ensures same { result ≡ outcome }
     ensures counts { failed.new ≡ after_call outcome failed.old }
@@ -80,7 +81,7 @@ fn count<T>(failed: &mut u64, outcome: Result<T, Failed>) -> Result<T, Failed>
     outcome
 }
 
-/// Reads once, and again where a signal interrupts.
+/// Reads once, and again if a signal interrupts.
 fn read<R: Read>(reader: &mut R, block: &mut [u8]) -> Result<usize, Failed>
     ensures bound { IfOk result (λ count. count ≤ length block.new) }
     ensures bytes { ReadConsumes (R.remaining reader.old) (R.remaining reader.new) result block.new }
@@ -98,7 +99,7 @@ fn read<R: Read>(reader: &mut R, block: &mut [u8]) -> Result<usize, Failed>
     Err(Failed)
 }
 
-/// Writes once, and again where a signal interrupts.
+/// Writes once, and again if a signal interrupts.
 fn write<W: Write>(writer: &mut W, bytes: &[u8]) -> Result<usize, Failed>
     ensures bound { IfOk result (λ count. count ≤ length bytes.now) }
     ensures bytes { WriteAppends (W.contents writer.old) (W.contents writer.new) result bytes.now }

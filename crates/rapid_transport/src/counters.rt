@@ -80,7 +80,7 @@ impl Meters {
         }
     }
 
-    /// The numbers as they are, with so many losses.
+    /// The numbers as they are, with this many losses.
     pub(crate) fn with_losses(&self, losses: u64) -> Counters {
         Counters {
             frames_in: self.frames_in.get(),

@@ -17,7 +17,7 @@ use std::sync::Wait;
 /// How many bytes are read at a time.
 const BLOCK: usize = 16_384;
 
-/// Reads some bytes and feeds them; false where the input has ended.
+/// Reads some bytes and feeds them; false if the input has ended.
 fn refill<R: CountedRead>(reader: &mut R, feed: &mut Feed) -> Result<bool, TransportError>
     ensures refills { Refills feed.old feed.new (R.remaining reader.old) (R.remaining reader.new) result }
     ensures counts { R.faults reader.new ≡ after_io result (R.faults reader.old) }
@@ -32,14 +32,14 @@ fn refill<R: CountedRead>(reader: &mut R, feed: &mut Feed) -> Result<bool, Trans
 }
 
 /// The next message of the reader's bytes, which go through the feed: what the feed answers of the
-/// bytes that it held and of those that were read. It reads only where no whole frame is held. None
-/// where the input has ended between frames.
+/// bytes that it held and of those that were read. It reads only if no whole frame is held. None if
+/// the input has ended between frames.
 ///
 /// # Errors
 ///
-/// `PeerClosed` where the input has ended within a frame. `Io` where the device failed in this
-/// call. `Wire` with the feed's fault, at each later call too. `OutOfMemory`, after which bytes
-/// that were read may be lost. The connection is given up after each of them.
+/// `PeerClosed` if the input has ended within a frame. `Io` if the device failed in this call.
+/// `Wire` with the feed's fault, at each later call too. `OutOfMemory`, after which bytes that were
+/// read may be lost. The connection is given up after each of them.
 pub fn receive<W: Wait, R: CountedRead>(
     rt: &W,
     reader: &mut R,
@@ -49,6 +49,7 @@ pub fn receive<W: Wait, R: CountedRead>(
     ensures counts { R.faults reader.new ≡ after_io result (R.faults reader.old) }
 {
     for _ in rt.forever() {
+        // what is held goes first: a read may wait for a peer that has no more to say
         if let Some(message) = feed.next()? {
             return Ok(Some(message));
         }
@@ -82,7 +83,7 @@ fn write_some<W: CountedWrite>(writer: &mut W, bytes: &[u8]) -> Result<usize, Tr
 ///
 /// # Errors
 ///
-/// `PeerClosed` where a write took no byte. `Io` where the device failed in this call.
+/// `PeerClosed` if a write took no byte. `Io` if the device failed in this call.
 pub fn send<W: CountedWrite>(writer: &mut W, frame: &Bytes) -> Result<(), TransportError>
     ensures whole { OnOk result (Appends (W.contents writer.old) (W.contents writer.new) frame.now) }
     ensures part { OnErr result (WritesPart (W.contents writer.old) (W.contents writer.new) frame.now) }

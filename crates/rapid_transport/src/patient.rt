@@ -10,9 +10,9 @@ const FIRST_FRAME: u64 = 5_000;
 /// How long after a later frame was begun it is whole at the latest, in milliseconds.
 const WHOLE_FRAME: u64 = 5_000;
 
-/// A stream whose reads fail where a frame takes too long. Between frames they wait without a
-/// limit. A peer connects only to write at once, so one that is silent from the first, or stops
-/// within a frame, only holds a reader and the memory of a part of a frame.
+/// A stream whose reads fail if a frame takes too long. Between frames they wait without a limit. A
+/// peer connects only to write at once, so one that is silent from the first, or stops within a
+/// frame, only holds a reader and the memory of a part of a frame.
 #[derive(Drop)]
 pub(crate) struct Patient<'a, R: Clock> {
     rt: &'a R,

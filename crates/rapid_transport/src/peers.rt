@@ -12,7 +12,7 @@ use crate::inbox::Inbox;
 use crate::patient::Patient;
 use crate::queue::{SenderEnd, SenderQueue};
 use crate::readers::Readers;
-use crate::sender::{self, Context};
+use crate::sender::{self, SenderContext};
 use bytes::Bytes;
 use rapid_endpoint::Endpoint;
 use rapid_wire::Feed;
@@ -24,13 +24,15 @@ use std::thread::{Parker, Threads};
 use std::time::{Clock, Duration};
 use std::{io, thread};
 
-/// How many senders there are, each with a queue of its own.
+/// How many senders there are, each with a queue of its own. A peer that takes nothing holds up only
+/// those that go by the same sender.
 const SENDERS: u16 = 4;
 
 /// How many frames a sender's queue has room for.
 const CAPACITY: usize = 4_096;
 
-/// How long the acceptor waits after a connection could not be accepted, in milliseconds.
+/// How long the acceptor waits after a connection could not be accepted, in milliseconds, so that it
+/// does not spin while there is no descriptor.
 const AFTER_A_FAULT: u64 = 50;
 
 /// How often it is tried to wake the acceptor, and how long each try takes at most, in
@@ -111,7 +113,7 @@ impl Peers {
     ///
     /// # Errors
     ///
-    /// `NoPort` where the port was not to be had, and `OutOfMemory`.
+    /// `NoPort` if the port was not to be had, and `OutOfMemory`.
     pub fn listen<R>(
         rt: &R,
         alloc: Global,
@@ -147,7 +149,7 @@ impl Peers {
     ///
     /// # Errors
     ///
-    /// `QueueFull` where there was no room: the frame is dropped, and counted as a loss.
+    /// `QueueFull` if there was no room: the frame is dropped, and counted as a loss.
     pub fn post<R: Wait>(&self, rt: &R, to: Endpoint, frame: Bytes) -> Result<(), TransportError>
         ensures { IfErr result (λ e. e ≡ QueueFull) }
     {
@@ -159,7 +161,7 @@ impl Peers {
     }
 
     /// How many frames were lost: those that found a queue full, and those that could not be sent.
-    /// The count stays at 2^64 - 1.
+    /// The count goes no further than 2^64 - 1.
     pub fn losses<R: Wait>(&self, rt: &R) -> u64 {
         let mut losses = 0u64;
         for lane in &self.lanes {
@@ -174,15 +176,15 @@ impl Peers {
     }
 
     /// What the sender of a lane shares with the other threads.
-    fn context<'a>(&'a self, lane: &'a Lane) -> Context<'a> {
-        Context {
+    fn context<'a>(&'a self, lane: &'a Lane) -> SenderContext<'a> {
+        SenderContext {
             parker: &lane.parker,
             stop: &self.stop,
             meters: &self.meters,
         }
     }
 
-    /// Tells the senders to stop.
+    /// Has the senders stop.
     fn stop_senders(&self) -> bool {
         let stops = self.stop.swap(true, Ordering::SeqCst);
         for lane in &self.lanes {
@@ -192,16 +194,16 @@ impl Peers {
     }
 
     /// Accepts connections, hands the messages that come by them to the inbox, and sends what is
-    /// posted, until `stop`. The caller's thread is the acceptor; the readers, at most 256, and the
+    /// posted, until `stop`. The caller's thread is the acceptor. The readers, at most 256, and the
     /// senders have threads of their own, all of which have ended when it returns. The ends are
     /// those that `listen` gave. A connection beyond 256 is closed at once, and so is one by which
-    /// something comes that is no frame. A connection is closed too where its first frame is not
-    /// whole within 5 seconds, or a later frame not within 5 seconds from its first bytes on.
-    /// Between frames there is no limit.
+    /// something comes that is no frame. A connection is closed too if its first frame is not whole
+    /// within 5 seconds, or a later frame within 5 seconds from its first bytes on. Between frames
+    /// there is no limit.
     ///
     /// # Errors
     ///
-    /// `OutOfMemory` where a sender's thread was not to be had: nothing runs then.
+    /// `OutOfMemory` if a sender's thread was not to be had: nothing runs then.
     pub fn run<R, I>(
         &self,
         rt: &R,
@@ -249,7 +251,7 @@ impl Peers {
         }
     }
 
-    /// The number under which a connection is read; none where it is closed at once.
+    /// The number under which a connection is read; none if it is closed at once.
     fn number<R: Wait>(&self, rt: &R, stream: &TcpStream) -> Option<u64> {
         match stream.try_clone() {
             Ok(handle) => self.readers.lock(rt).admit(handle),
@@ -260,7 +262,7 @@ impl Peers {
         }
     }
 
-    /// Takes in a connection that was accepted; none where it is closed at once.
+    /// Takes in a connection that was accepted; none if it is closed at once.
     fn admit<R: Wait + Clock>(
         &self,
         rt: &R,

@@ -27,6 +27,7 @@ impl<T> Order<T> for AnyOrder {
 pub struct SenderQueue {
     sink: Sink<(Endpoint, Bytes), AnyOrder>,
     full: u64,
+    // what the other end said to be lost: only that end writes it
     failed: Arc<AtomicU64>,
 }
 
@@ -35,7 +36,7 @@ impl Model for SenderQueue {
 
     ghost Value = { Putting };
 
-    ghost view = { λ q. record { queue = q.sink.0; put = q.sink.1; full = q.full } };
+    ghost view = { λ q. record { queue = q.sink.queue; put = q.sink.put; full = q.full } };
 }
 
 /// The end of a sender's queue that takes. Contracts see the queue, the frames that were taken, and
@@ -44,6 +45,7 @@ impl Model for SenderQueue {
 pub struct SenderEnd {
     source: Source<(Endpoint, Bytes), AnyOrder>,
     failed: u64,
+    // the same number, for the end that puts
     told: Arc<AtomicU64>,
 }
 
@@ -52,12 +54,12 @@ impl Model for SenderEnd {
 
     ghost Value = { Taking };
 
-    ghost view = { λ e. record { queue = e.source.0; taken = e.source.1; failed = e.failed } };
+    ghost view = { λ e. record { queue = e.source.queue; taken = e.source.taken; failed = e.failed } };
 }
 
 impl SenderQueue {
-    /// An empty queue with room for so many frames, 1 to 4,096: the end that puts, and the one that
-    /// takes.
+    /// An empty queue with room for this many frames, 1 to 4,096: the end that puts, and the one
+    /// that takes.
     pub fn new(alloc: Global, capacity: usize) -> Result<(SenderQueue, SenderEnd), AllocError>
         requires { (0 < capacity) × (capacity ≤ 4096) }
         ensures queue { IfOk result (λ ends. ends.0.queue ≡ ends.1.queue) }
@@ -84,7 +86,7 @@ impl SenderQueue {
     ///
     /// # Errors
     ///
-    /// `QueueFull` where there was no room: the frame is dropped, and counted as a loss.
+    /// `QueueFull` if there was no room: the frame is dropped, and counted as a loss.
     pub fn put<R: Wait>(&mut self, rt: &R, to: Endpoint, frame: Bytes) -> Result<(), TransportError>
         ensures queue { self.new.queue ≡ self.old.queue }
         ensures put { OnOk result ((self.new.put ≡ self.old.put ++ (to, frame) ∷ []) × (self.new.full ≡ self.old.full)) }
@@ -118,7 +120,7 @@ impl SenderQueue {
 }
 
 impl SenderEnd {
-    /// Takes the oldest frame, and where it goes; none where there is none.
+    /// Takes the oldest frame, and where it goes; none if there is none.
     pub fn take<R: Wait>(&mut self, rt: &R) -> Option<(Endpoint, Bytes)>
         ensures queue { self.new.queue ≡ self.old.queue }
         ensures taken { MatchOption result (self.new.taken ≡ self.old.taken) (λ frame. self.new.taken ≡ self.old.taken ++ frame ∷ []) }

@@ -33,13 +33,14 @@ impl Readers {
     }
 
     /// Takes in a connection that is to be read, by a second handle of it, and gives its number;
-    /// none where 256 are read already, or where no memory for that was to be had.
+    /// none if 256 are read already, or if no memory for that was to be had.
     pub(crate) fn admit(&mut self, stream: TcpStream) -> Option<u64> {
         if self.all.len() >= MOST_READERS {
             return None;
         }
         let number = self.next;
         self.all.push(Reader { number, stream }).ok()?;
+        // a number names its connection also after others have left, which a place does not
         self.next = number.wrapping_add(1);
         Some(number)
     }

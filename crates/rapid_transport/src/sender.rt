@@ -14,13 +14,13 @@ use std::time::{Clock, Duration, Instant};
 /// How long a sender goes on with what is queued once it is told to stop, in milliseconds.
 const LAST_FRAMES: u64 = 300;
 
-/// How long a sender waits to be woken at most, and how much time lies between two looks which of
-/// its connections have ended, in milliseconds.
+/// How long a sender waits to be woken at most, in milliseconds. As much time lies between two
+/// looks for connections that have ended.
 const BETWEEN_LOOKS: u64 = 1_000;
 
 /// What a sender shares with the other threads of the peers.
 #[derive(Drop)]
-pub(crate) struct Context<'a> {
+pub(crate) struct SenderContext<'a> {
     /// Whoever puts a frame into the sender's queue wakes it by this.
     pub parker: &'a Parker,
     /// Whether it is told to stop.
@@ -31,14 +31,14 @@ pub(crate) struct Context<'a> {
 /// How a sender that finds nothing to send passes the time: it looks again at once for a while, then
 /// it waits to be woken.
 #[derive(Drop)]
-struct Rest {
+struct Idling {
     backoff: Backoff,
     looked: Option<Instant>,
 }
 
-impl Rest {
-    fn new() -> Rest {
-        Rest {
+impl Idling {
+    fn new() -> Idling {
+        Idling {
             backoff: Backoff::new(),
             looked: None,
         }
@@ -95,21 +95,22 @@ fn is_over<R: Clock>(rt: &R, stopped: &mut Option<Instant>) -> bool {
 
 /// Sends what is taken from the queue until it is told to stop, and then what is queued for at most
 /// 0.3 seconds more. A frame that could not be sent, or whose connection failed, counts as a loss.
-pub(crate) fn work<R>(rt: &R, alloc: Global, mut end: SenderEnd, context: &Context<'_>)
+pub(crate) fn work<R>(rt: &R, alloc: Global, mut end: SenderEnd, context: &SenderContext<'_>)
 where
     R: Net<Listener = TcpListener, Stream = TcpStream> + Wait + Clock,
 {
     let mut connections = Connections::new(alloc);
-    let mut rest = Rest::new();
+    let mut idling = Idling::new();
     let mut stopped = None;
     for _ in rt.forever() {
+        // asked before the queue is: what was put before the stop is still taken
         let stops = context.stop.load(Ordering::SeqCst);
         if stops && is_over(rt, &mut stopped) {
             return;
         }
         match end.take(rt) {
             Some((to, frame)) => {
-                rest.end();
+                idling.end();
                 if connections.deliver(rt, to, &frame, context.meters) {
                     context.meters.frames_out.raise();
                 } else {
@@ -120,7 +121,7 @@ where
                 if stops {
                     return;
                 }
-                if rest.pass(rt, context.parker) {
+                if idling.pass(rt, context.parker) {
                     connections.close_ended();
                 }
             }

@@ -6,8 +6,8 @@ use rapid_endpoint::Endpoint;
 use std::alloc::Global;
 use std::time::{Clock, Duration, Instant};
 
-/// How long a peer that was too slow is left alone at first, in milliseconds: half a round of probes
-/// where a tick takes 10, since four rounds without an answer expel a peer.
+/// How long a peer that was too slow is left alone at first, in milliseconds: half a round of
+/// probes at ticks of 10, since four rounds without an answer expel a peer.
 const FIRST_PAUSE: u64 = 50;
 
 /// How long a peer is left alone at most, in milliseconds. The pause doubles each time that it is
@@ -56,7 +56,7 @@ impl SlowPeers {
         }
     }
 
-    /// Lets the first peer go where there is no room for another.
+    /// Lets the first peer go if there is no room for another.
     fn make_room(&mut self)
         ensures { vec_len self.new.all < 1024 }
     {
@@ -65,7 +65,7 @@ impl SlowPeers {
         }
     }
 
-    /// How long a peer that was too slow is to be left alone: twice as long as the last time, where
+    /// How long a peer that was too slow is to be left alone: twice as long as the last time, if
     /// that was lately.
     fn next_pause(&self, peer: Endpoint) -> Duration {
         match self.all.iter().find(|slow| slow.peer == peer) {
@@ -77,8 +77,8 @@ impl SlowPeers {
         }
     }
 
-    /// A peer was too slow: it is left alone for a while from now on; not where there is no memory
-    /// for that.
+    /// A peer was too slow: it is left alone for a while from now on, unless there is no memory for
+    /// that.
     pub(crate) fn add<R: Clock>(&mut self, rt: &R, peer: Endpoint) {
         let Ok(since) = Instant::now(rt) else {
             return;

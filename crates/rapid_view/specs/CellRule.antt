@@ -43,7 +43,7 @@ pub record Kept (room : ℕ) (s : State (Unit {0}) Known) : Type 0 where
 abbrev pub writing : ℕ → List Stamp → List ℕ → Known
 writing room seen pending = record { writes = true; room = room; seen = seen; told = []; pending = pending }
 
--- The writer of an empty list with room for so many stamps.
+-- The writer of an empty list with room for this many stamps.
 abbrev pub newcomer : ℕ → Known
 newcomer room = writing room [] []
 

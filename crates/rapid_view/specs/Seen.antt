@@ -16,15 +16,15 @@ pub record Written : Type 0 where
   pub room : ℕ
   pub seen : List Stamp
 
--- Which cell the writer writes, for how many views it has room, the list that is published, and the view that readers find; none where even a copy that shares
--- its members was refused.
+-- Which cell the writer writes, for how many views it has room, the list that is published, and the view that readers
+-- find; none if even a copy that shares its members was refused.
 pub record Publishing : Type 0 where
   pub cell : TableId
   pub room : ℕ
   pub seen : List Stamp
   pub shown : Option Configuration
 
--- The height of the last stamp, 0 where there is none.
+-- The height of the last stamp, 0 if there is none.
 abbrev pub last_height : List Stamp → ℕ
 last_height [] = 0
 last_height (s ∷ []) = s.height
@@ -34,7 +34,7 @@ last_height (s ∷ t ∷ stamps) = last_height (t ∷ stamps)
 abbrev pub MayFollow : ℕ → List Stamp → ℕ → Type 0
 MayFollow room seen height = (height ≡ last_height seen + 1) × (length seen < room)
 
--- Why a view of this height was not published, where so many have room.
+-- Why a view of this height was not published in a cell with this much room.
 abbrev pub Refused : ℕ → List Stamp → ℕ → ViewError → Type 0
 Refused room seen height NotNext = height ≢ last_height seen + 1
 Refused room seen height CellFull = (height ≡ last_height seen + 1) × (length seen ≡ room)

@@ -38,6 +38,7 @@ fn seats_of(
     let mut all = Vec::with_capacity(alloc, seats)?;
     for _ in 0..seats {
         let stamps = writer.reader()?;
+        // the library does not tell a lack of places from a lack of memory
         let Ok(list) = list.handle() else {
             return Err(ViewError::NoPlace);
         };
@@ -50,8 +51,8 @@ impl ViewCell {
     /// The most views that a cell may have room for.
     pub const MOST: usize = 65_536;
 
-    /// A cell in which this view is published, with room for so many: its writer, and its seats.
-    /// `NoPlace` where a seat got no reader's place.
+    /// A cell in which this view is published, with room for this many views: its writer, and its
+    /// seats. `NoPlace` if a seat got no reader's place.
     pub fn new<R: Wait + Drop>(
         rt: R,
         alloc: Global,
@@ -77,7 +78,7 @@ impl ViewCell {
         Ok((writer, all))
     }
 
-    /// An empty list with room for so many stamps, and the seat that writes it.
+    /// An empty list with room for this many stamps, and the seat that writes it.
     pub(crate) fn empty(
         alloc: Global,
         room: usize,

@@ -10,8 +10,7 @@ use rapid_config::Stamp;
 use std::alloc::{AllocError, Global};
 
 /// The last published view, and its stamp. The view shares its list of members with all its copies,
-/// so it takes its place here without memory. It is missing only where even such a copy was
-/// refused.
+/// so it takes its place here without memory. It is missing only if even such a copy was refused.
 #[derive(Drop)]
 pub struct Page {
     alloc: Global,
@@ -33,6 +32,7 @@ impl Absorb<View> for Page {
         *self = Page {
             alloc: self.alloc,
             stamp: operation.stamp(),
+            // an absorbed view has to take no memory and not to fail, so a refused copy is left out
             view: operation.try_copy(self.alloc).ok(),
         };
         Ok(())

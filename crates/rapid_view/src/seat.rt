@@ -42,7 +42,7 @@ fn is_same(one: &Stamp, other: &Stamp) -> bool
     one.id() == other.id()
 }
 
-/// The view in the list; none where the writer is gone.
+/// The view in the list; none if the writer is gone.
 fn find(list: &mut ReadHandle<Page>) -> Result<Option<View>, AllocError> {
     let Some(guard) = list.enter() else {
         return Ok(None);
@@ -71,8 +71,8 @@ impl ViewSeat {
     }
 
     /// The view of the last stamp of a published list that begins with all that this seat had seen.
-    /// Afterwards the seat has seen that list, also where it answers an error: `Behind` where the
-    /// view of the last stamp is still to be put in the list, or the writer is gone.
+    /// Afterwards the seat has seen that list, also if it answers an error. `Behind` if the view of
+    /// the last stamp is still to be put in the list, or the writer is gone.
     #[tactic(auto, using(crate::proofs::Beginnings::begins_longer))]
     pub fn members<R: Wait>(&mut self, rt: &R) -> Result<View, ViewError>
         ensures cell { self.new.cell ≡ self.old.cell }
@@ -84,8 +84,10 @@ impl ViewSeat {
     {
         self.stamps.tell();
         for _ in rt.forever() {
+            // the view first: its stamp was published before it, so the stamp read next is not older
             let found = find(&mut self.list)?;
             let stamp = self.stamps.stamp();
+            // the list goes with its writer: whoever wants the last view keeps the writer
             let Some(view) = found else {
                 return Err(ViewError::Behind(stamp));
             };

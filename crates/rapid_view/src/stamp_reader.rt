@@ -78,7 +78,7 @@ fn look(cell: &ViewCell, seat: &mut Seat<(), Known>) -> usize
     cell.table.shared.load::<Looks>(seat, 0) as usize
 }
 
-/// Tells the seat what another has seen.
+/// Lets the seat know what another has seen.
 fn hear(cell: &ViewCell, seat: &mut Seat<(), Known>, theirs: &mut Seat<(), Known>)
     requires own { seat.old.table_id ≡ cell.now.table.shared.table_id }
     requires theirs { theirs.old.table_id ≡ cell.now.table.shared.table_id }

@@ -33,9 +33,9 @@ impl<R: Wait + Drop> Model for ViewWriter<R> {
 }
 
 impl<R: Wait + Drop> ViewWriter<R> {
-    /// Publishes the next view: its stamp, and then the view itself. `NotNext` where its height is
-    /// not one more than the last, else `CellFull` where there is room for no more. An error
-    /// changes nothing.
+    /// Publishes the next view: its stamp, and then the view itself. `NotNext` if its height is not
+    /// one more than the last, else `CellFull` if there is room for no more. An error changes
+    /// nothing.
     pub fn publish(&mut self, view: View) -> Result<(), ViewError>
         ensures same { (self.new.cell ≡ self.old.cell) × (self.new.room ≡ self.old.room) }
         ensures longer { IfOk result (λ _. self.new.seen ≡ self.old.seen ++ model.stamp view ∷ []) }
@@ -46,9 +46,11 @@ impl<R: Wait + Drop> ViewWriter<R> {
     {
         let stamp = view.stamp();
         self.stamps.check(stamp.height())?;
+        // memory is asked for first, so that a refusal changes nothing
         let Ok(()) = self.list.append(view) else {
             return Err(ViewError::OutOfMemory);
         };
+        // the stamp goes before the view, so that a seat that finds a view finds its stamp too
         self.stamps.publish(stamp);
         let Ok(()) = self.list.publish() else {
             unreachable!()

@@ -44,15 +44,15 @@ impl MemberState {
         ensures same { IsSameMember self.old self.new }
     {
         let rest = Arc::make_mut(&mut self.rest)?;
-        let watch = Arc::make_mut(&mut rest.watch)?;
-        watch.detector.batch(alerts)
+        let detection = Arc::make_mut(&mut rest.detection)?;
+        detection.detector.batch(alerts)
     }
 
     /// The unstable processes, ascending.
     pub(super) fn unstable(&self) -> Result<Vec<Process>, AllocError>
         ensures { IfOk result (λ found. found.items ≡ unstable (observers_of self.now.config) self.now.detector.direct) }
     {
-        self.rest.watch.detector.unstable()
+        self.rest.detection.detector.unstable()
     }
 
     /// Whether no process was unstable at the last tick.
@@ -91,7 +91,7 @@ impl MemberState {
         ballots.coordinator.hear_promise(place, promise, proposal)
     }
 
-    /// Asks the acceptor for a promise at a ballot; none where it has promised one that is as high.
+    /// Asks the acceptor for a promise at a ballot; none if it has promised one that is as high.
     pub(super) fn promise_at(&mut self, ballot: Ballot) -> Result<Option<Promise>, AllocError>
         ensures state { IfOk result (λ p. IfSome p (λ _. self.new ≡ record self.old { acceptor = acceptor.after_promise self.old.acceptor ballot })) }
         ensures ballot { IfOk result (λ p. IfSome p (λ x. x.ballot ≡ ballot)) }
@@ -105,7 +105,7 @@ impl MemberState {
         ballots.promise(ballot)
     }
 
-    /// Begins the next ballot of the coordinator; none where its rounds are used up.
+    /// Begins the next ballot of the coordinator; none if its rounds are used up.
     #[tactic(auto, using(crate::proofs::Ballots::next_is_classic))]
     pub(super) fn begin(&mut self) -> Result<Option<Ballot>, AllocError>
         ensures next { IfOk result (λ b. b ≡ coordinator.next_ballot self.old.coordinator self.old.acceptor.rnd) }
@@ -119,7 +119,7 @@ impl MemberState {
         let Ok(ballot) = ballots.coordinator.begin(ballots.acceptor.rnd()) else {
             return Ok(None);
         };
-        // says that it is a ballot
+        // does nothing, and its clause says that this is a ballot
         let _ = ballot.round();
         Ok(Some(ballot))
     }

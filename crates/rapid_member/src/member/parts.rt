@@ -1,4 +1,6 @@
-// The parts of a member, which its copies share until one of them changes a part.
+// The parts of a member, which its copies share until one of them changes a part. They are shared on
+// two levels: the context, the fast votes, and the rest, which shares its four parts in turn. So a
+// vote on a copy copies the fast votes alone, and a tick at which nothing is due copies nothing.
 
 ghost use Rattle.std.specs.Prelude.{◌≡◌, ◌<◌, ◌≤◌, [], false, None, All, IfOk, IfSome, IfNone, IfErr, Ok, Err, OnOk, OnErr, length};
 ghost use Rattle.std.specs.Arc.{arc_value};
@@ -69,7 +71,7 @@ pub(crate) struct Ballots {
 }
 
 impl Ballots {
-    /// Nothing was said, heard or proposed by the member at this place among so many.
+    /// Nothing was said, heard or proposed by the member at this place among this many.
     pub(crate) fn new(alloc: Global, size: usize, place: usize) -> Ballots
         requires size { size ≤ 1024 }
         requires place { place < size }
@@ -86,7 +88,7 @@ impl Ballots {
 }
 
 impl Ballots {
-    /// Asks the acceptor for a promise at a ballot; none where it has promised one that is as high.
+    /// Asks the acceptor for a promise at a ballot; none if it has promised one that is as high.
     #[tactic(auto, using(crate::proofs::Ballots::refused_for))]
     pub(crate) fn promise(&mut self, ballot: Ballot) -> Result<Option<Promise>, AllocError>
         ensures state { IfOk result (λ p. IfSome p (λ _. self.new ≡ record self.old { acceptor = acceptor.after_promise self.old.acceptor ballot })) }
@@ -183,8 +185,8 @@ impl Raised {
         self.outbox.raise(alert)
     }
 
-    /// Whether some alerts may wait to be flushed: where none does, a flush gives no batch and
-    /// changes nothing.
+    /// Whether some alerts may wait to be flushed. If none does, a flush gives no batch and changes
+    /// nothing.
     #[tactic(auto, using(crate::proofs::Waiting::still_flushed, crate::proofs::Waiting::none_flushed))]
     pub(crate) fn waits(&self) -> bool
         ensures none { result ≡ false → batch_of (outbox.unflushed self.now.outbox) ≡ None }
@@ -236,12 +238,12 @@ impl Clone for Raised {
 
 /// The cut detector.
 #[derive(Debug, Drop)]
-pub(crate) struct Watch {
+pub(crate) struct Detection {
     pub(crate) detector: Detector<SharedRings>,
     rings: SharedRings,
 }
 
-impl Model for Watch {
+impl Model for Detection {
     ghost use Rattle.std.specs.Prelude.{◌≡◌};
     ghost use Rattle.rapid_model.specs.Configuration.{Configuration as ModelConfiguration};
     ghost use Rattle.rapid_cut.specs.Watching.{Watching, watching_code};
@@ -256,27 +258,27 @@ impl Model for Watch {
     ghost invariant = { λ w. w.rings ≡ w.detector.table };
 }
 
-impl Watch {
+impl Detection {
     /// Nothing was reported.
-    pub(crate) fn new(alloc: Global, rings: &SharedRings) -> Result<Watch, AllocError>
+    pub(crate) fn new(alloc: Global, rings: &SharedRings) -> Result<Detection, AllocError>
         ensures { IfOk result (λ w. w ≡ record { table = rings.now; detector = empty_detector }) }
     {
         let own = rings.try_copy()?;
         let detector = Detector::new(alloc, rings.try_copy()?);
-        Ok(Watch {
+        Ok(Detection {
             detector,
             rings: own,
         })
     }
 }
 
-impl Clone for Watch {
+impl Clone for Detection {
     ghost is_clone = { λ a b. b ≡ a };
 
-    fn clone(&self) -> Result<Watch, AllocError> {
+    fn clone(&self) -> Result<Detection, AllocError> {
         let rings = self.rings.try_copy()?;
         let detector = self.detector.try_copy(self.rings.try_copy()?)?;
-        Ok(Watch { detector, rings })
+        Ok(Detection { detector, rings })
     }
 }
 
@@ -315,7 +317,7 @@ impl Clone for Waiting {
 pub(crate) struct Rest {
     pub(crate) ballots: Arc<Ballots, Global>,
     pub(crate) raised: Arc<Raised, Global>,
-    pub(crate) watch: Arc<Watch, Global>,
+    pub(crate) detection: Arc<Detection, Global>,
     pub(crate) waiting: Arc<Waiting, Global>,
 }
 
@@ -325,18 +327,18 @@ impl Rest {
         requires { IsContext context.now }
         ensures ballots { IfOk result (λ r. arc_value r.ballots ≡ record { acceptor = fresh_acceptor; coordinator = fresh_coordinator (length context.now.configuration.members) context.now.place; learner = fresh_learner (length context.now.configuration.members); proposal = None; alloc = alloc }) }
         ensures raised { IfOk result (λ r. arc_value r.raised ≡ record { table = context.now.rings; owner = context.now.me; outbox = outbox.empty_outbox }) }
-        ensures watch { IfOk result (λ r. arc_value r.watch ≡ record { table = context.now.rings; detector = empty_detector }) }
+        ensures detection { IfOk result (λ r. arc_value r.detection ≡ record { table = context.now.rings; detector = empty_detector }) }
         ensures waiting { IfOk result (λ r. arc_value r.waiting ≡ record { host = fresh_host context.now.configuration context.now.me; ages = map.empty }) }
     {
         let size = context.configuration.members().len();
         let ballots = Arc::new(alloc, Ballots::new(alloc, size, context.place))?;
         let raised = Arc::new(alloc, Raised::new(alloc, &context.rings, context.me)?)?;
-        let watch = Arc::new(alloc, Watch::new(alloc, &context.rings)?)?;
+        let detection = Arc::new(alloc, Detection::new(alloc, &context.rings)?)?;
         let waiting = Arc::new(alloc, Waiting::new(alloc, context)?)?;
         Ok(Rest {
             ballots,
             raised,
-            watch,
+            detection,
             waiting,
         })
     }
@@ -351,12 +353,12 @@ impl Clone for Rest {
     fn clone(&self) -> Result<Rest, AllocError> {
         let ballots = Arc::try_clone(&self.ballots)?;
         let raised = Arc::try_clone(&self.raised)?;
-        let watch = Arc::try_clone(&self.watch)?;
+        let detection = Arc::try_clone(&self.detection)?;
         let waiting = Arc::try_clone(&self.waiting)?;
         Ok(Rest {
             ballots,
             raised,
-            watch,
+            detection,
             waiting,
         })
     }

@@ -37,7 +37,7 @@ impl MemberState {
     /// Takes a message that is about the configuration.
     #[tactic(auto, using(rapid_message::proofs::Batches::batch_alerts_are), unfolding(rapid_model::specs::Receive::take))]
     #[inline(always)]
-    fn take(
+    fn take_message(
         &mut self,
         out: &mut Vec<Output>,
         from: &Process,
@@ -113,7 +113,7 @@ impl MemberState {
         match body.caught_up_by() {
             Some(id) => {
                 if id == self.configuration().id() {
-                    self.take(out, from, body)
+                    self.take_message(out, from, body)
                 } else {
                     decisions.catch_up(self.alloc, out, self.me(), from, id)?;
                     Ok(None)
@@ -221,7 +221,7 @@ impl MemberState {
             }
             Body::Decision(id, _) => {
                 if *id == self.configuration().id() {
-                    self.take(out, from, body)
+                    self.take_message(out, from, body)
                 } else {
                     Ok(None)
                 }

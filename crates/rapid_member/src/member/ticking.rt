@@ -14,6 +14,7 @@ ghost use Rattle.rapid_model.specs.Batch.{batch_of};
 ghost use Rattle.rapid_member.specs.Saying.{says_batch};
 
 use super::MemberState;
+use crate::ages::ECHO_AGE;
 use crate::sending::say;
 use rapid_alerts::{Alert, Batch, Kind};
 use rapid_config::Cut;
@@ -23,8 +24,11 @@ use rapid_rings::ObserverTable;
 use std::alloc::AllocError;
 use std::sync::Arc;
 
-/// At which age an unstable process is echoed.
-const ECHO: u8 = 40;
+/// How many ticks after its first vote the member at position 0 begins a classic ballot.
+const FIRST_RECOVERY: u64 = 20;
+
+/// How many ticks each later position waits longer, so that mostly one member begins a ballot.
+const RECOVERY_STEP: u64 = 4;
 
 /// After how many ticks votes and alerts go out again.
 const AGAIN: u64 = 20;
@@ -72,8 +76,8 @@ impl MemberState {
         Ok(())
     }
 
-    /// Adds the alert that the member raises as an echo on a process for a ring, where it observes
-    /// it there.
+    /// Adds the alert that the member raises as an echo on a process for a ring, if it observes it
+    /// there.
     fn push_echo(
         &self,
         alerts: &mut Vec<Alert>,
@@ -99,11 +103,11 @@ impl MemberState {
         Ok(alerts)
     }
 
-    /// Adds the alerts that the member raises as an echo on a process, where it has the age.
+    /// Adds the alerts that the member raises as an echo on a process, if it has the age.
     fn push_due(&self, alerts: &mut Vec<Alert>, process: &Process) -> Result<(), AllocError>
         ensures { OnOk result (map alert_of alerts.new.items ≡ map alert_of alerts.old.items ++ flat_map (tick.echoes self.now) (filter (λ p. tick.age_of self.now.ages p == 40) (process.now ∷ []))) }
     {
-        if self.rest.waiting.ages.of(process) == ECHO {
+        if self.rest.waiting.ages.of(process) == ECHO_AGE {
             self.push_echoes(alerts, process)?;
         }
         Ok(())
@@ -230,14 +234,14 @@ impl MemberState {
     fn is_due(&self) -> bool
         ensures { result ≡ tick.is_due self.now self.now.first_vote }
     {
-        let patience = 20 + 4 * self.place() as u64;
+        let patience = FIRST_RECOVERY + RECOVERY_STEP * self.place() as u64;
         match self.first_vote {
             Some(first) => first < self.tick && (self.tick - first) % patience == 0,
             None => false,
         }
     }
 
-    /// Begins a ballot, where one is due: the Prepare goes out and is taken.
+    /// Begins a ballot, if one is due: the Prepare goes out and is taken.
     #[tactic(auto, unfolding(rapid_model::specs::Tick::recovers))]
     fn recover(&mut self, out: &mut Vec<Output>) -> Result<Option<Cut>, AllocError>
         ensures state { OnOk result (self.new ≡ (tick.recovers self.old).state) }

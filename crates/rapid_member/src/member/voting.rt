@@ -21,7 +21,7 @@ use std::sync::Arc;
 
 impl MemberState {
     /// Raises an alert, which goes out with the batch of the next tick. A refused one is ignored.
-    /// Want of memory leaves the member as it was.
+    /// If out of memory the member is as it was.
     #[tactic(auto, unfolding(rapid_model::specs::Member::raise_alert))]
     pub fn raise(&mut self, alert: Alert) -> Result<(), AllocError>
         ensures state { OnOk result (self.new ≡ member.raise_alert self.old (alert_of alert)) }
@@ -84,7 +84,7 @@ impl MemberState {
         ballots.learner.hear(place, ballot, cut)
     }
 
-    /// Takes an Accept: where it is accepted, the notice goes out and is taken.
+    /// Takes an Accept: if it is accepted, the notice goes out and is taken.
     #[tactic(auto, unfolding(rapid_model::specs::Member::take_accept, rapid_model::specs::Acceptor::accepts))]
     pub(super) fn take_accept(
         &mut self,
@@ -160,7 +160,7 @@ impl MemberState {
         }
     }
 
-    /// Takes a Prepare: the promise goes to its sender, or is taken where that is the member
+    /// Takes a Prepare: the promise goes to its sender, or is taken here if that is the member
     /// itself.
     #[tactic(auto, unfolding(rapid_model::specs::Member::take_prepare))]
     pub(super) fn take_prepare(
@@ -178,6 +178,7 @@ impl MemberState {
         let Some(promise) = self.promise_at(ballot)? else {
             return Ok(None);
         };
+        // its own promise needs no message
         if *from == self.me() {
             let place = self.place();
             return self.take_promise(out, place, &promise);
@@ -192,7 +193,7 @@ impl MemberState {
         Ok(None)
     }
 
-    /// Casts the fast vote, where the acceptor takes it.
+    /// Casts the fast vote, if the acceptor takes it.
     #[tactic(auto, unfolding(rapid_model::specs::Member::cast_vote, rapid_model::specs::Acceptor::accepts))]
     fn cast_vote(&mut self, out: &mut Vec<Output>, cut: &Cut) -> Result<Option<Cut>, AllocError>
         ensures state { OnOk result (self.new ≡ (member.cast_vote self.old cut.now).state) }
@@ -208,6 +209,7 @@ impl MemberState {
             Err(AcceptError::Promised(_)) => return Ok(None),
             Err(AcceptError::AlreadyVoted) => return Ok(None),
         }
+        // the acceptor has taken it: a fast vote is a vote at the fast ballot
         self.voted = true;
         self.see_vote();
         let id = self.configuration().id();

@@ -9,7 +9,7 @@ use std::process::Abort;
 use std::sync::Wait;
 use std::test::*;
 
-/// Hands so many events that are kept to the desk.
+/// Hands this many events that are kept to the desk.
 fn keep<R: Wait>(desk: &mut Desk<&R>, count: usize) -> Result<(), DeskError> {
     for _ in 0..count {
         step(desk, edge_down())?;
@@ -65,7 +65,7 @@ fn a_desk_goes_on_after_a_checkpoint(rt: HostRuntime) -> Result<(), Fail> {
     goes_on(&rt, rt.alloc(), &mut *desk, &mut seat)
 }
 
-/// Hands so many events to the desk, with a checkpoint each time that the journal has so many
+/// Hands this many events to the desk, with a checkpoint each time that the journal has this many
 /// records.
 fn keep_with_checkpoints<R: Wait>(
     desk: &mut Desk<&R>,
@@ -104,7 +104,7 @@ fn is_made_at_last<R: Wait + Abort>(rt: &R, desk: &mut Desk<&R>) -> Result<(), F
 }
 
 #[test]
-fn want_of_memory_at_a_checkpoint(rt: HostRuntime) -> Result<(), Fail> {
+fn out_of_memory_at_a_checkpoint(rt: HostRuntime) -> Result<(), Fail> {
     let mut desk = alone(&rt, rt.alloc(), 1)?;
     is_made_at_last(&rt, &mut *desk)
 }

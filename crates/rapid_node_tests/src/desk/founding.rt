@@ -45,8 +45,8 @@ pub(crate) fn edge_down() -> Event {
     Event::EdgeDown(ConfigId::zero(), 0, process(2))
 }
 
-/// The desk of process 1 alone, with so many seats. Where its first view was not published, that
-/// was for want of memory.
+/// The desk of process 1 alone, with this many seats. If its first view was not published, memory
+/// had run out.
 pub(crate) fn alone<R: Wait + Abort>(
     rt: &R,
     alloc: Global,

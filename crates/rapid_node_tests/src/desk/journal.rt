@@ -10,7 +10,7 @@ use std::process::Abort;
 use std::sync::Wait;
 use std::test::*;
 
-/// Hands so many events that are kept to the desk.
+/// Hands this many events that are kept to the desk.
 fn keep<R: Wait>(desk: &mut Desk<&R>, count: usize) -> Result<(), DeskError> {
     for _ in 0..count {
         step(desk, edge_down())?;
@@ -18,7 +18,7 @@ fn keep<R: Wait>(desk: &mut Desk<&R>, count: usize) -> Result<(), DeskError> {
     Ok(())
 }
 
-/// Hands so many ticks to the desk.
+/// Hands this many ticks to the desk.
 fn tick<R: Wait>(desk: &mut Desk<&R>, count: usize) -> Result<(), DeskError> {
     for _ in 0..count {
         step(desk, Event::Tick)?;
@@ -31,7 +31,8 @@ fn is_full_for<R: Wait>(desk: &mut Desk<&R>, event: Event) -> bool {
     matches!(step(desk, event), Err(DeskError::JournalFull))
 }
 
-/// Whether the desk takes so many events that are kept and so many ticks, and then refuses both.
+/// Whether the desk takes this many events that are kept and this many ticks, and then refuses
+/// both.
 fn is_full_after<R: Wait>(
     desk: &mut Desk<&R>,
     kept: usize,
@@ -58,13 +59,13 @@ fn successive_ticks_share_a_record(rt: HostRuntime) -> Result<(), Fail> {
     Ok(())
 }
 
-/// How many messages the desk sends where it is probed.
+/// How many messages the desk sends if it is probed.
 fn probe<R: Wait>(desk: &mut Desk<&R>) -> Result<usize, Fail> {
     let message = Message::new(process(2), Body::Probe(ConfigId::zero()))?;
     Ok(desk.step(Event::Receive(message))?.len())
 }
 
-/// The desk answers each of so many probes.
+/// The desk answers each of this many probes.
 fn answers_probes<R: Wait + Abort>(rt: &R, desk: &mut Desk<&R>, count: usize) -> Result<(), Fail> {
     for _ in 0..count {
         assert!(rt; probe(desk)? == 1);

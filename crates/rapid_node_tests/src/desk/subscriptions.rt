@@ -99,7 +99,7 @@ fn is_bad<R: Wait>(desk: &mut Desk<&R>, capacity: usize) -> bool {
     matches!(subscribe(desk, capacity), Err(DeskError::BadCapacity))
 }
 
-/// Makes so many subscriptions of capacity 1.
+/// Makes this many subscriptions of capacity 1.
 fn subscribe_often<R: Wait>(desk: &mut Desk<&R>, count: usize) -> Result<(), DeskError> {
     for _ in 0..count {
         subscribe(desk, 1)?;
@@ -108,7 +108,7 @@ fn subscribe_often<R: Wait>(desk: &mut Desk<&R>, count: usize) -> Result<(), Des
 }
 
 /// The desk serves 64 subscribers, and others when these have ended.
-fn serves_so_many<R: Wait + Abort>(rt: &R, desk: &mut Desk<&R>) -> Result<(), Fail> {
+fn serves_64<R: Wait + Abort>(rt: &R, desk: &mut Desk<&R>) -> Result<(), Fail> {
     assert!(rt; is_bad(desk, 0));
     assert!(rt; is_bad(desk, 1_025));
     subscribe_often(desk, 64)?;
@@ -120,7 +120,7 @@ fn serves_so_many<R: Wait + Abort>(rt: &R, desk: &mut Desk<&R>) -> Result<(), Fa
 }
 
 #[test]
-fn a_desk_serves_so_many(rt: HostRuntime) -> Result<(), Fail> {
+fn a_desk_serves_64_subscriptions(rt: HostRuntime) -> Result<(), Fail> {
     let mut desk = alone(&rt, rt.alloc(), 1)?;
-    serves_so_many(&rt, &mut *desk)
+    serves_64(&rt, &mut *desk)
 }

@@ -15,7 +15,7 @@ fn hand<R: Wait>(rt: &R, desk: &Mutex<Box<Desk<&R>>>) -> Result<(), DeskError> {
     Ok(())
 }
 
-/// Hands so many events to the desk, and says whether it took each.
+/// Hands this many events to the desk, and says whether it took each.
 fn hand_over<R: Wait>(rt: &R, desk: &Mutex<Box<Desk<&R>>>) -> bool {
     let mut all = true;
     for _ in 0..HALF {

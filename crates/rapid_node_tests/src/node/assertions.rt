@@ -10,7 +10,7 @@ use rapid_node::{Event, Node, NodeFault, Phase};
 use std::process::Abort;
 use std::test::Fail;
 
-/// Checks what the nodes sent after the first so many messages, in order: who, to whom, and what.
+/// Checks what the nodes sent after this many messages, in order: who, to whom, and what.
 pub fn assert_sent_after(
     rt: &impl Abort,
     network: &Network,
@@ -45,8 +45,8 @@ fn assert_members(rt: &impl Abort, shown: &[Process], members: &[u16]) {
     }
 }
 
-/// Checks that the last configuration that a node installed has this identifier, this height and so
-/// many members.
+/// Checks that the last configuration that a node installed has this identifier, this height and
+/// this many members.
 fn assert_last(rt: &impl Abort, node: &Node, id: ConfigId, height: u64, members: usize) {
     let last = node.installed().last().expect(rt, "a stamp");
     assert_eq!(rt; last.height(), height);
@@ -79,12 +79,12 @@ pub fn assert_phase(rt: &impl Abort, node: &Node, phase: Phase) {
     assert_eq!(rt; node.phase(), phase);
 }
 
-/// Tells a node of an event, and answers what it sends.
+/// Gives a node an event, and answers what it sends.
 pub fn told_of(node: &mut Node, event: &Event) -> Result<Outputs, NodeFault> {
     node.step(event)
 }
 
-/// Tells a node of an event that is not needed any more, and answers what it sends.
+/// Gives a node an event that is not needed any more, and answers what it sends.
 pub fn told(node: &mut Node, event: Event) -> Result<Outputs, NodeFault> {
     told_of(node, &event)
 }

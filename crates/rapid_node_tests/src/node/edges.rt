@@ -1,4 +1,4 @@
-// Edges that went down, where a node does not observe them in its configuration.
+// Edges that went down and that a node does not observe in its configuration.
 
 use crate::node::said::{Said, To};
 use crate::node::steps::{Step, Which, Word, lives};
@@ -34,7 +34,7 @@ fn edges_of_another_configuration_are_ignored(rt: HostRuntime) -> Result<(), Fai
     lives(&rt, rt.alloc(), (3, 3, 1), &[1, 2, 3], &ELSEWHERE)
 }
 
-/// An edge that is down is told once, also where it is said twice.
+/// An edge that is down is told once, also if it is said twice.
 const TWICE: [Step; 5] = [
     Step::Hears(Word::Down(Which::Shown, 0, 2), &[]),
     Step::Hears(Word::Down(Which::Shown, 0, 2), &[]),

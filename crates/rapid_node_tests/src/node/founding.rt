@@ -8,8 +8,8 @@ use std::alloc::Global;
 use std::process::Abort;
 use std::test::Fail;
 
-/// The founding configuration of the processes with these numbers, with so many rings and these two
-/// marks.
+/// The founding configuration of the processes with these numbers, with this many rings and these
+/// two marks.
 pub fn founding(
     rt: &impl Abort,
     alloc: Global,

@@ -54,7 +54,7 @@ fn a_process_joins_with_six_packets(rt: HostRuntime) -> Result<(), Fail> {
     plays(&rt, rt.alloc(), (3, 3, 1), &[1], &SIX_PACKETS)
 }
 
-/// Where the confirmation is lost, the joiner asks again at its tick 11, and not before.
+/// If the confirmation is lost, the joiner asks again at its tick 11, and not before.
 const ASKS_AGAIN: [Line; 7] = [
     Line::Does(&JOIN),
     Line::Does(&[Action::Drop(6), Action::Tick(2, 9), Action::Flow]),

@@ -20,11 +20,11 @@ pub enum Line<'a> {
     Does(&'a [Action]),
     /// This is done to it, and the nodes send just that.
     Sends(&'a [Action], &'a [Sent]),
-    /// After the first so many messages the nodes sent these, and no more.
+    /// After this many messages the nodes sent these, and no more.
     SentAfter(usize, &'a [Sent]),
-    /// The nodes sent so many messages.
+    /// The nodes sent this many messages.
     SentCount(usize),
-    /// So many packets were sent.
+    /// This many packets were sent.
     Packets(usize),
     /// These nodes installed configurations of these heights, in order, beside the founding one.
     Installs(&'a [(u16, u64)]),

@@ -1,4 +1,4 @@
-// Classic recovery, where the fast round has too few votes.
+// Classic recovery: the fast round has too few votes.
 
 use crate::node::network::Action;
 use crate::node::plays::{Line, plays};

@@ -12,7 +12,7 @@ pub type Round = (u8, usize);
 /// What a message says. A cut of one process is the number of that process, and any other is 0.
 #[derive(Clone, Copy, Debug, PartialEq, Eq)]
 pub enum Said {
-    /// So many alerts.
+    /// This many alerts.
     Batch(usize),
     /// A fast vote.
     Vote(u16),
@@ -28,7 +28,7 @@ pub enum Said {
     Decision(u16),
     /// A wish to join.
     PreJoin,
-    /// An answer that names so many observers.
+    /// An answer that names this many observers.
     Safe(usize),
     /// An answer that the identifier or the endpoint is held.
     EndpointInUse,
@@ -38,7 +38,7 @@ pub enum Said {
     TooManyJoiners,
     /// A request to an observer on this ring.
     JoinRequest(u8),
-    /// A configuration of so many members.
+    /// A configuration of this many members.
     Confirm(usize),
     /// A probe.
     Probe,
@@ -55,7 +55,7 @@ pub enum To {
     Others,
 }
 
-/// The number of the only process of a cut, and 0 where there are more.
+/// The number of the only process of a cut, and 0 if there are more.
 fn only(cut: &Cut) -> u16 {
     match cut.processes() {
         [process] => process.endpoint().port(),

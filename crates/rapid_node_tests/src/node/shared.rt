@@ -102,7 +102,7 @@ fn assert_both_enter(
 }
 
 /// Checks that two founders of three enter the configuration without the third, by views that keep
-/// so many.
+/// this many.
 fn assert_enter(rt: &impl Abort, alloc: Global, most: usize) -> Result<(), Fail> {
     let configuration = founding(rt, alloc, (3, 3, 1), &[1, 2, 3])?;
     let mut views = Views::new(alloc, most);

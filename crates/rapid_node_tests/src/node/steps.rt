@@ -22,7 +22,7 @@ pub enum Which {
     Shown,
 }
 
-/// What a node hears. It is in the configuration that the node shows, where none is said.
+/// What a node hears, in the configuration that the node shows unless another is named.
 #[derive(Clone, Copy)]
 pub enum Word {
     /// A tick.
@@ -65,7 +65,7 @@ fn heard(number: u16, body: Body) -> Result<Event, Fail> {
     Ok(Event::Receive(Message::new(process(number), body)?))
 }
 
-/// The event of what a node hears, where it showed this configuration at first.
+/// The event of what a node hears that showed this configuration at first.
 fn event(
     rt: &impl Abort,
     alloc: Global,

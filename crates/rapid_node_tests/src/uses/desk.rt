@@ -27,7 +27,7 @@ pub fn hand<R: Wait + Copy + Drop>(
     Ok(desk.lock(rt).step(event)?)
 }
 
-/// The next view for a subscriber: the next change, or the last view where it missed some.
+/// The next view for a subscriber: the next change, or the last view if it missed some.
 pub fn next_view(
     rt: &impl Wait,
     subscription: &mut Subscription,

@@ -50,7 +50,7 @@ fn watching(alloc: Global) -> Result<Detector<Table>> {
     Ok(Detector::new(alloc, table))
 }
 
-/// Which processes are to be removed, where two of three observers report process 9.
+/// Which processes are to be removed, if two of three observers report process 9.
 pub fn removed(alloc: Global) -> Result<Vec<Process>> {
     let mut detector = watching(alloc)?;
     let mut removed = Vec::new(alloc);

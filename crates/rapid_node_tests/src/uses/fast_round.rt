@@ -7,7 +7,8 @@ use rapid_config::Cut;
 use rapid_fast::FastRound;
 use std::alloc::Global;
 
-/// The cut that these votes decide among so many members, each vote a member's position and a cut.
+/// The cut that these votes decide among this many members, each vote a member's position and a
+/// cut.
 pub fn decided(alloc: Global, members: usize, votes: &[(usize, Cut)]) -> Result<Option<Cut>>
     requires { members ≤ 1024 }
 {

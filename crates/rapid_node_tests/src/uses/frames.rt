@@ -30,7 +30,7 @@ fn read_all(feed: &mut Feed, come: &mut Vec<Message>, stream: &[u8]) -> Result<(
     Ok(())
 }
 
-/// The messages that come where the bytes of a stream are read in pieces of seven.
+/// The messages that come if the bytes of a stream are read in pieces of seven.
 fn over(alloc: Global, stream: &[u8]) -> Result<Vec<Message>> {
     let mut feed = Feed::new(alloc);
     let mut come = Vec::new(alloc);
@@ -38,8 +38,8 @@ fn over(alloc: Global, stream: &[u8]) -> Result<Vec<Message>> {
     Ok(come)
 }
 
-/// The messages that come where these are written as frames, one after another, and the bytes are
-/// read in pieces of seven.
+/// The messages that come if these are written as frames, one after another, and the bytes are read
+/// in pieces of seven.
 pub fn over_a_stream(alloc: Global, messages: &[Message]) -> Result<Vec<Message>> {
     let mut stream = Vec::new(alloc);
     write(alloc, &mut stream, messages)?;

@@ -45,7 +45,7 @@ fn turn(world: &mut World, first: u64) -> Result<u64> {
     Ok(end)
 }
 
-/// So many turns of a world.
+/// This many turns of a world.
 fn turn_all(world: &mut World, turns: u8) -> Result<()> {
     let mut first = 1;
     for _ in 0..turns {
@@ -67,13 +67,13 @@ fn height(world: &World, id: &ProcessId) -> Option<u64> {
     world.node(id)?.configuration().map(|c| c.height())
 }
 
-/// A process joins a world by another, in so many turns.
+/// A process joins a world by another, in this many turns.
 fn join(world: &mut World, seed: Process, joiner: Process, turns: u8) -> Result<()> {
     tell(world, WorldEvent::Start(joiner, seed.endpoint()))?;
     turn_all(world, turns)
 }
 
-/// The height of the view of a process that joins by another, after so many turns of a world of
+/// The height of the view of a process that joins by another, after this many turns of a world of
 /// both.
 pub fn joins(alloc: Global, seed: Process, joiner: Process, turns: u8) -> Result<Option<u64>> {
     let mut world = founded(alloc, seed)?;

@@ -96,9 +96,9 @@ fn stays_full(
     )
 }
 
-/// Of 1,024 members none is followed by a joiner; where one leaves, the first of two joiners comes.
+/// Of 1,024 members none is followed by a joiner; if one leaves, the first of two joiners comes.
 #[test]
-fn joiners_come_where_there_is_room(rt: HostRuntime) -> Result<(), Fail> {
+fn joiners_come_if_there_is_room(rt: HostRuntime) -> Result<(), Fail> {
     let full = founded(rt.alloc(), (10, 9, 3), 1024)?;
     let joins = cut(rt.alloc(), &[(2000, 2000)])?;
     assert!(rt; stays_full(rt.alloc(), &full, &joins, None)?);
@@ -107,8 +107,8 @@ fn joiners_come_where_there_is_room(rt: HostRuntime) -> Result<(), Fail> {
     Ok(())
 }
 
-/// What the configuration of process 1 alone answers to a joiner, where its height ends with this
-/// byte after seven of 255.
+/// What the configuration of process 1 alone answers to a joiner, if its height ends with this byte
+/// after seven of 255.
 fn joined_at(alloc: Global, one: &[u8], last: u8) -> Result<Option<ConfigError>, Fail> {
     let height = [
         (36, 255),

@@ -24,7 +24,7 @@ fn alert(kind: Kind, ring: u8, observer: u16, subject: u16) -> Alert {
     alert_in(ConfigId::zero(), kind, ring, observer, subject)
 }
 
-/// How many alerts the next batch has; 0 where there is none.
+/// How many alerts the next batch has; 0 if there is none.
 fn flushed(outbox: &mut Outbox<Table>) -> Result<usize, AllocError> {
     match outbox.flush()? {
         Some(batch) => Ok(batch.alerts().len()),
@@ -54,20 +54,20 @@ enum Call {
     Raise(Kind, u8, u16, u16, Result<Raising, RaiseError>),
     /// Such an alert of another configuration.
     RaiseOld(Kind, u8, u16, u16, Result<Raising, RaiseError>),
-    /// A batch of so many alerts.
+    /// A batch of this many alerts.
     Flush(usize),
     /// A batch of just what was raised.
     FlushAll,
     /// How many alerts were raised.
     Raised(usize),
     Resend,
-    /// Alerts on so many joiners, from 2 on, on ring 0, and how many of them are raised.
+    /// Alerts on this many joiners, from 2 on, on ring 0, and how many of them are raised.
     RaiseJoiners(u16, usize),
-    /// Alerts on so many members, from 2 on, on each of sixteen rings; all are raised.
+    /// Alerts on this many members, from 2 on, on each of sixteen rings; all are raised.
     RaiseMembers(u16),
 }
 
-/// Raises the alerts on so many joiners, from 2 on, on ring 0; how many of them were raised.
+/// Raises the alerts on this many joiners, from 2 on, on ring 0; how many of them were raised.
 fn raise_joiners(outbox: &mut Outbox<Table>, joiners: u16) -> usize {
     let mut raised = 0usize;
     for joiner in 0..joiners {
@@ -87,7 +87,7 @@ fn raise_member(outbox: &mut Outbox<Table>, number: u16) -> Result<(), RaiseErro
     Ok(())
 }
 
-/// Raises the alert on each of so many members, from 2 on, on each of sixteen rings.
+/// Raises the alert on each of this many members, from 2 on, on each of sixteen rings.
 fn raise_members(outbox: &mut Outbox<Table>, members: u16) -> Result<(), RaiseError> {
     for member in 0..members {
         raise_member(outbox, member.saturating_add(2))?;
@@ -215,7 +215,7 @@ fn an_outbox_is_copied(rt: HostRuntime) -> Result<(), Fail> {
     Ok(())
 }
 
-/// So many alerts of process 1 on process 5.
+/// This many alerts of process 1 on process 5.
 fn alerts(alloc: Global, many: usize) -> Result<Vec<Alert>, AllocError> {
     let mut alerts = Vec::new(alloc);
     for _ in 0..many {
@@ -224,7 +224,7 @@ fn alerts(alloc: Global, many: usize) -> Result<Vec<Alert>, AllocError> {
     Ok(alerts)
 }
 
-/// Why a batch of so many alerts of process 1 and one of this observer is refused.
+/// Why a batch of this many alerts of process 1 and one of this observer is refused.
 fn refusal(alloc: Global, many: usize, observer: u16) -> Result<Option<BatchError>, AllocError> {
     let mut alerts = alerts(alloc, many)?;
     alerts.push(alert(Kind::Remove, 0, observer, 5))?;

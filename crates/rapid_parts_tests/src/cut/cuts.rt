@@ -15,13 +15,13 @@ use std::test::Fail;
 /// A call of a detector, and what it answers.
 #[derive(Clone, Copy, Debug)]
 enum Call<'a> {
-    /// A batch that removes, the numbers of its cut, none where it has no cut, and how many alerts
-    /// are skipped.
+    /// A batch that removes, the numbers of its cut, none if it has no cut, and how many alerts are
+    /// skipped.
     Remove(&'a [Edge], &'a [u16], usize),
     /// A batch that lets in, and the same.
     Join(&'a [Edge], &'a [u16], usize),
-    /// A batch that lets in so many joiners, from 2 on, whom process 1 observes, by ring 0, has no
-    /// cut, and skips so many alerts.
+    /// A batch that lets in this many joiners, from 2 on, whom process 1 observes, by ring 0, has
+    /// no cut, and skips this many alerts.
     JoinMany(u16, usize),
     /// A batch of one alert of another configuration, which is skipped.
     Old(Edge),
@@ -50,7 +50,7 @@ fn alerts(alloc: Global, kind: Kind, edges: &[Edge]) -> Result<Vec<Alert>, Alloc
     Ok(alerts)
 }
 
-/// Alerts of process 1 on ring 0 that let in so many others, from 2 on.
+/// Alerts of process 1 on ring 0 that let in this many others, from 2 on.
 fn alerts_of_one(alloc: Global, many: u16) -> Result<Vec<Alert>, AllocError> {
     let mut alerts = Vec::new(alloc);
     for number in 0..many {
@@ -68,7 +68,7 @@ fn is_cut_of(cut: &Option<Cut>, numbers: &[u16]) -> bool {
     }
 }
 
-/// Whether a batch has this cut and skips so many alerts.
+/// Whether a batch has this cut and skips this many alerts.
 fn has_cut(
     detector: &mut Detector<Table>,
     alerts: &[Alert],
@@ -79,7 +79,7 @@ fn has_cut(
     Ok(is_cut_of(&found, cut) && detector.skipped() == skipped)
 }
 
-/// Whether a batch of alerts of a kind has this cut and skips so many of them.
+/// Whether a batch of alerts of a kind has this cut and skips this many of them.
 fn cuts(
     alloc: Global,
     detector: &mut Detector<Table>,
@@ -90,7 +90,8 @@ fn cuts(
     has_cut(detector, alerts.as_slice(), cut, skipped)
 }
 
-/// Whether a batch that lets in so many joiners, from 2 on, has no cut and skips so many of them.
+/// Whether a batch that lets in this many joiners, from 2 on, has no cut and skips this many of
+/// them.
 fn lets_in(
     alloc: Global,
     detector: &mut Detector<Table>,

@@ -26,7 +26,7 @@ fn add_all(table: &mut Table, edges: &[Edge]) -> Result<(), TableError> {
     Ok(())
 }
 
-/// Adds so many joiners, from 2 on, each observed by process 1 on rings 0 and 1.
+/// Adds this many joiners, from 2 on, each observed by process 1 on rings 0 and 1.
 fn add_joiners(table: &mut Table, joiners: u16) -> Result<(), TableError> {
     for joiner in 0..joiners {
         let number = joiner.saturating_add(2);
@@ -44,7 +44,7 @@ fn add_member(table: &mut Table, number: u16) -> Result<(), TableError> {
     Ok(())
 }
 
-/// Adds so many members, from 2 on, each observed by process 1 on sixteen rings.
+/// Adds this many members, from 2 on, each observed by process 1 on sixteen rings.
 fn add_members(table: &mut Table, members: u16) -> Result<(), TableError> {
     for member in 0..members {
         add_member(table, member.saturating_add(2))?;
@@ -57,11 +57,11 @@ fn add_members(table: &mut Table, members: u16) -> Result<(), TableError> {
 pub enum Start<'a> {
     /// These edges.
     Edges(u8, u8, u8, &'a [Edge]),
-    /// So many joiners, from 2 on, each observed by process 1 on rings 0 and 1, and the member
+    /// This many joiners, from 2 on, each observed by process 1 on rings 0 and 1, and the member
     /// 1000, observed on ring 0, with K = H = 2 and L = 1.
     Joiners(u16),
-    /// So many members, from 2 on, each observed by process 1 on sixteen rings, with H = 9 and
-    /// L = 3.
+    /// This many members, from 2 on, each observed by process 1 on sixteen rings, with H = 9 and L
+    /// = 3.
     Members(u16),
 }
 
@@ -86,7 +86,7 @@ fn fill(table: &mut Table, start: &Start) -> Result<(), TableError> {
     }
 }
 
-/// The table that has this. `RingRange` where its parameters are in no order.
+/// The table that has this. `RingRange` if its parameters are in no order.
 pub fn table(alloc: Global, start: &Start) -> Result<Table, TableError> {
     let Ok(params) = params_of(start) else {
         return Err(TableError::RingRange);

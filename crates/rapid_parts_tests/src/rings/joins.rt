@@ -1,4 +1,4 @@
-// Each case of the tables of a join, and the first one where two hold at once.
+// Each case of the tables of a join, and the first one if two hold at once.
 
 use crate::numbered::{Name, THREE, at, founded, process};
 use crate::rings::rings::{FIVE, TWO};
@@ -18,7 +18,8 @@ fn number(answer: &HostAnswer) -> u8 {
     }
 }
 
-/// Has the joiners from 2 on, so many of them, ask a host for ring 0; whether each makes it raise.
+/// Has the joiners from 2 on, this many of them, ask a host for ring 0; whether each makes it
+/// raise.
 fn ask(host: &mut Host, own: ConfigId, joiners: u16) -> Result<bool, AllocError> {
     for joiner in 0..joiners {
         let case = (joiner.wrapping_add(2), joiner.wrapping_add(2), true, 0, 6);
@@ -142,7 +143,7 @@ fn asks_those_of(
 /// A call of a host, and what it answers.
 #[derive(Clone, Copy, Debug)]
 enum Call<'a> {
-    /// The joiners from 2 on, so many of them, ask for ring 0, and each makes the host raise.
+    /// The joiners from 2 on, this many of them, ask for ring 0, and each makes the host raise.
     Ask(u16),
     /// First questions.
     Questions(&'a [Question]),
@@ -340,7 +341,7 @@ fn asks_seed(answer: &JoinerAnswer, port: u16) -> bool {
     }
 }
 
-/// Whether a joiner asks its seed at its tick 1, 11, 21 and so on, in so many ticks.
+/// Whether a joiner asks its seed at its tick 1, 11, 21 and so on, in this many ticks.
 fn asks_every_ten(joiner: &mut Joiner, ticks: u8) -> bool {
     for tick in 0..ticks {
         if asks_seed(&joiner.on_tick(), 1) != (tick % 10 == 0) {

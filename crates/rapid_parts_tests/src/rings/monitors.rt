@@ -78,7 +78,7 @@ fn a_copy_goes_on_by_itself(rt: HostRuntime) {
     assert!(rt; matches!(run_apart(rt.alloc()), Ok(true)));
 }
 
-/// A probe of the edge on a ring: its result and the verdict, none where there is no edge.
+/// A probe of the edge on a ring: its result and the verdict, none if there is no edge.
 type Probe = (u8, bool, Option<Verdict>);
 
 /// Whether all probes have their verdicts, in order.

@@ -19,7 +19,7 @@ enum Call {
     Member(u16, bool),
     /// By one search, whether a process is a member, and its observer on a ring.
     Search(u8, u16, bool, u16),
-    /// So many rings, and the identifier that is all zero.
+    /// This many rings, and the identifier that is all zero.
     Bare(u8),
     /// The members 2 to 1,025 are observed by process 1 on ring 0.
     Fill,

@@ -58,8 +58,8 @@ fn asks(
     Ok(is_accept(&accept, wanted))
 }
 
-/// Promises of so many members, each with a fast vote or none, the coordinator's own proposal, and
-/// the cut that it asks for at the last of them, if any.
+/// Promises of this many members, each with a fast vote or none, the coordinator's own proposal,
+/// and the cut that it asks for at the last of them, if any.
 type Case<'a> = (usize, &'a [Option<u8>], Option<u8>, Option<u8>);
 
 /// Whether the coordinator asks for the cut at the last promise, and for nothing before.
@@ -99,7 +99,7 @@ const VALUES: [Case; 8] = [
     // the only cut reported
     (8, &[Y, None, None, None, Y], X, Y),
     (5, &[X, None, None], None, X),
-    // with no vote reported the own proposal, where there is one
+    // with no vote reported the own proposal, if there is one
     (5, &[None, None, None], Y, Y),
     (5, &[None, None, None], None, None),
 ];
@@ -137,7 +137,7 @@ fn ballots(rt: HostRuntime) {
     assert!(rt; Ballot::FAST.round() == 1 && Ballot::FAST.position() == 0);
 }
 
-/// Whether a coordinator at position 1 begins the ballot of this round, or none where it is 0.
+/// Whether a coordinator at position 1 begins the ballot of this round, or none if it is 0.
 fn begins(coordinator: &mut Coordinator, above: Ballot, round: u8) -> bool {
     match coordinator.begin(above) {
         Ok(ballot) => ballot.round() == round && ballot.position() == 1,

@@ -283,6 +283,14 @@ fn worked_messages_are_written(rt: HostRuntime) -> Result<(), Fail> {
     Ok(())
 }
 
+#[test]
+fn a_message_of_what_a_sender_can_say_is_written_too(rt: HostRuntime) -> Result<(), Fail> {
+    let answer = Message::of(process(1), Body::Reply(process(2), Reply::EndpointInUse));
+    assert!(rt; tells_in_use(&answer));
+    assert!(rt; writes(rt.alloc(), &answer, &IN_USE)?);
+    Ok(())
+}
+
 /// Whether two frames bring their messages, in order, and no other.
 fn brings_both(feed: &mut Feed) -> Result<bool, WireFault> {
     feed.feed(&PRE_JOIN)?;

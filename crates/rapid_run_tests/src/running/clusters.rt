@@ -39,7 +39,7 @@ struct Place {
     over: AtomicBool,
 }
 
-/// So many places, at successive ports from that of the founder on.
+/// This many places, at successive ports from that of the founder on.
 fn places(alloc: Global, params: Params, seed: u16, count: u16) -> Result<Vec<Place>, AllocError> {
     let mut places = Vec::new(alloc);
     for number in 0..count {
@@ -55,7 +55,7 @@ fn places(alloc: Global, params: Params, seed: u16, count: u16) -> Result<Vec<Pl
     Ok(places)
 }
 
-/// What a node at this port is asked for: it founds a cluster where it is the seed.
+/// What a node at this port is asked for: it founds a cluster if it is the seed.
 fn options(port: u16, seed: u16, params: Params) -> NodeOptions {
     let [high, low] = port.to_be_bytes();
     let id = [0, 0, 0, 0, 0, 0, 0, 0, 0, 0, 0, 0, 0, 0, high, low];
@@ -318,7 +318,7 @@ where
 }
 
 /// Runs nine nodes so until they do as they should, three times at most: healthy nodes are expelled
-/// where the machine stands still for forty ticks, which are two seconds here.
+/// if the machine stands still for forty ticks, which are two seconds here.
 fn nine_of_three<R>(
     rt: &R,
     alloc: Global,

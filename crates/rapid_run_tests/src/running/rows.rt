@@ -142,7 +142,7 @@ fn an_input_that_fails(rt: HostRuntime) -> Result<(), Fail> {
     Ok(())
 }
 
-/// What is told where the output fails.
+/// What is told if the output fails.
 const UNWRITTEN: &[u8] = b"error: the output could not be written\n";
 
 /// How a node ends whose output fails, and what it tells.

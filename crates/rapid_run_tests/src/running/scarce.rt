@@ -22,11 +22,11 @@ const BEFORE_QUIT: u64 = 300;
 
 const SOON: u64 = 2_500;
 
-/// What is told where there are too few.
+/// What is told if there are too few.
 const WARNING: &[u8] =
     b"warning: no file descriptor was to be had for a connection: messages are lost\n";
 
-/// Takes all file descriptors but so many.
+/// Takes all file descriptors but this many.
 fn hoard<R>(rt: &R, alloc: Global, port: u16, left: usize) -> io::Result<Vec<TcpListener>>
 where
     R: Net<Listener = TcpListener, Stream = TcpStream>,
@@ -47,7 +47,7 @@ where
     Ok(all)
 }
 
-/// Runs a node at this port for which there are so many file descriptors. How it ends, what it
+/// Runs a node at this port for which there are this many file descriptors. How it ends, what it
 /// tells, and whether it ends soon.
 fn among<R>(
     rt: &R,

@@ -2,7 +2,7 @@
 
 use std::io::{self, ErrorKind, Read, Write};
 
-/// A reader that gives so many bytes a call, and fails at one of its calls.
+/// A reader that gives this many bytes a call, and fails at one of its calls.
 #[derive(Drop)]
 pub(crate) struct Faulty<'a> {
     pub input: &'a [u8],
@@ -31,7 +31,7 @@ pub(crate) enum Ends {
     TakesNone,
 }
 
-/// A writer that takes so many bytes a call, and at one of its calls fails or takes none.
+/// A writer that takes this many bytes a call, and at one of its calls fails or takes none.
 #[derive(Drop)]
 pub(crate) struct Narrow {
     pub written: Vec<u8>,

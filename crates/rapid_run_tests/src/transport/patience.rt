@@ -41,7 +41,7 @@ fn closes_within(stream: &mut TcpStream, time: Duration) -> bool {
     waits.is_ok() && matches!(stream.read(&mut [0; 8]), Ok(0))
 }
 
-/// So many silent connections to this port; fewer where one was not to be had.
+/// This many silent connections to this port; fewer if one was not to be had.
 fn silent<R>(rt: &R, alloc: Global, port: u16, count: usize) -> Result<Vec<TcpStream>, AllocError>
 where
     R: Net<Listener = TcpListener, Stream = TcpStream>,
@@ -55,7 +55,7 @@ where
     Ok(all)
 }
 
-/// Waits until so many connections were closed since they were late, for ten seconds at most;
+/// Waits until this many connections were closed since they were late, for ten seconds at most;
 /// whether they were.
 fn come_late<R: Wait + Clock>(rt: &R, peers: &Peers, count: u64) -> bool {
     for _ in 0..1_000 {

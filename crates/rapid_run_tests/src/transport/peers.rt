@@ -30,7 +30,7 @@ impl<R: Wait> Inbox<R> for Tally {
     }
 }
 
-/// Waits until so many messages came, for some seconds at most.
+/// Waits until this many messages came, for some seconds at most.
 pub(crate) fn wait_for<R: Clock>(rt: &R, tally: &Tally, count: u64) -> bool {
     for _ in 0..1_000 {
         if tally.asked.load(Ordering::SeqCst) >= count {
@@ -58,7 +58,7 @@ fn is_closed(stream: &mut TcpStream) -> bool {
     waits.is_ok() && matches!(stream.read(&mut [0; 8]), Ok(0))
 }
 
-/// Posts so many frames that go to this endpoint.
+/// Posts this many frames that go to this endpoint.
 pub(crate) fn post_all<R: Wait>(
     rt: &R,
     alloc: Global,
@@ -141,7 +141,7 @@ fn garbage_closes_its_connection_alone(rt: HostRuntime) -> Result<(), Fail> {
     Ok(())
 }
 
-/// Waits until so many frames were lost, for some seconds at most, and stops the peers.
+/// Waits until this many frames were lost, for some seconds at most, and stops the peers.
 fn waits_for_losses<R>(rt: &R, peers: &Peers, count: u64)
 where
     R: Net<Listener = TcpListener, Stream = TcpStream> + Wait + Clock,

@@ -72,7 +72,7 @@ impl<R: Clock> Clock for Dialled<'_, R> {
     }
 }
 
-/// Waits until so many frames were lost, for some seconds at most; whether they were.
+/// Waits until this many frames were lost, for some seconds at most; whether they were.
 fn wait_for_losses<R: Wait + Clock>(rt: &R, peers: &Peers, count: u64) -> bool {
     for _ in 0..4_000 {
         if peers.losses(rt) >= count {

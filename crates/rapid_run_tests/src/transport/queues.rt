@@ -13,7 +13,7 @@ fn endpoint(port: u16) -> Endpoint {
     Endpoint::new([127, 0, 0, 1], port)
 }
 
-/// Puts so many frames; each goes to the port that is its number.
+/// Puts this many frames; each goes to the port that is its number.
 fn fill<R: Wait>(rt: &R, alloc: Global, queue: &mut SenderQueue, frames: u16) -> Result<(), Fail> {
     let bytes = Bytes::copy_from_slice(alloc, b"frame")?;
     for port in 0..frames {
@@ -22,7 +22,7 @@ fn fill<R: Wait>(rt: &R, alloc: Global, queue: &mut SenderQueue, frames: u16) ->
     Ok(())
 }
 
-/// The ports of the frames that are taken, from the first that isn't the next one on.
+/// The ports of the frames that are taken, from the first that is not the next one on.
 fn ports<R: Wait>(rt: &R, end: &mut SenderEnd) -> u16 {
     let mut next = 0u16;
     for _ in 0..5_000 {

@@ -42,7 +42,7 @@ fn large(alloc: Global) -> Result<Bytes, AllocError> {
     Bytes::copy_from_slice(alloc, bytes.as_slice())
 }
 
-/// Posts a frame to this endpoint so many times.
+/// Posts a frame to this endpoint this many times.
 fn flood<R: Wait>(
     rt: &R,
     peers: &Peers,
@@ -56,20 +56,39 @@ fn flood<R: Wait>(
     Ok(())
 }
 
+/// Where frames go.
+#[derive(Clone, Copy)]
+struct Targets {
+    /// To the peers themselves.
+    own: Endpoint,
+    /// To a peer that reads nothing.
+    deaf: Endpoint,
+}
+
+/// What became of the frames.
+#[derive(Clone, Copy)]
+struct Outcome {
+    /// Those to the peers themselves came soon.
+    soon: bool,
+    /// How many were lost.
+    losses: u64,
+    /// The peer that reads nothing was connected to again.
+    again: bool,
+}
+
 /// Floods a peer that reads nothing, and posts a hundred frames to the peers themselves, with more
 /// for the other one before each of them.
 fn post_to_both<R: Wait>(
     rt: &R,
     alloc: Global,
     peers: &Peers,
-    at: Endpoint,
-    deaf: Endpoint,
+    to: Targets,
 ) -> Result<(), TransportError> {
     let frame = large(alloc)?;
-    flood(rt, peers, deaf, &frame, FLOOD)?;
+    flood(rt, peers, to.deaf, &frame, FLOOD)?;
     for _ in 0..100 {
-        flood(rt, peers, deaf, &frame, 1)?;
-        post_all(rt, alloc, peers, at, 1)?;
+        flood(rt, peers, to.deaf, &frame, 1)?;
+        post_all(rt, alloc, peers, to.own, 1)?;
     }
     Ok(())
 }
@@ -79,14 +98,13 @@ fn come_soon<R: Wait + Clock>(
     rt: &R,
     alloc: Global,
     peers: &Peers,
-    at: Endpoint,
-    deaf: Endpoint,
+    to: Targets,
     tally: &Tally,
 ) -> bool {
     let Ok(begun) = Instant::now(rt) else {
         return false;
     };
-    let posted = post_to_both(rt, alloc, peers, at, deaf).is_ok();
+    let posted = post_to_both(rt, alloc, peers, to).is_ok();
     let came = wait_for(rt, tally, 100);
     match begun.elapsed(rt) {
         Ok(spent) => posted && came && spent < Duration::from_millis(SOON),
@@ -94,7 +112,7 @@ fn come_soon<R: Wait + Clock>(
     }
 }
 
-/// Waits until so many connections came, for some seconds at most; whether they did.
+/// Waits until this many connections came, for some seconds at most; whether they did.
 fn connects<R: Clock>(rt: &R, listener: &TcpListener, count: u32) -> bool {
     let mut left = count;
     for _ in 0..1_000 {
@@ -116,37 +134,46 @@ fn is_patient<R>(
     rt: &R,
     alloc: Global,
     peers: &Peers,
-    at: Endpoint,
-    deaf: Endpoint,
+    to: Targets,
     listener: &TcpListener,
     tally: &Tally,
-) -> (bool, u64, bool)
+) -> Outcome
 where
     R: Net<Listener = TcpListener, Stream = TcpStream> + Wait + Clock,
 {
-    let soon = come_soon(rt, alloc, peers, at, deaf, tally);
+    let soon = come_soon(rt, alloc, peers, to, tally);
     let losses = peers.losses(rt);
     thread::sleep(rt, Duration::from_millis(AFTER_THE_PAUSE));
-    let posted = post_all(rt, alloc, peers, deaf, 1).is_ok();
+    let posted = post_all(rt, alloc, peers, to.deaf, 1).is_ok();
     let again = posted && connects(rt, listener, 2);
     peers.stop(rt);
-    (soon, losses, again)
+    Outcome {
+        soon,
+        losses,
+        again,
+    }
 }
 
 #[test]
 fn a_peer_that_reads_nothing_delays_no_other(rt: HostRuntime) -> Result<(), Fail> {
     // both ports have the same sender
-    let at = Endpoint::new([127, 0, 0, 1], 7_465);
-    let deaf = Endpoint::new([127, 0, 0, 1], 7_469);
+    let to = Targets {
+        own: Endpoint::new([127, 0, 0, 1], 7_465),
+        deaf: Endpoint::new([127, 0, 0, 1], 7_469),
+    };
     let listener = deaf_listener(&rt, 7_469)?;
-    let (peers, ends) = Peers::listen(&rt, rt.alloc(), at)?;
+    let (peers, ends) = Peers::listen(&rt, rt.alloc(), to.own)?;
     let tally = none_asked();
-    let (ran, (soon, losses, again)) = thread::join(
+    let (ran, came) = thread::join(
         &rt,
         || peers.run(&rt, rt.alloc(), ends, &tally),
-        || is_patient(&rt, rt.alloc(), &peers, at, deaf, &listener, &tally),
+        || is_patient(&rt, rt.alloc(), &peers, to, &listener, &tally),
     );
-    assert_eq!(rt; (ran.is_ok(), soon, again), (true, true, true));
-    assert!(rt; 0 < losses && losses <= FLOOD + 100, "lost {losses}");
+    assert!(rt; ran.is_ok() && came.soon && came.again);
+    assert!(rt;
+        0 < came.losses && came.losses <= FLOOD + 100,
+        "lost {}",
+        came.losses
+    );
     Ok(())
 }

@@ -12,7 +12,7 @@ use std::sync::{Mutex, Wait};
 use std::test::*;
 use std::thread::Threads;
 
-/// How many turns each clerk of this ledger takes in a world of process 1, where so many turns each
+/// How many turns each clerk of this ledger takes in a world of process 1, if this many turns each
 /// are there to be taken.
 fn taken_in<L: Ledger + Send + Sync, G: Gate + Sync, R: Threads + Wait + Sync>(
     rt: &R,

@@ -60,9 +60,9 @@ fn a_clerk_that_is_not_let_in_says_so(rt: HostRuntime) -> Result<(), Fail> {
     Ok(())
 }
 
-/// A clerk ends before its last job for want of memory alone, and then at the job that it came to.
+/// A clerk ends before its last job only if out of memory, and then at the job that it came to.
 #[test]
-fn a_clerk_says_why_it_stops_at_want_of_memory(rt: HostRuntime) -> Result<(), Fail> {
+fn a_clerk_says_why_it_stops_if_out_of_memory(rt: HostRuntime) -> Result<(), Fail> {
     let door = Door::until(6);
     let jobs = [
         joins(),

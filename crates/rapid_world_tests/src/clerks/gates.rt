@@ -64,7 +64,7 @@ impl Meeting {
     }
 }
 
-/// Notes that one came, and says whether the other does, within so many looks.
+/// Notes that one came, and says whether the other does, within this many looks.
 fn meet(mine: &AtomicU64, other: &AtomicU64) -> bool {
     mine.store(1, Ordering::SeqCst);
     for _ in 0..MOST_LOOKS {

@@ -41,7 +41,7 @@ impl Relay {
     }
 }
 
-/// Whether this is noted, within so many looks.
+/// Whether this is noted, within this many looks.
 fn sees(noted: &AtomicU64) -> bool {
     for _ in 0..MOST_LOOKS {
         if noted.load(Ordering::SeqCst) == 1 {

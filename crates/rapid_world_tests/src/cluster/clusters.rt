@@ -19,10 +19,11 @@ node 3 height 1 members 1 2 3
 agree yes
 ";
 
-/// The reports here have fewer bytes than this, so that a text with room for so many does not grow.
+/// The reports here have fewer bytes than this, so that a text with room for this many does not
+/// grow.
 const ROOM: usize = 200;
 
-/// What is written of a cluster of so many nodes, with 10 rings and the marks 9 and 3.
+/// What is written of a cluster of this many nodes, with 10 rings and the marks 9 and 3.
 fn written<R: Threads + Wait + Sync>(
     rt: &R,
     alloc: Global,

@@ -7,7 +7,7 @@ use rapid_text::RunFault;
 use std::test::Fail;
 
 #[test]
-fn ends_by_name_where_a_read_fails(rt: HostRuntime) -> Result<(), Fail> {
+fn ends_by_name_if_a_read_fails(rt: HostRuntime) -> Result<(), Fail> {
     let input = joined(rt.alloc(), "watermarks 4 3 2 / batch / edge / batch")?;
     let whole = b"none\nrefused BadLine\nnone\n";
     for calls in 0..7 {
@@ -23,14 +23,21 @@ fn ends_by_name_where_a_read_fails(rt: HostRuntime) -> Result<(), Fail> {
             if ends { Ok(()) } else { Err(RunFault::Read) },
             "at {calls}"
         );
-        assert!(rt; whole.as_slice().starts_with(output.as_slice()));
-        assert_eq!(rt; ends, output.len() == whole.len() && ran.is_ok());
+        assert!(rt;
+            whole.as_slice().starts_with(output.as_slice()),
+            "at {calls}"
+        );
+        assert_eq!(rt;
+            ends,
+            output.len() == whole.len() && ran.is_ok(),
+            "at {calls}"
+        );
     }
     Ok(())
 }
 
 #[test]
-fn ends_by_name_where_a_write_fails(rt: HostRuntime) -> Result<(), Fail> {
+fn ends_by_name_if_a_write_fails(rt: HostRuntime) -> Result<(), Fail> {
     let input = joined(rt.alloc(), "watermarks 4 3 2 / batch / edge / batch")?;
     let whole = b"none\nrefused BadLine\nnone\n";
     for takes_none in [false, true] {
@@ -41,7 +48,10 @@ fn ends_by_name_where_a_write_fails(rt: HostRuntime) -> Result<(), Fail> {
                 takes_none,
             };
             let ran = run_detect(rt.alloc(), &mut input.as_slice(), &mut writer);
-            assert!(rt; whole.as_slice().starts_with(writer.written.as_slice()));
+            assert!(rt;
+                whole.as_slice().starts_with(writer.written.as_slice()),
+                "at {calls}"
+            );
             let all = writer.written.len() == whole.len();
             assert_eq!(rt;
                 ran,

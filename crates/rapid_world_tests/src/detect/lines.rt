@@ -102,8 +102,7 @@ fn counts_observed_members(rt: HostRuntime) -> Result<(), Fail> {
     for subject in 1..1026u16 {
         input.extend_from_slice(format!(in rt.alloc(); "edge 0 2000 {subject}\n")?.as_bytes())?;
     }
-    // the 1,025th subject is one too many also where the ring is out of range, until one is a
-    // joiner
+    // the 1,025th subject is one too many also if the ring is out of range, until one is a joiner
     input.extend_from_slice(b"edge 1 2000 1025\njoiner 1\nedge 0 2000 1025\nedge 0 2001 1025\n")?;
     let mut output = Vec::new(rt.alloc());
     run_detect(rt.alloc(), &mut input.as_slice(), &mut output)?;

@@ -26,7 +26,7 @@ impl Read for Faulty<'_> {
     }
 }
 
-/// A writer that has room for so many bytes, and takes none beyond.
+/// A writer that has room for this many bytes, and takes none beyond.
 #[derive(Drop)]
 struct Fixed<'a> {
     bytes: &'a mut [u8],
@@ -54,7 +54,7 @@ impl Write for Fixed<'_> {
 const VIEWS: &[u8] = b"node 1 height 0 members 1 2\nnode 2 height 0 members 1 2\n";
 
 #[test]
-fn ends_by_name_where_a_read_fails(rt: HostRuntime) {
+fn ends_by_name_if_a_read_fails(rt: HostRuntime) {
     let mut reader = Faulty {
         input: b"params 3 3 1\nfound 1 2\npack",
     };
@@ -66,7 +66,7 @@ fn ends_by_name_where_a_read_fails(rt: HostRuntime) {
 }
 
 #[test]
-fn ends_by_name_where_a_write_fails(rt: HostRuntime) -> Result<(), Fail> {
+fn ends_by_name_if_a_write_fails(rt: HostRuntime) -> Result<(), Fail> {
     let input = joined(rt.alloc(), "params 3 3 1 / found 1 2")?;
     let mut bytes = [0u8; 40];
     let mut writer = Fixed {

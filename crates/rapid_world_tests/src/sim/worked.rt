@@ -4,7 +4,7 @@ use rapid_sim::run_sim;
 use std::alloc::{AllocError, Global};
 use std::test::Fail;
 
-/// What `sim` writes for these lines, which ` / ` separates, and how often want of memory was met.
+/// What `sim` writes for these lines, which ` / ` separates, and how often memory ran out.
 fn printed(alloc: Global, lines: &str) -> Result<(Vec<u8>, u64), Fail> {
     let input = joined(alloc, lines)?;
     let mut output = Vec::new(alloc);
@@ -25,7 +25,7 @@ pub fn joined(alloc: Global, lines: &str) -> Result<Vec<u8>, AllocError> {
     Ok(text)
 }
 
-/// Whether `sim` writes these lines for those, and meets no want of memory.
+/// Whether `sim` writes these lines for those, and never runs out of memory.
 fn prints(alloc: Global, lines: &str, wanted: &str) -> Result<bool, Fail> {
     let (output, met) = printed(alloc, lines)?;
     let wanted = joined(alloc, wanted)?;

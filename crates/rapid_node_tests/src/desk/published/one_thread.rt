@@ -135,7 +135,7 @@ fn a_told_seat_has_seen_as_much(rt: HostRuntime) -> Result<(), Fail> {
 }
 
 #[test]
-fn no_view_is_found_where_the_writer_is_gone(rt: HostRuntime) -> Result<(), Fail> {
+fn no_view_is_found_if_the_writer_is_gone(rt: HostRuntime) -> Result<(), Fail> {
     let alloc = rt.alloc();
     let (writer, mut seats) = ViewCell::new(&rt, alloc, first_view(alloc)?, 1, 1)?;
     let mut seat = seats.pop().expect(&rt, "one seat");

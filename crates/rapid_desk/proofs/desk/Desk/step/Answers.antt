@@ -7,11 +7,11 @@ use Rattle.rapid_desk.proofs.desk.Desk.step.Goals as goal
 
 pub announce-requires : goal.announce-requires
 announce-requires g c =
-    await_in c.installs-installed.result c.prepare.new.self.node c.node-node.result.now c.prepare.new.self.next c.self.inside.board.published c.settle.new.board.published c.self.inside.outlets.items c.in_ok-settle-in-Ok.ensures.shown c.installs-installed.ensures (c.node-node.ensures ∙ c.in_ok-settle-in-Ok.ensures.advances.1) c.self.invariant.1
+    await_in c.installs-installed.result c.prepare.new.self.node c.node-node.result.now c.prepare.new.self.next c.self.inside.board.published c.adopt_next.new.board.published c.self.inside.outlets.items c.in_ok-adopt_next-in-Ok.ensures.shown c.installs-installed.ensures (c.node-node.ensures ∙ c.in_ok-adopt_next-in-Ok.ensures.advances.1) c.self.invariant.1
 
 pub invariant_of-self-in-Ok : goal.invariant_of-self-in-Ok
 invariant_of-self-in-Ok g c =
-    (c.settle.ensures.keeps, follow_in c.installs-installed.result c.prepare.new.self.node c.node-node.result.now c.prepare.new.self.next c.self.inside.board.published c.settle.new.board.published c.self.inside.outlets.items c.announce.new.outlets.items c.in_ok-settle-in-Ok.ensures.shown c.installs-installed.ensures (c.node-node.ensures ∙ c.in_ok-settle-in-Ok.ensures.advances.1) c.self.invariant.1 c.announce.ensures)
+    (c.adopt_next.ensures.keeps, follow_in c.installs-installed.result c.prepare.new.self.node c.node-node.result.now c.prepare.new.self.next c.self.inside.board.published c.adopt_next.new.board.published c.self.inside.outlets.items c.announce.new.outlets.items c.in_ok-adopt_next-in-Ok.ensures.shown c.installs-installed.ensures (c.node-node.ensures ∙ c.in_ok-adopt_next-in-Ok.ensures.advances.1) c.self.invariant.1 c.announce.ensures)
 
 pub invariant_of-self-in-Err : goal.invariant_of-self-in-Err
 invariant_of-self-in-Err g c = ((after_refusal c.in-Err.error c.self.inside.held c.prepare.new.self c.self.inside.board.published (event_of c.args.event) c.in-Err.ensures.refused c.prepare.ensures.same c.self.invariant.0).0, c.self.invariant.1)
