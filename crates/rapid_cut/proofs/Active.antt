@@ -25,7 +25,7 @@ and_is true b h = refl
 and_is false true h = h refl
 and_is false false h = refl
 
-low_active : (t : Observers) (r : Reports) (s : Process) → AreObservers t → reaches_low t r (Some s) ≡ is_in (active t r) s
+pub low_active : (t : Observers) (r : Reports) (s : Process) → AreObservers t → reaches_low t r (Some s) ≡ is_in (active t r) s
 low_active t r s obs =
     sym (in_filter (λ q. reaches_low t r (Some q)) (subjects r) s ∙ and_is (is_in (subjects r) s) (reaches_low t r (Some s)) (λ h.
     let enough : t.params.l ≤ tally t r s = at_most t.params.l (tally t r s) h in

@@ -13,3 +13,4 @@ pub mod Cuts
 pub mod InTurn
 pub mod Batches
 pub mod Repeats
+pub mod Exact

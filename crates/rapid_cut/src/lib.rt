@@ -2,7 +2,7 @@
 //! that are to be removed or let in together.
 #![tactic(auto)]
 
-ghost use Rattle.rapid_cut.specs.Laws.{OrderAndRepeatsChangeNothing, OnePassIsEnough};
+ghost use Rattle.rapid_cut.specs.Laws.{ListsAreExact, CutIsExact, NoCutIsExact, OrderAndRepeatsChangeNothing, BatchesAddUp, OnePassIsEnough};
 
 mod ascending;
 mod closure;
@@ -16,9 +16,31 @@ mod taken;
 
 pub use detector::Detector;
 
-/// Neither the order of the alerts that are taken nor repeats among them change the cut.
+/// A process is listed as stable exactly if it has at least H reports, and as unstable exactly if
+/// it has from L to H - 1. Both lists ascend.
+pub fn lists_are_exact()
+    ensures { ListsAreExact }
+{}
+
+/// There is a cut exactly if some process has at least H reports and none has from L to H - 1; it
+/// is all processes with at least H, ascending.
+pub fn cut_is_exact()
+    ensures { CutIsExact }
+{}
+
+/// There is none exactly if no process has at least H reports, or one has from L to H - 1.
+pub fn no_cut_is_exact()
+    ensures { NoCutIsExact }
+{}
+
+/// Neither the order of the alerts that are taken nor repeats among them change what they report.
 pub fn order_and_repeats_change_nothing()
     ensures { OrderAndRepeatsChangeNothing }
+{}
+
+/// Into which batches the alerts that are taken are cut does not change what they report.
+pub fn batches_add_up()
+    ensures { BatchesAddUp }
 {}
 
 /// The reports are the direct ones and each whose subject and observer both have at least L direct

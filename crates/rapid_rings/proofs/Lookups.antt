@@ -107,14 +107,20 @@ no_pairs : {X : Type 0} (f : ℕ → Option X) (ks : List ℕ) → ((k : ℕ) �
 no_pairs f [] h = refl
 no_pairs f (k ∷ ks) h = ap (λ o. cons_option o (filter_map f ks)) (h k) ∙ no_pairs f ks h
 
-pub stranger_observes_nobody : (c : Configuration) (o : Process) → position_of c o ≡ None → [] ≡ subjects_of c o
-stranger_observes_nobody c o none =
-    let out : is_in c.members o ≡ false = sym (in_by_place (same_bytes o) c.members) ∙ ap is_any none in
-    sym (no_pairs (λ k. option_map (λ s. (k, s)) (subject_on c o k)) (rings (observers_of c)) (λ k. ap (option_map (λ s. (k, s))) (observes_nobody c o out k)))
+-- who has no place is no member
+no_member : (c : Configuration) (o : Process) → position_of c o ≡ None → is_in c.members o ≡ false
+no_member c o none = sym (in_by_place (same_bytes o) c.members) ∙ ap is_any none
   where
     is_any : Option ℕ → Bool
     is_any None = false
     is_any (Some _) = true
+
+pub stranger_observes_nobody : (c : Configuration) (o : Process) → position_of c o ≡ None → [] ≡ subjects_of c o
+stranger_observes_nobody c o none =
+    sym (no_pairs (λ k. option_map (λ s. (k, s)) (subject_on c o k)) (rings (observers_of c)) (λ k. ap (option_map (λ s. (k, s))) (observes_nobody c o (no_member c o none) k)))
+
+pub stranger_has_no_subject : (c : Configuration) (o : Process) (k : ℕ) → position_of c o ≡ None → None ≡ subject_on c o k
+stranger_has_no_subject c o k none = sym (observes_nobody c o (no_member c o none) k)
 
 -- ---- lists
 

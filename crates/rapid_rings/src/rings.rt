@@ -112,6 +112,18 @@ impl Rings {
         }
     }
 
+    /// The member that the process observes on a ring, from 0; none where there is no such ring,
+    /// where it observes nobody, and where it is no member. It takes no memory, and costs one
+    /// search for the process.
+    pub fn subject_on(&self, ring: u8, process: &Process) -> Option<Process>
+        ensures { result ≡ subject_on self.now process.now ring }
+    {
+        match self.configuration.position(process) {
+            Some(place) => self.subject(ring, place),
+            None => None,
+        }
+    }
+
     // The pairs of a ring and the member that the member at a place observes on it, by ring.
     fn subjects_at(&self, alloc: Global, place: usize) -> Result<Vec<(u8, Process)>, AllocError>
         ensures { (observer : ModelProcess) → position_of self.now observer ≡ Some place →

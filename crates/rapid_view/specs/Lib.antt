@@ -1,3 +1,4 @@
 pub mod Words
 pub mod CellRule
 pub mod Seen
+pub mod Laws

@@ -33,6 +33,8 @@ enum Call<'a> {
     Edges(&'a [Edge]),
     /// The subjects of a process, each a ring and a number.
     Subjects(u16, &'a [(u8, u16)]),
+    /// By one search, whom a process observes on a ring.
+    Subject(u8, u16, u16),
     /// By one search, whether on a ring a process is a member, and its observer.
     Search(u8, u16, bool, u16),
     /// The rings of a configuration of these members that follows, and who observes whom there.
@@ -109,6 +111,9 @@ fn answers(alloc: Global, rings: &Rings, call: &Call) -> Result<bool, ConfigErro
         Call::Edges(edges) => Ok(are_edges(rings, edges)),
         Call::Subjects(observer, subjects) => {
             Ok(has_subjects(alloc, rings, *observer, subjects)?)
+        }
+        Call::Subject(ring, observer, subject) => {
+            Ok(is_numbered(rings.subject_on(*ring, &process(*observer)), *subject))
         }
         Call::Search(ring, subject, is_member, observer) => {
             Ok(is_found(rings, *ring, *subject, *is_member, *observer))
@@ -215,6 +220,21 @@ const SUBJECTS: [Call; 2] = [
 #[test]
 fn members_have_their_subjects(rt: HostRuntime) -> Result<(), Fail> {
     runs(rt.alloc(), THREE, &FIVE, &SUBJECTS)
+}
+
+// The same members on one ring, and nobody: no such ring, and no member.
+const SUBJECT_ON: [Call; 6] = [
+    Call::Subject(0, 2, 5),
+    Call::Subject(1, 2, 4),
+    Call::Subject(2, 2, 1),
+    Call::Subject(3, 2, 0),
+    Call::Subject(255, 2, 0),
+    Call::Subject(0, 6, 0),
+];
+
+#[test]
+fn members_have_a_subject_on_each_ring(rt: HostRuntime) -> Result<(), Fail> {
+    runs(rt.alloc(), THREE, &FIVE, &SUBJECT_ON)
 }
 
 const BEFORE: [Name; 4] = [(1, 1), (3, 3), (4, 4), (6, 6)];

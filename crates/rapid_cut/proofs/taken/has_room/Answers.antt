@@ -1,4 +1,4 @@
-use Rattle.std.proofs.Common.{◌≡◌, ◌∙◌, ap, sym, nat_lt}
+use Rattle.std.proofs.Common.{◌∙◌, ap, sym, nat_lt}
 use Rattle.rapid_alerts.specs.Alerts.{alert_of}
 use Rattle.rapid_cut.proofs.Joiners.{taken_when, taken_where_room}
 use Rattle.rapid_cut.proofs.taken.has_room.Goals as goal

@@ -1,4 +1,4 @@
-use Rattle.std.proofs.Common.{◌≡◌, ◌∙◌, ap, sym, ◌||◌}
+use Rattle.std.proofs.Common.{◌∙◌, ap, sym, ◌||◌}
 use Rattle.rapid_model.specs.Process.{is_in}
 use Rattle.rapid_model.specs.Reports.{subjects}
 use Rattle.rapid_cut.proofs.Masks.{on_any}

@@ -1,4 +1,4 @@
-use Rattle.std.proofs.Common.{◌≡◌, ◌∙◌, ◌+◌, ap, sym, length}
+use Rattle.std.proofs.Common.{◌∙◌, ◌+◌, ap, sym, length}
 use Rattle.rapid_cut.proofs.Joiners.{joiners_stay, joiners_grow}
 use Rattle.rapid_cut.proofs.taken.joiners_with.Goals as goal
 

@@ -1,0 +1,16 @@
+-- What is proved of the rule that a view cell keeps.
+use Rattle.std.specs.Prelude.{◌≡◌, ℕ, List, length, map, slice_index}
+use mathlib.Core.Option.{some}
+use lib.ListN.{get_elem?}
+use Rattle.atomic_table.specs.Table.{State}
+use Rattle.rapid_model.specs.Configuration.{Stamp}
+use Rattle.rapid_model.specs.PublishedList.{IsPublished}
+use Rattle.rapid_view.specs.declared.known.Known.{Known}
+use Rattle.rapid_view.specs.CellRule.{Kept}
+
+-- Whenever the rule holds there is a list that is published: word 0 of the cell is its length, its heights rise by one, and each seat,
+-- the one that writes among them, has seen a beginning of it.
+abbrev pub CellsArePublished : Type 0
+CellsArePublished =
+    (room : ℕ) (s : State (Unit {0}) Known) (seat : ℕ) (v : Known) → Kept room s → get_elem? s.views seat ≡ some v →
+    (list : List Stamp) × (slice_index s.words 0 ≡ length list) × IsPublished list v.seen (map (λ (u : Known). u.seen) s.views)
