@@ -1,7 +1,7 @@
 use Rattle.std.proofs.Common.{ap, sym, ◌∙◌}
 use Rattle.std.specs.FinSet as set
 use Rattle.rapid_fast.proofs.Deciding.{decision-known, after_vote-known, decided_now, heard_now, round_kept}
-use Rattle.rapid_fast.proofs.round.FastRound.take.Goals as goal
+use Rattle.rapid_fast.proofs.round.FastRound.count_vote.Goals as goal
 
 pub returns-then-contains-clause-decided : goal.returns-then-contains-clause-decided
 returns-then-contains-clause-decided c =
