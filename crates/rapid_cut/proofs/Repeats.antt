@@ -7,7 +7,9 @@ use Rattle.std.specs.Ordering.{eq_by_cmp}
 use Rattle.std.specs.FinSet as set
 use Rattle.rapid_model.specs.Alert.{Alert}
 use Rattle.rapid_model.specs.Reports.{Report, report_cmp, Reports, report_of}
-use Rattle.rapid_model.specs.Detector.{with_alerts}
+use Rattle.rapid_model.specs.Detector.{Detector, with_alerts, batch_taken, after_batch}
+use Rattle.rapid_model.specs.Ring.{Observers}
+use Rattle.rapid_cut.specs.Laws.{taken_in_turn, after_batches}
 use Rattle.rapid_model.proofs.Lists.{In, in_from, contains_from}
 use Rattle.rapid_model.proofs.Orders.{reports_total, reports_exact, tie_decides}
 
@@ -73,3 +75,22 @@ batches_add_up r xs ys =
     ∙ or_assoc (set.contains r x) (reports_on xs x) (reports_on ys x)
     ∙ ap (λ b. set.contains r x || b) (sym (reports_on-append xs ys x))
     ∙ sym (has r (xs ++ ys) x))
+
+-- nothing more
+with_none : (r : Reports) → r ≡ with_alerts r []
+with_none r = set.same_set reports_total reports_exact r (with_alerts r []) (λ x. sym (has r [] x ∙ or_false (set.contains r x)))
+  where
+    or_false : (b : Bool) → (b || false) ≡ b
+    or_false true = refl
+    or_false false = refl
+
+kept_at_once : (t : Observers) (d : Detector) (xs : List Alert) → (after_batch t d xs).direct ≡ with_alerts d.direct (batch_taken t d xs)
+unfolding after_batch
+kept_at_once t d xs = refl
+
+pub all_taken_are_kept : (t : Observers) (d : Detector) (batches : List (List Alert)) → (after_batches t d batches).direct ≡ with_alerts d.direct (taken_in_turn t d batches)
+all_taken_are_kept t d [] = with_none d.direct
+all_taken_are_kept t d (xs ∷ batches) =
+    all_taken_are_kept t (after_batch t d xs) batches
+    ∙ ap (λ r. with_alerts r (taken_in_turn t (after_batch t d xs) batches)) (kept_at_once t d xs)
+    ∙ batches_add_up d.direct (batch_taken t d xs) (taken_in_turn t (after_batch t d xs) batches)

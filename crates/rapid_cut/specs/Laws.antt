@@ -1,12 +1,12 @@
 -- What is proved of cut detection itself.
-use Rattle.std.specs.Prelude.{◌≡◌, ◌≢◌, ◌↔◌, ◌≤◌, ◌<◌, ◌⊎◌, ◌||◌, ℕ, List, [], ◌++◌, Contains, IsTrue, Some, None}
+use Rattle.std.specs.Prelude.{◌≡◌, ◌≢◌, ◌↔◌, ◌≤◌, ◌<◌, ◌⊎◌, ◌||◌, ℕ, List, [], ◌∷◌, ◌++◌, Contains, IsTrue, Some, None}
 use Rattle.std.specs.FinSet as set
 use Rattle.rapid_model.specs.Process.{Process}
 use Rattle.rapid_model.specs.Cut.{Cut, is_ascending}
 use Rattle.rapid_model.specs.Alert.{Alert}
 use Rattle.rapid_model.specs.Ring.{Observers, AreObservers}
 use Rattle.rapid_model.specs.Reports.{Report, Reports, tally, is_implied, reports, stable, unstable, cut_of}
-use Rattle.rapid_model.specs.Detector.{with_alerts}
+use Rattle.rapid_model.specs.Detector.{Detector, with_alerts, batch_taken, after_batch}
 
 -- How many reports there are on a process, direct and implied.
 abbrev pub reports_on : Observers → Reports → Process → ℕ
@@ -59,6 +59,20 @@ OrderAndRepeatsChangeNothing =
 -- Alerts that come one list after another make the set that they make in one list: into which batches they are cut does not matter.
 abbrev pub BatchesAddUp : Type 0
 BatchesAddUp = (r : Reports) (xs ys : List Alert) → with_alerts (with_alerts r xs) ys ≡ with_alerts r (xs ++ ys)
+
+-- The alerts that a detector takes of batches in turn.
+abbrev pub taken_in_turn : Observers → Detector → List (List Alert) → List Alert
+taken_in_turn t d [] = []
+taken_in_turn t d (xs ∷ batches) = batch_taken t d xs ++ taken_in_turn t (after_batch t d xs) batches
+
+-- The detector after batches in turn.
+abbrev pub after_batches : Observers → Detector → List (List Alert) → Detector
+after_batches t d [] = d
+after_batches t d (xs ∷ batches) = after_batches t (after_batch t d xs) batches
+
+-- What a detector keeps after batches is the set that all alerts make that it took of them.
+abbrev pub AllTakenAreKept : Type 0
+AllTakenAreKept = (t : Observers) (d : Detector) (batches : List (List Alert)) → (after_batches t d batches).direct ≡ with_alerts d.direct (taken_in_turn t d batches)
 
 -- Implied reports go only to processes that have L direct ones already, so one pass finds them all: the reports are the direct
 -- ones, and each whose subject and observer both have at least L direct reports.

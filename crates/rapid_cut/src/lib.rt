@@ -2,7 +2,7 @@
 //! that are to be removed or let in together.
 #![tactic(auto)]
 
-ghost use Rattle.rapid_cut.specs.Laws.{ListsAreExact, CutIsExact, NoCutIsExact, OrderAndRepeatsChangeNothing, BatchesAddUp, OnePassIsEnough};
+ghost use Rattle.rapid_cut.specs.Laws.{ListsAreExact, CutIsExact, NoCutIsExact, OrderAndRepeatsChangeNothing, BatchesAddUp, AllTakenAreKept, OnePassIsEnough};
 
 mod ascending;
 mod closure;
@@ -41,6 +41,11 @@ pub fn order_and_repeats_change_nothing()
 /// Into which batches the alerts that are taken are cut does not change what they report.
 pub fn batches_add_up()
     ensures { BatchesAddUp }
+{}
+
+/// What a detector keeps after batches is the set that all alerts make that it took of them.
+pub fn all_taken_are_kept()
+    ensures { AllTakenAreKept }
 {}
 
 /// The reports are the direct ones and each whose subject and observer both have at least L direct

@@ -176,8 +176,11 @@ impl MemberState {
     }
 
     /// A message at a member, where these are the decisions of its node, and the cut that was
-    /// decided, if any. On an error the member is of no further use, but for who it is and where,
-    /// and nothing that was added to the outputs is to be sent.
+    /// decided, if any.
+    ///
+    /// On an error a part of its work may be done, so no clause says more than who the member is
+    /// and where. It is of no further use, and nothing that was added to the outputs is to be sent:
+    /// `Node::step` drops both, and its node is halted.
     #[inline(always)]
     pub fn receive(
         &mut self,

@@ -287,9 +287,11 @@ impl MemberState {
     }
 
     /// A tick: votes and alerts go out again where they are due, then the batch, and last a ballot
-    /// is begun where one is due. The result is the cut that was decided, if any. On an error the
-    /// member is of no further use, but for who it is and where, and nothing that was added to the
-    /// outputs is to be sent.
+    /// is begun where one is due. The result is the cut that was decided, if any.
+    ///
+    /// On an error a part of this may be done, so no clause says more than who the member is and
+    /// where. It is of no further use, and nothing that was added to the outputs is to be sent:
+    /// `Node::step` drops both, and its node is halted.
     #[tactic(auto, unfolding(rapid_model::specs::Tick::on_tick))]
     pub fn on_tick(&mut self, out: &mut Vec<Output>) -> Result<Option<Cut>, AllocError>
         ensures state { OnOk result (self.new ≡ (tick.on_tick self.old).state) }
