@@ -211,9 +211,9 @@ def tick10_nine_nodes(it):
 
 
 def quit_hangs(it):
-    """`quit` where nobody reads the output, and where a node has five descriptors and no more."""
+    """`quit` where nobody reads the output, and where a node has five descriptors or four and no more."""
     took, said = [], []
-    for limit, unread in ((None, True), (5, False)):
+    for limit, unread in ((None, True), (5, False), (4, False)):
         node = it.start(limit=limit)
         it.until(lambda: node.views, 10, "the founder has printed no view")
         node.may_end, node.reads = True, not unread
@@ -228,6 +228,8 @@ def quit_hangs(it):
             took.append(5)
             said.append(str(failure))
         it.views.clear()
+    if node.errors.count(b"warning: no file descriptor") != 1:
+        raise Failed(f"4 descriptors: standard error has {node.errors}")
     if max(took) > 1.2:
         raise Failed("; ".join(said))
     return "; ".join(said)

@@ -98,16 +98,13 @@ fn watch<W: Wait + Clock, R: Wait + Copy + Drop, P: Post + Drop, E: Write>(
 }
 
 /// Tells of the fault by which the node ends, once it ends, whoever ends it, and stops the peers.
-fn stop_at_the_end<W, R: Wait + Copy + Drop, P: Post + Drop, E: Write + Drop>(
+fn stop_at_the_end<W: Wait + Clock, R: Wait + Copy + Drop, P: Post + Drop, E: Write + Drop>(
     rt: &W,
     shared: &Shared<R, P>,
     peers: &Peers,
     err: E,
     told: &AtomicBool,
-)
-where
-    W: Net<Listener = TcpListener, Stream = TcpStream> + Wait + Clock,
-{
+) {
     let mut err = Until::new(rt, shared.ending(), err);
     watch(rt, shared, peers, &mut err);
     if let Err(fault) = shared.ending().outcome(rt) {
