@@ -6,6 +6,7 @@ mod console;
 mod ending;
 mod fault;
 mod identity;
+mod journal;
 mod options;
 mod post;
 mod repeats;

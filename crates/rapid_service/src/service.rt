@@ -3,6 +3,7 @@
 ghost use Rattle.std.specs.Prelude.{◌≡◌, ◌<◌};
 
 use crate::fault::NodeFault;
+use crate::journal::shorten;
 use crate::post::Post;
 use crate::repeats::Repeats;
 use crate::rounds::Rounds;
@@ -238,6 +239,8 @@ impl<R: Wait + Copy + Drop, P: Post + Drop> Service<R, P> {
     /// One event at the desk. If the desk does not go on its subscribers are told: they get what
     /// was put for them, and then that it is closed.
     fn at_desk(&mut self, event: Event) -> Result<Outputs, NodeFault> {
+        // a journal for which there is no memory now grows on, and the next step tries again
+        let _ = shorten(&mut self.desk);
         match self.desk.step(event) {
             Ok(sent) => Ok(sent),
             Err(error) => {
