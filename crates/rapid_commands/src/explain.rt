@@ -5,7 +5,7 @@ use crate::node::NODE;
 use clap::ArgMatches;
 use clap::parser::ValueSource;
 use rapid_endpoint::{Endpoint, ParseError, ProcessId};
-use rapid_service::NodeWords;
+use rapid_service::{NodeOptions, NodeWords};
 use std::convert::AsStr;
 use std::io::Write;
 use std::net::{Ipv4Addr, Net, SocketAddr, SocketAddrV4, TcpListener, TcpStream};
@@ -288,6 +288,16 @@ pub(crate) fn note_unused<E: Write>(words: &ArgMatches, err: &mut E) {
         let _ = writeln!(
             err,
             "note: --k, --h and --l are not used: a node that joins takes K, H and L of its cluster"
+        );
+    }
+}
+
+/// Notes that a node makes no ticks by itself, if its options say so.
+pub(crate) fn note_no_ticks<E: Write>(options: &NodeOptions, err: &mut E) {
+    if options.tick_ms == 0 {
+        let _ = writeln!(
+            err,
+            "note: with --tick-ms 0 only lines tick this node: it joins nobody, sees no crash, and may hold up its cluster"
         );
     }
 }
