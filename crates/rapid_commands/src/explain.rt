@@ -6,6 +6,7 @@ use clap::ArgMatches;
 use clap::parser::ValueSource;
 use rapid_endpoint::{Endpoint, ParseError, ProcessId};
 use rapid_service::{NodeOptions, NodeWords};
+use rapid_transport::is_local;
 use std::convert::AsStr;
 use std::io::Write;
 use std::net::{Ipv4Addr, Net, SocketAddr, SocketAddrV4, TcpListener, TcpStream};
@@ -215,16 +216,9 @@ pub(crate) fn tell_params<E: Write>(command: &str, words: &ArgMatches, err: &mut
 /// What is wrong with the text of an endpoint.
 fn endpoint_fault(text: &str) -> Option<&'static str> {
     match Endpoint::parse(text) {
-        Ok(endpoint) => {
-            let [first, _, _, _] = endpoint.address();
-            if first != 127 {
-                Some("its host is not 127.x.x.x")
-            } else if endpoint.port() == 0 {
-                Some("its port is 0")
-            } else {
-                None
-            }
-        }
+        Ok(endpoint) if is_local(endpoint) => None,
+        Ok(endpoint) if endpoint.address()[0] == 127 => Some("its port is 0"),
+        Ok(_) => Some("its host is not 127.x.x.x"),
         Err(ParseError::NotFourParts) => Some("its host is not four numbers between dots"),
         Err(ParseError::PartRange) => {
             Some("a part of its host is no number from 0 to 255, or has a needless 0 in front")
