@@ -8,6 +8,7 @@ import subprocess
 import sys
 import tempfile
 from pathlib import Path
+from types import SimpleNamespace
 
 from soak_cluster import (BATCH, GREATEST, HOST, JOIN, L, PRE_JOIN, REMOVE, RINGS, Failed, batch,
                           frame, is_closed, observer_of, process)
@@ -152,7 +153,7 @@ def restart_same_endpoint(it):
 
 
 def stopped_process_goes_on(it):
-    """A member is stopped for 12 ticks, which expels nobody, then for 80, and goes on."""
+    """A member is stopped for 12 ticks, which expels nobody, then for 80, and goes on: it says that it is out."""
     nodes = it.form(5)
     target = nodes[4]
     stop(it, target, 12)
@@ -164,9 +165,9 @@ def stopped_process_goes_on(it):
     target.may_end = True
     it.agree(20)
     it.rest(2)
-    if not target.errors:
+    if target.errors.count(b"note: this node was removed") != 1:
         raise Failed(f"expelled after 80 ticks, not 12, it learnt so {took:.1f} s after it went on, and printed "
-                     "the view without it; but standard error has no line on it")
+                     f"the view without it; but standard error has {target.errors}")
     return f"it learnt {took:.1f} s after it went on: {target.errors.decode().strip()}"
 
 
@@ -211,9 +212,9 @@ def tick10_nine_nodes(it):
 
 
 def quit_hangs(it):
-    """`quit` where nobody reads the output, and where a node has five descriptors and no more."""
+    """`quit` where nobody reads the output, and where a node has five descriptors or four and no more."""
     took, said = [], []
-    for limit, unread in ((None, True), (5, False)):
+    for limit, unread in ((None, True), (5, False), (4, False)):
         node = it.start(limit=limit)
         it.until(lambda: node.views, 10, "the founder has printed no view")
         node.may_end, node.reads = True, not unread
@@ -228,9 +229,47 @@ def quit_hangs(it):
             took.append(5)
             said.append(str(failure))
         it.views.clear()
+    if node.errors.count(b"warning: no file descriptor") != 1:
+        raise Failed(f"4 descriptors: standard error has {node.errors}")
     if max(took) > 1.2:
         raise Failed("; ".join(said))
     return "; ".join(said)
+
+
+def joiners_in_vain(it):
+    """Joiners ask nobody, themselves, a removed member, a stopped one, and by a used identifier; they say so."""
+    nodes = it.form(5)
+    for node in nodes[3:]:
+        it.excuse(node, "stopped for long")
+        node.popen.send_signal(signal.SIGSTOP)
+    members = {node.name for node in nodes[:3]}
+    it.until(lambda: set(nodes[0].views[-1][1]) == members, 30, "the stopped are members yet")
+    nodes[3].popen.send_signal(signal.SIGCONT)
+    it.until(nodes[3].is_out, 20, "it has not learnt that it was removed")
+    nobody = it.fake()
+    nobody.listener.close()
+    used = nodes[1].process[:16]
+    asked = [(nobody, None, "none"), (None, None, "none"), (nodes[3], None, "none"), (nodes[4], None, "none"),
+             (nodes[0], used, "a member has its identifier")]
+    for seed, identifier, answer in asked:
+        joiner = it.start(seed or SimpleNamespace(port=it.port), identifier=identifier)
+        for number in (1, 10):
+            text = f"after question {number} to {HOST}:{joiner.seed.port}; last answer: {answer}".encode()
+            it.until(lambda: text in joiner.errors, 30, f"no note: {text}; but {joiner.errors}")
+        joiner.may_end = True
+        joiner.type("quit\n")
+    nodes[4].popen.send_signal(signal.SIGCONT)
+    nodes[3].may_end = nodes[4].may_end = True
+    return f"all five said so; {keeps(it, nodes[:3], nodes[0].views[-1][0])}"
+
+
+def without_ticks(it):
+    """A founder and a joiner without ticks say so, and what a member without ticks costs."""
+    founder = it.start(tick_ms=0)
+    joiner = it.start(founder, tick_ms=0)
+    for node in (founder, joiner):
+        it.until(lambda: b"note: with --tick-ms 0" in node.errors, 10, f"{node.name} said nothing of its ticks")
+    return f"both said: {joiner.errors.decode().strip()}"
 
 
 def fault_ends_process(it):
@@ -289,4 +328,4 @@ def foreign_sender(it):
 
 ALL = [pair_without_quorum, flapping_edge, used_identifier, prejoin_flood, batch_flood, silent_256, half_frame,
        sixty_five_destinations, restart_same_endpoint, stopped_process_goes_on, stopped_stdout,
-       tick10_nine_nodes, quit_hangs, fault_ends_process, self_connect, foreign_sender]
+       tick10_nine_nodes, quit_hangs, joiners_in_vain, without_ticks, fault_ends_process, self_connect, foreign_sender]

@@ -5,7 +5,8 @@ use crate::node::NODE;
 use clap::ArgMatches;
 use clap::parser::ValueSource;
 use rapid_endpoint::{Endpoint, ParseError, ProcessId};
-use rapid_service::NodeWords;
+use rapid_service::{NodeOptions, NodeWords};
+use rapid_transport::is_local;
 use std::convert::AsStr;
 use std::io::Write;
 use std::net::{Ipv4Addr, Net, SocketAddr, SocketAddrV4, TcpListener, TcpStream};
@@ -215,16 +216,9 @@ pub(crate) fn tell_params<E: Write>(command: &str, words: &ArgMatches, err: &mut
 /// What is wrong with the text of an endpoint.
 fn endpoint_fault(text: &str) -> Option<&'static str> {
     match Endpoint::parse(text) {
-        Ok(endpoint) => {
-            let [first, _, _, _] = endpoint.address();
-            if first != 127 {
-                Some("its host is not 127.x.x.x")
-            } else if endpoint.port() == 0 {
-                Some("its port is 0")
-            } else {
-                None
-            }
-        }
+        Ok(endpoint) if is_local(endpoint) => None,
+        Ok(endpoint) if endpoint.address()[0] == 127 => Some("its port is 0"),
+        Ok(_) => Some("its host is not 127.x.x.x"),
         Err(ParseError::NotFourParts) => Some("its host is not four numbers between dots"),
         Err(ParseError::PartRange) => {
             Some("a part of its host is no number from 0 to 255, or has a needless 0 in front")
@@ -288,6 +282,16 @@ pub(crate) fn note_unused<E: Write>(words: &ArgMatches, err: &mut E) {
         let _ = writeln!(
             err,
             "note: --k, --h and --l are not used: a node that joins takes K, H and L of its cluster"
+        );
+    }
+}
+
+/// Notes that a node makes no ticks by itself, if its options say so.
+pub(crate) fn note_no_ticks<E: Write>(options: &NodeOptions, err: &mut E) {
+    if options.tick_ms == 0 {
+        let _ = writeln!(
+            err,
+            "note: with --tick-ms 0 only lines tick this node: it joins nobody, sees no crash, and may hold up its cluster"
         );
     }
 }

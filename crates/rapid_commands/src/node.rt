@@ -3,7 +3,7 @@
 ghost use Rattle.std.specs.Prelude.{◌≡◌, ◌≤◌, true};
 ghost use Rattle.rapid_commands.specs.NodeWords.{NamesNode};
 
-use crate::explain::{note_unused, tell_params, tell_port, tell_texts};
+use crate::explain::{note_no_ticks, note_unused, tell_params, tell_port, tell_texts};
 use crate::help::NODE_LINES;
 use crate::words::{DONE, REFUSED, number, with_params};
 use clap::{Arg, ArgAction, ArgMatches, Command};
@@ -101,6 +101,7 @@ fn options_of<E: Write>(matches: &ArgMatches, err: &mut E) -> Option<NodeOptions
     match judge(words) {
         Ok(options) => {
             note_unused(matches, err);
+            note_no_ticks(&options, err);
             Some(options)
         }
         Err(OptionsError::BadParams) => {

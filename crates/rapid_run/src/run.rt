@@ -133,7 +133,8 @@ where
 /// printed within half a second after the end, `JournalFull` and `Halted` by the node itself, and
 /// `OutOfMemory`, also where a thread was not to be had. Each is told by one line of the error
 /// output, `error: ` and the fault, as soon as it ends the node, whatever the input does; a fault
-/// of the error output is passed over.
+/// of the error output is passed over. Within a second a line there tells each `Note`, after `note: `,
+/// and one that there are too few file descriptors, after `warning: `.
 pub fn run_node<R, S, I, O, E>(
     rt: &R,
     alloc: Global,

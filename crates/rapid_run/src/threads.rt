@@ -4,7 +4,7 @@ ghost use Rattle.std.specs.Thread.{IsSend, IsSync};
 
 use crate::arrivals::Arrivals;
 use crate::until::Until;
-use rapid_service::{NodeFault, Post, Shared, run_lines, run_ticker};
+use rapid_service::{NodeFault, Note, Post, Shared, run_lines, run_ticker};
 use rapid_transport::{Peers, SenderEnd};
 use std::alloc::Global;
 use std::io::{Read, Write};
@@ -14,7 +14,7 @@ use std::sync::atomic::{AtomicBool, Ordering};
 use std::thread::{self, Threads};
 use std::time::{Clock, Duration};
 
-/// How much time lies between two looks whether there are file descriptors, in milliseconds.
+/// How much time lies between two looks what is to be told, in milliseconds.
 const BETWEEN_LOOKS: u64 = 1_000;
 
 /// What a node begins with.
@@ -50,6 +50,14 @@ fn warn<E: Write>(err: &mut E) {
     let _ = err.flush();
 }
 
+/// Tells what a node says while it goes on, a line each.
+fn tell_notes<E: Write>(notes: &[Note], err: &mut E) {
+    for note in notes {
+        let _ = writeln!(err, "note: {note}");
+    }
+    let _ = err.flush();
+}
+
 /// Prints what is added to the console until that is closed. Where it cannot be written the node
 /// ends.
 fn print<W: Wait + Clock, R: Wait + Copy + Drop, P: Post + Drop, O: Write + Drop>(
@@ -76,7 +84,8 @@ fn answer<W: Wait + Clock, R: Wait + Copy + Drop, P: Post + Drop, I: Read + Drop
     run_lines(rt, alloc, shared, &mut reader);
 }
 
-/// Waits until the node ends, and tells once that there are too few file descriptors, if so.
+/// Waits until the node ends. Meanwhile it tells what the node says, and once that there are too few
+/// file descriptors, if so.
 fn watch<W: Wait + Clock, R: Wait + Copy + Drop, P: Post + Drop, E: Write>(
     rt: &W,
     shared: &Shared<R, P>,
@@ -87,6 +96,7 @@ fn watch<W: Wait + Clock, R: Wait + Copy + Drop, P: Post + Drop, E: Write>(
     let mut warned = false;
     for _ in rt.forever() {
         let ends = shared.ending().wait(rt, between);
+        tell_notes(shared.take_notes(rt).as_slice(), err);
         if !warned && peers.counters(rt).exhausted > 0 {
             warned = true;
             warn(err);
@@ -98,16 +108,13 @@ fn watch<W: Wait + Clock, R: Wait + Copy + Drop, P: Post + Drop, E: Write>(
 }
 
 /// Tells of the fault by which the node ends, once it ends, whoever ends it, and stops the peers.
-fn stop_at_the_end<W, R: Wait + Copy + Drop, P: Post + Drop, E: Write + Drop>(
+fn stop_at_the_end<W: Wait + Clock, R: Wait + Copy + Drop, P: Post + Drop, E: Write + Drop>(
     rt: &W,
     shared: &Shared<R, P>,
     peers: &Peers,
     err: E,
     told: &AtomicBool,
-)
-where
-    W: Net<Listener = TcpListener, Stream = TcpStream> + Wait + Clock,
-{
+) {
     let mut err = Until::new(rt, shared.ending(), err);
     watch(rt, shared, peers, &mut err);
     if let Err(fault) = shared.ending().outcome(rt) {

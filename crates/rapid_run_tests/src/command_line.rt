@@ -13,7 +13,11 @@ use std::time::Clock;
 /// is written, and what is told, all of it exactly.
 type Row = (&'static str, u8, &'static str, &'static str);
 
-const ROWS: [Row; 36] = [
+/// What a node without ticks is told.
+const NO_TICKS: &str =
+    "note: with --tick-ms 0 only lines tick this node: it joins nobody, sees no crash, and may hold up its cluster\n";
+
+const ROWS: [Row; 38] = [
     ("--version", 0, "rapidd 0.1.0\n", ""),
     ("-V", 0, "rapidd 0.1.0\n", ""),
     ("detect", 0, "", ""),
@@ -321,10 +325,23 @@ For more information, try '--help'.
     ),
     // a joiner that is given numbers is told that it does not use them
     (
-        "node --listen 127.0.0.1:7441 --join 127.0.0.1:7442 --k 5 --h 4 --l 2",
+        "node --listen 127.0.0.1:7441 --join 127.0.0.1:7442 --k 5 --h 4 --l 2 --tick-ms 100",
         0,
         "",
         "note: --k, --h and --l are not used: a node that joins takes K, H and L of its cluster\n",
+    ),
+    // a node without ticks is told what that costs
+    (
+        "node --listen 127.0.0.1:7441",
+        0,
+        "height 0 members 127.0.0.1:7441\n",
+        NO_TICKS,
+    ),
+    (
+        "node --listen 127.0.0.1:7441 --join 127.0.0.1:7442 --tick-ms 0",
+        0,
+        "",
+        NO_TICKS,
     ),
 ];
 
@@ -447,7 +464,11 @@ fn helps_say_what_is_wanted(rt: HostRuntime) -> Result<(), Fail> {
 #[test]
 fn a_port_in_use_is_named(rt: HostRuntime) -> Result<(), Fail> {
     let _taken = TcpListener::bind(&rt, "127.0.0.1:7443")?;
-    let (status, out, err) = answer(&rt, rt.alloc(), "node --listen 127.0.0.1:7443")?;
+    let (status, out, err) = answer(
+        &rt,
+        rt.alloc(),
+        "node --listen 127.0.0.1:7443 --tick-ms 100",
+    )?;
     assert!(rt; status == 1 && out.is_empty(), "{status}");
     assert!(rt;
         err.as_str()

@@ -168,7 +168,7 @@ fn a_node_prints_its_view(rt: HostRuntime) {
         out.as_slice(),
         b"height 0 members 127.0.0.1:7431\nheight 0 members 127.0.0.1:7431\n".as_slice()
     );
-    assert!(rt; err.is_empty());
+    assert!(rt; err.starts_with(b"note: with --tick-ms 0 "));
 }
 
 #[test]

@@ -3,6 +3,7 @@
 mod clusters;
 mod devices;
 mod ends;
+mod notes;
 mod repeats;
 mod rows;
 mod scarce;

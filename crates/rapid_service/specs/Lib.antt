@@ -5,3 +5,4 @@ pub mod Statuses
 pub mod Watching
 pub mod Repeating
 pub mod Remembering
+pub mod Asking

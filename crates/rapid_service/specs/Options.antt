@@ -1,16 +1,12 @@
 -- What the words of `node` are read as.
-use Rattle.std.specs.Prelude.{◌≡◌, Bool, ◌&&◌, ◌==◌, drop, slice_index, nat_le, if◌then◌else◌, Option, Some, None, Result, Ok, Err}
-use Rattle.std.specs.Int.{w16, from_be_bytes}
+use Rattle.std.specs.Prelude.{◌≡◌, if◌then◌else◌, Option, Some, None, Result, Ok, Err}
 use Rattle.rapid_model.specs.Bytes.{Identifier, Endpoint, Text}
 use Rattle.rapid_model.specs.Configuration.{Params, AreParams}
 use Rattle.rapid_endpoint.specs.Texts.{endpoint_from, identifier_from}
 use Rattle.rapid_endpoint.specs.declared.parse_error.ParseError.{ParseError}
+use Rattle.rapid_transport.specs.Local.{is_local}
 use Rattle.rapid_service.specs.declared.options.OptionsError.{OptionsError}
 use Rattle.rapid_service.specs.declared.options.OptionsError.TheVariants.{BadParams, Unreadable, NotLocal}
-
--- An endpoint at which a node can be: on the loopback network, with a port from 1.
-abbrev pub is_local : Endpoint → Bool
-is_local e = (slice_index e 0 == 127) && nat_le 1 (from_be_bytes w16 (drop 4 e))
 
 -- Such an endpoint, where this is one.
 abbrev pub when_local : Result Endpoint ParseError → Result Endpoint OptionsError

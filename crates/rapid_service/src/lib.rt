@@ -1,11 +1,14 @@
 //! The membership service of one process: a node at a desk, its probes, its lines and its threads.
 #![tactic(auto)]
 
+mod asking;
 mod command;
 mod console;
 mod ending;
 mod fault;
 mod identity;
+mod journal;
+mod note;
 mod options;
 mod post;
 mod repeats;
@@ -23,6 +26,7 @@ pub use console::Console;
 pub use ending::Ending;
 pub use fault::NodeFault;
 pub use identity::identify;
+pub use note::{Answer, InVain, Note};
 pub use options::{NodeOptions, NodeWords, OptionsError, judge};
 pub use post::Post;
 pub use repeats::Repeats;

@@ -2,11 +2,11 @@
 
 ghost use Rattle.std.specs.Prelude.{◌≡◌, IfOk, IfErr, OnOk, Ok, Err};
 ghost use Rattle.std.specs.Option.{option_map};
-ghost use Rattle.std.specs.Int.{w16, from_be_bytes};
-ghost use Rattle.rapid_service.specs.Options.{is_local, local_from, identifier_of, endpoint_of, IsRefusal, AreRead};
+ghost use Rattle.rapid_service.specs.Options.{local_from, identifier_of, endpoint_of, IsRefusal, AreRead};
 
 use rapid_config::Params;
 use rapid_endpoint::{Endpoint, ParseError, ProcessId};
+use rapid_transport::is_local;
 use thiserror::Error;
 
 /// The words of `node` that stand behind its options. The numbers are in their ranges.
@@ -55,14 +55,6 @@ pub enum OptionsError {
     /// An endpoint is not 127.x.x.x with a port from 1.
     #[error("an endpoint is not 127.x.x.x with a port from 1")]
     NotLocal,
-}
-
-/// Whether a node can be at this endpoint.
-fn is_local(endpoint: Endpoint) -> bool
-    ensures { result ≡ is_local endpoint }
-{
-    let [first, _, _, _] = endpoint.address();
-    first == 127 && 1 <= endpoint.port()
 }
 
 /// The endpoint that a text spells, where a node can be at it.

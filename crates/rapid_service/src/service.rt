@@ -2,7 +2,10 @@
 
 ghost use Rattle.std.specs.Prelude.{◌≡◌, ◌<◌};
 
+use crate::asking::Asking;
 use crate::fault::NodeFault;
+use crate::journal::shorten;
+use crate::note::{Note, Notes};
 use crate::post::Post;
 use crate::repeats::Repeats;
 use crate::rounds::Rounds;
@@ -12,8 +15,9 @@ use bytes::Bytes;
 use rapid_config::{ConfigId, Configuration, Params};
 use rapid_desk::{Desk, Probing, Subscription, Taken};
 use rapid_endpoint::{Endpoint, Process};
+use rapid_join::Reply;
 use rapid_message::{Body, Destination, Message, Output, Outputs};
-use rapid_node::Event;
+use rapid_node::{Event, Phase};
 use rapid_view::{View, ViewSeat};
 use rapid_wire::encode;
 use std::alloc::{AllocError, Global};
@@ -32,11 +36,14 @@ pub struct Service<R: Wait + Copy + Drop, P: Post + Drop> {
     me: Process,
     desk: Desk<R>,
     changes: Subscription,
+    /// What it asks while it has no view.
+    asking: Option<Asking>,
     present: Option<Present>,
     seat: Option<ViewSeat>,
     rounds: Rounds,
     /// The lines of the views that were entered since they were last taken.
     lines: Vec<u8>,
+    notes: Notes,
     post: P,
 }
 
@@ -122,10 +129,12 @@ impl<R: Wait + Copy + Drop, P: Post + Drop> Service<R, P> {
             me,
             desk,
             changes,
+            asking: None,
             present: None,
             seat: None,
             rounds: Rounds::new(),
             lines: Vec::new(alloc),
+            notes: Notes::new(alloc),
             post,
         })
     }
@@ -163,7 +172,9 @@ impl<R: Wait + Copy + Drop, P: Post + Drop> Service<R, P> {
         post: P,
     ) -> Result<Service<R, P>, NodeFault> {
         let desk = Desk::joiner(rt, alloc, me, seed, 1)?;
-        Service::at(rt, alloc, me, desk, post)
+        let mut service = Service::at(rt, alloc, me, desk, post)?;
+        service.asking = Some(Asking::new(seed));
+        Ok(service)
     }
 
     /// A tick of the node. After every tenth the observed members are probed, and edges of which
@@ -171,6 +182,7 @@ impl<R: Wait + Copy + Drop, P: Post + Drop> Service<R, P> {
     pub fn tick(&mut self) -> Result<(), NodeFault> {
         self.step(Event::Tick)?;
         self.count_tick();
+        self.note_question();
         if self.rounds.tick() {
             self.probe()?;
         }
@@ -180,8 +192,10 @@ impl<R: Wait + Copy + Drop, P: Post + Drop> Service<R, P> {
     /// A message has come. It is dropped if it repeats one that came before in the present view and
     /// changes nothing: a step would only take room in the journal of the desk.
     pub fn receive(&mut self, message: Message) -> Result<(), NodeFault> {
-        if let Body::ProbeAck(_) = message.body() {
-            self.ack(&message.sender());
+        match message.body() {
+            Body::ProbeAck(_) => self.ack(&message.sender()),
+            Body::Reply(joiner, reply) => self.hear(joiner, reply),
+            _ => {}
         }
         if !self.admits(&message) {
             return Ok(());
@@ -204,6 +218,25 @@ impl<R: Wait + Copy + Drop, P: Post + Drop> Service<R, P> {
         }
     }
 
+    /// A tick was made at which the node may have asked to be let in: what is to be told of its
+    /// questions is noted.
+    fn note_question(&mut self) {
+        if let Some(asking) = &mut self.asking
+            && let Some(note) = asking.tick()
+        {
+            self.notes.add(note);
+        }
+    }
+
+    /// A host has replied to a joiner.
+    fn hear(&mut self, joiner: &Process, reply: &Reply) {
+        if let Some(asking) = &mut self.asking
+            && *joiner == self.me
+        {
+            asking.hear(reply);
+        }
+    }
+
     /// A seat at the published view, once there is a view.
     pub fn take_seat(&mut self) -> Option<ViewSeat> {
         self.seat.take()
@@ -212,6 +245,11 @@ impl<R: Wait + Copy + Drop, P: Post + Drop> Service<R, P> {
     /// The lines of the views that were entered since this was last asked.
     pub fn take_lines(&mut self) -> Vec<u8> {
         mem::replace(&mut self.lines, Vec::new(self.alloc))
+    }
+
+    /// What is to be told since this was last asked, from the oldest on: at most 64 notes wait.
+    pub fn take_notes(&mut self) -> Vec<Note> {
+        self.notes.take()
     }
 
     /// What takes the frames that it sends.
@@ -235,9 +273,11 @@ impl<R: Wait + Copy + Drop, P: Post + Drop> Service<R, P> {
         self.follow()
     }
 
-    /// One event at the desk. If the desk does not go on its subscribers are told: they get what
-    /// was put for them, and then that it is closed.
+    /// One event at the desk, whose journal is begun anew before if it is long. If the desk does not
+    /// go on its subscribers are told: they get what was put for them, and then that it is closed.
     fn at_desk(&mut self, event: Event) -> Result<Outputs, NodeFault> {
+        // a journal for which there is no memory now grows on, and the next step tries again
+        let _ = shorten(&mut self.desk);
         match self.desk.step(event) {
             Ok(sent) => Ok(sent),
             Err(error) => {
@@ -282,11 +322,16 @@ impl<R: Wait + Copy + Drop, P: Post + Drop> Service<R, P> {
         }
     }
 
-    /// Enters a view: its line is shown, and probes begin anew.
+    /// Enters a view: its line is shown, and probes begin anew. A view without the node is its last.
     fn enter(&mut self, view: View) -> Result<(), NodeFault> {
         write_view(view.configuration(), &mut self.lines)?;
         let watch = self.watch(view.configuration())?;
         let repeats = Repeats::new(self.alloc, view.configuration())?;
+        if self.desk.phase() == Phase::Removed {
+            let height = view.configuration().height();
+            self.notes.add(Note::Removed(height));
+        }
+        self.asking = None;
         self.present = Some(Present {
             view,
             watch,

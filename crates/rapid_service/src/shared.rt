@@ -3,6 +3,7 @@
 use crate::console::Console;
 use crate::ending::Ending;
 use crate::fault::NodeFault;
+use crate::note::Note;
 use crate::post::Post;
 use crate::service::Service;
 use rapid_message::Message;
@@ -73,6 +74,12 @@ impl<R: Wait + Copy + Drop, P: Post + Drop> Shared<R, P> {
     pub fn take_seat<W: Wait>(&self, rt: &W) -> Option<ViewSeat> {
         let mut service = self.service.lock(rt);
         service.take_seat()
+    }
+
+    /// What is to be told since this was last asked.
+    pub fn take_notes<W: Wait>(&self, rt: &W) -> Vec<Note> {
+        let mut service = self.service.lock(rt);
+        service.take_notes()
     }
 
     /// Ends the node where a step of it has failed; whether it goes on.

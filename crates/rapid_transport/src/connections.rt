@@ -76,12 +76,18 @@ where
     Ok(stream)
 }
 
-/// Linux's number of the error that a process has as many open descriptors as it may have.
+/// Linux's numbers of the errors that the system, and that a process, has as many open descriptors
+/// as it may have.
+const TOO_MANY_IN_SYSTEM: i32 = 23;
+
 const TOO_MANY_OPEN: i32 = 24;
 
 /// Whether no file descriptor was to be had.
 pub(crate) fn is_exhausted(error: &io::Error) -> bool {
-    error.raw_os_error() == Some(TOO_MANY_OPEN)
+    matches!(
+        error.raw_os_error(),
+        Some(TOO_MANY_IN_SYSTEM | TOO_MANY_OPEN)
+    )
 }
 
 /// Whether the peer has closed the connection. Nothing ever comes by an outgoing connection. So a

@@ -14,10 +14,12 @@ use crate::queue::{SenderEnd, SenderQueue};
 use crate::readers::Readers;
 use crate::sender::{self, SenderContext};
 use bytes::Bytes;
+use libc::net::{SHUT_RDWR, shutdown};
 use rapid_endpoint::Endpoint;
 use rapid_wire::Feed;
 use std::alloc::{AllocError, Global};
-use std::net::{Net, SocketAddr, TcpListener, TcpStream};
+use std::net::{Net, TcpListener, TcpStream};
+use std::os::fd::AsRawFd;
 use std::sync::atomic::{AtomicBool, Ordering};
 use std::sync::{Mutex, Wait};
 use std::thread::{Parker, Threads};
@@ -35,12 +37,6 @@ const CAPACITY: usize = 4_096;
 /// does not spin while there is no descriptor.
 const AFTER_A_FAULT: u64 = 50;
 
-/// How often it is tried to wake the acceptor, and how long each try takes at most, in
-/// milliseconds.
-const WAKES: u32 = 50;
-
-const LONGEST_WAKE: u64 = 200;
-
 /// The queue of a sender, and what wakes it where there is a frame in it.
 #[derive(Drop)]
 struct Lane {
@@ -53,10 +49,6 @@ struct Lane {
 #[derive(Drop)]
 pub struct Peers {
     listener: TcpListener,
-    address: SocketAddr,
-    /// A handle that is only there to be given up: whoever stops the peers connects to them, also
-    /// where no descriptor is left otherwise.
-    spare: Mutex<Option<TcpListener>>,
     lanes: [Lane; 4],
     readers: Mutex<Readers>,
     meters: Meters,
@@ -71,16 +63,6 @@ fn make_lane(alloc: Global, ends: &mut Vec<SenderEnd>) -> Result<Lane, AllocErro
         queue: Mutex::new(queue),
         parker: Parker::new(),
     })
-}
-
-/// Listens at the address.
-fn bind<R>(rt: &R, at: Endpoint) -> io::Result<(TcpListener, SocketAddr)>
-where
-    R: Net<Listener = TcpListener, Stream = TcpStream>,
-{
-    let listener = TcpListener::bind(rt, address_of(at))?;
-    let address = listener.local_addr()?;
-    Ok((listener, address))
 }
 
 /// Reads messages and hands them on, until the connection ends or fails, or a frame takes too long.
@@ -122,7 +104,7 @@ impl Peers {
     where
         R: Net<Listener = TcpListener, Stream = TcpStream>,
     {
-        let Ok((listener, address)) = bind(rt, at) else {
+        let Ok(listener) = TcpListener::bind(rt, address_of(at)) else {
             return Err(ListenError::NoPort);
         };
         let mut ends = Vec::new(alloc);
@@ -132,11 +114,8 @@ impl Peers {
             make_lane(alloc, &mut ends)?,
             make_lane(alloc, &mut ends)?,
         ];
-        let spare = listener.try_clone().ok();
         let peers = Peers {
             listener,
-            address,
-            spare: Mutex::new(spare),
             lanes,
             readers: Mutex::new(Readers::new(alloc)),
             meters: Meters::new(),
@@ -288,24 +267,16 @@ impl Peers {
         Some((number, stream))
     }
 
-    /// Ends `run`: the readers at once, the senders when what is queued is sent, or after 0.3
-    /// seconds where that takes longer; a frame that is under way takes up to 0.3 seconds more. It
-    /// may be called by any thread, also before `run`, and calls after the first do nothing.
-    pub fn stop<R>(&self, rt: &R)
-    where
-        R: Net<Listener = TcpListener, Stream = TcpStream> + Wait + Clock,
-    {
+    /// Ends `run`: the acceptor and the readers at once, the senders when what is queued is sent, or
+    /// after 0.3 seconds where that takes longer; a frame that is under way takes up to 0.3 seconds
+    /// more. It may be called by any thread, also before `run`, and calls after the first do nothing.
+    /// It needs no file descriptor.
+    pub fn stop<R: Wait>(&self, rt: &R) {
         if self.stop_senders() {
             return;
         }
         self.readers.lock(rt).shut_down();
-        *self.spare.lock(rt) = None;
-        let longest = Duration::from_millis(LONGEST_WAKE);
-        for _ in 0..WAKES {
-            if TcpStream::connect_timeout(rt, &self.address, longest).is_ok() {
-                return;
-            }
-            thread::sleep(rt, Duration::from_millis(AFTER_A_FAULT));
-        }
+        // it ends a call that waits for a connection, and those to come
+        let _ = shutdown(self.listener.as_raw_fd(), SHUT_RDWR);
     }
 }

@@ -1,9 +1,11 @@
-// Messages that are dropped since they repeat others.
+// Messages that are dropped since they repeat others, and more that are not than a journal has room
+// for.
 
 use bytes::Bytes;
 use rapid_alerts::{Alert, Batch, Kind};
 use rapid_config::{ConfigId, Configuration, Cut, Params};
 use rapid_endpoint::{Endpoint, Process, ProcessId};
+use rapid_join::Reply;
 use rapid_message::{Body, Message};
 use rapid_service::{Post, Repeats, Service};
 use std::alloc::Global;
@@ -138,15 +140,48 @@ impl Post for Count {
     }
 }
 
+/// The service of process 1, which process 2 has let into the configuration of three.
+fn member<R: Wait + Copy + Drop>(rt: R, alloc: Global) -> Result<Service<R, Count>, Fail> {
+    let seed = process(2).endpoint();
+    let mut service = Service::join(rt, alloc, process(1), seed, Count { frames: 0 })?;
+    let confirm = Body::Confirm(three(alloc)?);
+    service.receive(Message::new(process(2), confirm)?)?;
+    Ok(service)
+}
+
 #[test]
 fn repeats_by_the_hundred_thousand_leave_a_running_node(rt: HostRuntime) -> Result<(), Fail> {
     let alloc = rt.alloc();
-    let params = Params::new(3, 3, 1)?;
-    let mut service = Service::found(&rt, alloc, params, process(1), Count { frames: 0 })?;
+    let here = three(alloc)?.id();
+    let mut service = member(&rt, alloc)?;
     for _ in 0..200_000 {
-        assert!(rt; service.receive(question(2)?).is_ok());
+        assert!(rt; service.receive(question(4)?).is_ok());
+    }
+    assert_eq!(rt; service.post().frames, 1);
+    for _ in 0..200_000 {
+        assert!(rt; service.receive(batch(alloc, 2, here, 4)?).is_ok());
     }
     assert_eq!(rt; service.post().frames, 1);
     assert!(rt; service.tick().is_ok());
+    Ok(())
+}
+
+/// More events than a journal has room for.
+const EVENTS: u32 = 66_000;
+
+#[test]
+fn a_node_goes_on_past_a_full_journal(rt: HostRuntime) -> Result<(), Fail> {
+    let alloc = rt.alloc();
+    let params = Params::new(3, 3, 1)?;
+    let mut service = Service::found(&rt, alloc, params, process(1), Count { frames: 0 })?;
+    for _ in 0..EVENTS {
+        let reply = Body::Reply(process(3), Reply::TooManyJoiners);
+        assert!(rt; service.receive(Message::new(process(2), reply)?).is_ok());
+    }
+    assert!(rt; service.tick().is_ok());
+    assert_eq!(rt;
+        service.take_lines().as_slice(),
+        b"height 0 members 127.0.0.1:7601\n".as_slice()
+    );
     Ok(())
 }

@@ -92,7 +92,11 @@ fn a_joiner_has_no_view(rt: HostRuntime) -> Result<(), Fail> {
         printed.as_slice(),
         b"no view\nrefused BadLine\nrefused BadLine\n".as_slice()
     );
-    assert!(rt; err.is_empty());
+    // its question at the first tick was in vain, as is known at the eleventh
+    assert_eq!(rt;
+        err.as_slice(),
+        b"note: no view after question 1 to 127.0.0.1:7403; last answer: none; see that a member runs there\n".as_slice()
+    );
     Ok(())
 }
 

@@ -1,0 +1,34 @@
+-- The questions of a joiner, which it asks at its ticks 1, 11, 21 and so on, and what is told of those that were in vain.
+use Rattle.std.specs.Prelude.{ℕ, ◌%◌, ◌/◌, ◌==◌, ◌&&◌, ◌||◌, nat_le, Bool, if◌then◌else◌, Option, Some, None}
+use Rattle.rapid_join.specs.declared.reply.Reply.{Reply}
+use Rattle.rapid_join.specs.declared.reply.Reply.TheVariants as reply
+use Rattle.rapid_model.specs.Bytes.{Endpoint}
+use Rattle.rapid_service.specs.declared.note.Answer.{Answer}
+use Rattle.rapid_service.specs.declared.note.Answer.TheVariants.{Nothing, Safe, InUse, Changed, TooMany}
+use Rattle.rapid_service.specs.declared.note.Note.{Note}
+use Rattle.rapid_service.specs.declared.note.Note.TheVariants as note
+
+-- What a reply answers.
+abbrev pub answer_of : Reply → Answer
+answer_of (reply.Safe id os) = Safe
+answer_of reply.EndpointInUse = InUse
+answer_of reply.ConfigurationChanged = Changed
+answer_of reply.TooManyJoiners = TooMany
+
+-- A question is asked at this tick, counted from 1.
+abbrev pub asks_at : ℕ → Bool
+asks_at tick = tick % 10 == 1
+
+-- Of questions in vain the first is told, and each tenth.
+abbrev pub is_told : ℕ → Bool
+is_told question = (question == 1) || (nat_le 1 question && (question % 10 == 0))
+
+-- What is told at this tick of a joiner without a view that asks this seed, if anything is, where this was answered to its last question:
+-- when the next question is asked, the one before was in vain.
+abbrev pub note_at : Endpoint → ℕ → Answer → Option Note
+note_at seed tick answer =
+    if asks_at tick && is_told (tick / 10) then Some (note.InVain (record { question = tick / 10; seed = seed; answer = answer })) else None
+
+-- What was answered to the last question after this tick: nothing where one is asked at it.
+abbrev pub answer_at : ℕ → Answer → Answer
+answer_at tick answer = if asks_at tick then Nothing else answer

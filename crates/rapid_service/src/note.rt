@@ -1,0 +1,132 @@
+// What a node says while it goes on, beside its views.
+
+ghost use Rattle.std.specs.Prelude.{◌≡◌, ◌⊎◌, ◌≤◌, ◌++◌, [], ◌∷◌, vec_len};
+ghost use Rattle.rapid_service.specs.Asking.{answer_of};
+
+use rapid_endpoint::Endpoint;
+use rapid_join::Reply;
+use std::alloc::Global;
+use std::{fmt, mem};
+
+/// How many notes wait at most.
+const MOST_NOTES: usize = 64;
+
+/// What a joiner was answered.
+#[derive(Clone, Copy, Debug, PartialEq, Eq)]
+pub enum Answer {
+    /// Nothing.
+    Nothing,
+    /// That it may join: it asks its observers to let it in.
+    Safe,
+    /// That a member has its identifier or its endpoint.
+    InUse,
+    /// That the configuration in which it asked was left.
+    Changed,
+    /// That too many others want to join.
+    TooMany,
+}
+
+impl Answer {
+    /// What a reply answers.
+    pub(crate) fn of(reply: &Reply) -> Answer
+        ensures { result ≡ answer_of reply.now }
+    {
+        match reply {
+            Reply::Safe(_, _) => Answer::Safe,
+            Reply::EndpointInUse => Answer::InUse,
+            Reply::ConfigurationChanged => Answer::Changed,
+            Reply::TooManyJoiners => Answer::TooMany,
+        }
+    }
+}
+
+impl fmt::Display for Answer {
+    fn fmt<W: fmt::Write>(&self, f: &mut fmt::Formatter<W>) -> fmt::Result {
+        f.write_str(match self {
+            Answer::Nothing => "none; see that a member runs there",
+            Answer::Safe => "it may join; see that most members run, with ticks",
+            Answer::InUse => "a member has its identifier or its endpoint",
+            Answer::Changed => "the configuration has changed",
+            Answer::TooMany => "too many others are joining",
+        })
+    }
+}
+
+/// A question of a joiner by which it was not let in.
+#[derive(Clone, Copy, Debug, PartialEq, Eq)]
+pub struct InVain {
+    /// Its number, from 1.
+    pub question: u64,
+    /// Who was asked.
+    pub seed: Endpoint,
+    /// What was answered last.
+    pub answer: Answer,
+}
+
+/// What a node says while it goes on, beside its views.
+#[derive(Clone, Copy, Debug, PartialEq, Eq)]
+pub enum Note {
+    /// That it asked in vain to be let in.
+    InVain(InVain),
+    /// That it is no member from this height on.
+    Removed(u64),
+}
+
+impl fmt::Display for Note {
+    fn fmt<W: fmt::Write>(&self, f: &mut fmt::Formatter<W>) -> fmt::Result {
+        match self {
+            Note::InVain(asked) => {
+                let InVain {
+                    question,
+                    seed,
+                    answer,
+                } = asked;
+                write!(
+                    f,
+                    "no view after question {question} to {seed}; last answer: {answer}"
+                )
+            }
+            Note::Removed(height) => write!(
+                f,
+                "this node was removed and is no member from height {height} on: start another in its place"
+            ),
+        }
+    }
+}
+
+/// The notes that wait to be told, at most 64.
+#[derive(Drop)]
+pub(crate) struct Notes {
+    alloc: Global,
+    waiting: Vec<Note>,
+    ghost few: { vec_len waiting ≤ 64 },
+}
+
+impl Notes {
+    /// Nothing is to be told.
+    pub(crate) fn new(alloc: Global) -> Notes
+        ensures { result.waiting.items ≡ [] }
+    {
+        Notes {
+            alloc,
+            waiting: Vec::new(alloc),
+        }
+    }
+
+    /// Adds a note; not if 64 wait, or there is no memory for it.
+    pub(crate) fn add(&mut self, note: Note)
+        ensures { (self.new.waiting.items ≡ self.old.waiting.items ++ note ∷ []) ⊎ (self.new.waiting.items ≡ self.old.waiting.items) }
+    {
+        if self.waiting.len() < MOST_NOTES {
+            let _ = self.waiting.push(note);
+        }
+    }
+
+    /// Takes out the notes that wait, from the oldest on.
+    pub(crate) fn take(&mut self) -> Vec<Note>
+        ensures taken { result.items ≡ self.old.waiting.items }
+        ensures none { self.new.waiting.items ≡ [] }
+    {
+        mem::replace(&mut self.waiting, Vec::new(self.alloc))
+    }
+}
