@@ -8,4 +8,3 @@ pub mod Stepping
 pub mod Settling
 pub mod Marks
 pub mod Following
-pub mod Books

@@ -3,4 +3,3 @@ pub mod States
 pub mod Notices
 pub mod Desks
 pub mod Taking
-pub mod Probes

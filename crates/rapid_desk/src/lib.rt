@@ -9,10 +9,8 @@ mod held;
 mod journal;
 mod notice;
 mod outlet;
-mod probe_book;
 mod subscription;
 
 pub use desk::Desk;
 pub use error::DeskError;
-pub use probe_book::{ProbeBook, Probing};
 pub use subscription::{Subscription, Taken};

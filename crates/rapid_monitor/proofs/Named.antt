@@ -1,14 +1,14 @@
 -- The rings that the pairs of a member name are those on which it observes another.
-use Rattle.std.proofs.Common.{◌≡◌, ℕ, zero, suc, ◌+◌, ◌<◌, ◌≤◌, ◌==◌, Bool, true, false, ◌&&◌, ◌||◌, List, [], ◌∷◌, map, Some, None, Option, arith, refl, sym, ap, ap₂, subst, ◌∙◌, ◌++◌, ◌⊎◌, inl, inr}
+use Rattle.std.proofs.Common.{◌≡◌, ℕ, zero, suc, ◌+◌, ◌<◌, ◌≤◌, ◌==◌, Bool, true, false, ◌&&◌, ◌||◌, List, [], ◌∷◌, map, Some, None, Option, arith, refl, sym, ap, ap₂, ◌∙◌, inl, inr}
 use Rattle.std.specs.Prelude.{is_some, filter_map, if◌then◌else◌}
 use Rattle.std.specs.Option.{option_map}
 use Rattle.std.specs.List.{range_with_len, list_any, cons_option}
 use Rattle.std.proofs.lemmas.Bool.{cases_lt}
 use Rattle.rapid_model.specs.Process.{Process}
 use Rattle.rapid_model.specs.Configuration.{Configuration}
-use Rattle.rapid_model.specs.Ring.{observers_of, rings, subject_on, subjects_of}
-use Rattle.rapid_model.specs.Edge.{Edge, fresh_edge}
-use Rattle.rapid_model.specs.Monitors.{Monitors, fresh_monitors}
+use Rattle.rapid_model.specs.Ring.{observers_of, subject_on, subjects_of}
+use Rattle.rapid_model.specs.Edge.{fresh_edge}
+use Rattle.rapid_model.specs.Monitors.{fresh_monitors}
 use Rattle.rapid_monitor.specs.Slots.{slot_for}
 
 same_number : (n : ℕ) → (n == n) ≡ true

@@ -12,7 +12,7 @@ use Rattle.rapid_monitor.specs.declared.edge.Verdict.TheVariants.{Up, Down}
 abbrev one : Bool → ℕ
 one b = cond b 1 0
 
-failures-cons : (x : Bool) (xs : List Bool) → failures (x ∷ xs) ≡ one x + failures xs
+pub failures-cons : (x : Bool) (xs : List Bool) → failures (x ∷ xs) ≡ one x + failures xs
 failures-cons x xs = sum_by-cons one x xs
 
 -- the failures of a list of at most n + 1 results are those of the first n and of the last
@@ -50,7 +50,7 @@ pub probed_is : {old : Edge} (ok : Bool) (window items : List Bool) (down : Bool
 probed_is ok window items down is i n = rw (i, n) (ap (λ (x : Edge). probed x ok) is)
 
 -- one more result
-edge_after-append : (e : Edge) (oks : List Bool) (ok : Bool) → edge_after e (oks ++ ok ∷ []) ≡ probed (edge_after e oks) ok
+pub edge_after-append : (e : Edge) (oks : List Bool) (ok : Bool) → edge_after e (oks ++ ok ∷ []) ≡ probed (edge_after e oks) ok
 edge_after-append e [] ok = refl
 edge_after-append e (x ∷ oks) ok = edge_after-append (probed e x) oks ok
 

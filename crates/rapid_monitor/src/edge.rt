@@ -8,10 +8,10 @@ use std::alloc::{AllocError, Global};
 use std::marker::Model;
 
 /// How many results a window keeps.
-const WINDOW: usize = 10;
+pub(crate) const WINDOW: usize = 10;
 
 /// How many failures in one window make an edge down.
-const FAILURES: u8 = 4;
+pub(crate) const FAILURES: u8 = 4;
 
 /// What a monitor says of an edge after a probe.
 #[derive(Clone, Copy, Debug, PartialEq, Eq)]
@@ -23,7 +23,7 @@ pub enum Verdict {
 }
 
 impl Verdict {
-    fn of(is_down: bool) -> Verdict
+    pub(crate) fn of(is_down: bool) -> Verdict
         ensures { result ≡ (if is_down then Down else Up) }
     {
         if is_down { Verdict::Down } else { Verdict::Up }

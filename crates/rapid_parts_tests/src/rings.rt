@@ -1,6 +1,8 @@
 // Tests of who observes whom, of probe windows and of joins.
 
+mod boards;
 mod joins;
 mod monitors;
+mod probers;
 mod rings;
 mod tables;

@@ -4,13 +4,12 @@ ghost use Rattle.std.specs.Prelude.{◌≡◌, ℕ, Bool, List, [], ◌∷◌, t
 ghost use Rattle.rapid_model.specs.Process.{Process as ModelProcess};
 ghost use Rattle.rapid_model.specs.Ring.{subjects_of};
 ghost use Rattle.rapid_model.specs.Monitors.{fresh_monitors};
-ghost use Rattle.rapid_desk.specs.Probes.{book_when, round_when};
+ghost use Rattle.rapid_monitor.specs.Probes.{book_when, round_when};
 ghost use Rattle.rapid_service.specs.Watching.{judged, down_by};
 
 use rapid_config::Configuration;
-use rapid_desk::{ProbeBook, Probing};
 use rapid_endpoint::Process;
-use rapid_monitor::{Monitors, Verdict};
+use rapid_monitor::{Monitors, ProbeBook, Probing, Verdict};
 use rapid_rings::Rings;
 use std::alloc::{AllocError, Global};
 

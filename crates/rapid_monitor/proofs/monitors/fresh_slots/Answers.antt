@@ -1,4 +1,4 @@
-use Rattle.std.proofs.Common.{◌+◌, arith, sym, ap, ◌∙◌, List, [], ◌∷◌, ◌++◌, Option}
+use Rattle.std.proofs.Common.{arith, sym, ap, ◌∙◌, List, [], ◌∷◌, ◌++◌, Option}
 use Rattle.std.proofs.lemmas.List.FromFn.{map-range_with_len_more}
 use Rattle.rapid_model.specs.Edge.{Edge}
 use Rattle.rapid_monitor.specs.Slots.{slot_for}

@@ -1,4 +1,4 @@
-use Rattle.std.proofs.Common.{◌≡◌, ℕ, ◌∙◌, ap, map, List}
+use Rattle.std.proofs.Common.{ℕ, ◌∙◌, ap, map, List}
 use Rattle.std.specs.List.{range_with_len}
 use Rattle.rapid_model.specs.Process.{Process}
 use Rattle.rapid_model.specs.Configuration.{Params}

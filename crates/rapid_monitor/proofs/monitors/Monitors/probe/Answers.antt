@@ -1,4 +1,4 @@
-use Rattle.std.proofs.Common.{◌≡◌, ◌<◌, Some, None, length, sym, ap, ◌∙◌, arith, List, Option}
+use Rattle.std.proofs.Common.{◌<◌, length, sym, ap, ◌∙◌, arith, List, Option}
 use Rattle.rapid_model.specs.Edge.{Edge}
 use Rattle.rapid_model.specs.Monitors.{edge_at}
 use Rattle.rapid_monitor.proofs.Windows.{slot_at, slot_so_far}
