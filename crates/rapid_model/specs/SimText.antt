@@ -8,11 +8,11 @@ use Rattle.rapid_model.specs.Process.{Process, identifier, same_bytes}
 use Rattle.rapid_model.specs.Configuration.{Params, Configuration, founding}
 use Rattle.rapid_model.specs.Reading.{are_params}
 use Rattle.rapid_model.specs.World as world
-use Rattle.rapid_model.specs.World.{World, Peer, WorldEvent, MarkedEvent, running, running_under, peer_at, observed, can_deliver}
+use Rattle.rapid_model.specs.World.{World, Peer, WorldEvent, running, running_under, peer_at, observed, can_deliver}
 use Rattle.rapid_model.specs.Refusal as faults
 use Rattle.rapid_model.specs.Refusal.{WorldRefusal}
 use Rattle.rapid_model.specs.Run.{WorldReport, ReportInstalled, ReportHalted, founded, reports_of, step_reports}
-use Rattle.rapid_model.specs.StoredWorld.{StoredWorld, new_world, world_of, event_refusal, with_event}
+use Rattle.rapid_model.specs.StoredWorld.{StoredWorld, new_world, world_of, event_refusal, with_event, unmarked}
 use Rattle.rapid_model.specs.Lines.{line_feed, space, lines, line_words}
 use Rattle.rapid_model.specs.Numbered.{number_under}
 use Rattle.rapid_model.specs.SimLine.{SimLine, Parameters, Found, Events, Lose, Deliver, Drop, Flow, Packets, command_named}
@@ -102,10 +102,6 @@ abbrev pub refused : Simulation → WorldEvent → Option WorldRefusal
 refused s e = event_refusal s.world e
 
 -- ---- what lines do
-
--- An event in which no node halts for want of memory.
-abbrev pub unmarked : WorldEvent → MarkedEvent
-unmarked e = record { event = e; halts = false }
 
 -- A run of these founders, in which nothing happened yet.
 abbrev pub begun : Params → List Process → Simulation
