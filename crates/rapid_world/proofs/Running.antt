@@ -42,23 +42,24 @@ one_lacking _ _ _ _ _ e (refuses s t f why es n w g rest) lacks = refuses s t f 
 one_lacking _ _ _ _ _ e (lacks_memory s t f es n w may rest) lacks =
     counted s t (f ∷ (es ++ e ∷ [])) n n (suc (w + 1)) (suc w + 1) refl (omega arith) (lacks_memory s t f (es ++ e ∷ []) n (w + 1) may (one_lacking s t es n w e rest lacks))
 
+at_end : (es : List MarkedEvent) (m : MarkedEvent) → slice_get (es ++ m ∷ []) (length es) ≡ Some m
+at_end [] m = refl
+at_end (x ∷ es) m = at_end es m
+
+last_of : (es : List MarkedEvent) (m : MarkedEvent) → mark_of (slice_get (es ++ m ∷ []) (length (es ++ m ∷ []) - 1)) ≡ m.halts
+last_of es m =
+    let e : length (es ++ m ∷ []) - 1 ≡ length es = omega (arith, length-append es (m ∷ [])) in
+    ap (λ n. mark_of (slice_get (es ++ m ∷ []) n)) e ∙ ap mark_of (at_end es m)
+
+-- the last mark is that of the event that was stored last
+pub mark_stored : (old new : StoredWorld) (e : model.WorldEvent) (reports : List WorldReport) (h : StoresEvent old new e reports) → last_mark new.events ≡ h.halts
+unfolding last_mark
+mark_stored old new e reports h = ap (λ (s : StoredWorld). mark_of (slice_get s.events (length s.events - 1))) h.stored ∙ last_of old.events (record { event = e; halts = h.halts })
+
 -- an event more that is accepted
 pub one_taken : (s t u : StoredWorld) (es : List model.WorldEvent) (n w wants : ℕ) (e : model.WorldEvent) (r : List WorldReport) → RunsTo s es n w t → (stores : StoresEvent t u e r) → wants ≡ wants_of (last_mark u.events) →
     RunsTo s (es ++ e ∷ []) (n + 1) (w + wants) u
 one_taken s t u es n w wants e r run stores is = subst (λ k. RunsTo s (es ++ e ∷ []) (n + 1) (w + k) u) (sym (is ∙ ap wants_of (mark_stored t u e r stores))) (one_accepted s t u es n w e r run stores)
-  where
-    at_end : (es : List MarkedEvent) (m : MarkedEvent) → slice_get (es ++ m ∷ []) (length es) ≡ Some m
-    at_end [] m = refl
-    at_end (x ∷ es) m = at_end es m
-
-    last_of : (es : List MarkedEvent) (m : MarkedEvent) → mark_of (slice_get (es ++ m ∷ []) (length (es ++ m ∷ []) - 1)) ≡ m.halts
-    last_of es m =
-        let e : length (es ++ m ∷ []) - 1 ≡ length es = omega (arith, length-append es (m ∷ [])) in
-        ap (λ n. mark_of (slice_get (es ++ m ∷ []) n)) e ∙ ap mark_of (at_end es m)
-
-    mark_stored : (old new : StoredWorld) (e : model.WorldEvent) (reports : List WorldReport) (h : StoresEvent old new e reports) → last_mark new.events ≡ h.halts
-    unfolding last_mark
-    mark_stored old new e reports h = ap (λ (s : StoredWorld). mark_of (slice_get s.events (length s.events - 1))) h.stored ∙ last_of old.events (record { event = e; halts = h.halts })
 
 -- an event more that is passed over
 pub one_passed : (s t : StoredWorld) (es : List model.WorldEvent) (n w : ℕ) (e : model.WorldEvent) (why : WorldError) → RunsTo s es n w t → Refuses (event_refusal t e) why → RunsTo s (es ++ e ∷ []) (n + 0) (w + error_wants why) t
