@@ -1,7 +1,7 @@
 #!/usr/bin/env python3
 """Runs nodes as processes on loopback, kills some of them with SIGKILL, and prints times.
 
-  bench/processes.py [--nodes 30] [--kill 1] [--tick-ms 100] [--settle 10] [--program FILE]
+  bench/processes.py [--nodes 30] [--kill 1] [--tick-ms 100] [--probers 1] [--settle 10] [--program FILE]
 
 It prints how long the nodes took to come to one view, how long the survivors took from the kill to
 one view without those that were killed, how many views they entered on the way, and what a node
@@ -23,8 +23,9 @@ TICKS = os.sysconf("SC_CLK_TCK")
 class Node:
     """A running node, and what it printed."""
 
-    def __init__(self, program, port, seed, tick_ms):
-        words = [program, "node", "--listen", f"127.0.0.1:{port}", "--tick-ms", str(tick_ms)]
+    def __init__(self, program, port, seed, asked):
+        words = [program, "node", "--listen", f"127.0.0.1:{port}"]
+        words += ["--tick-ms", str(asked.tick_ms), "--probers", str(asked.probers)]
         words += [] if port == seed else ["--join", f"127.0.0.1:{seed}"]
         how = {"stdin": subprocess.PIPE, "stdout": subprocess.PIPE, "stderr": subprocess.PIPE}
         self.port, self.ran, self.text = port, subprocess.Popen(words, **how), b""
@@ -121,6 +122,7 @@ def main():
     parser.add_argument("--nodes", type=int, default=30)
     parser.add_argument("--kill", type=int, default=1)
     parser.add_argument("--tick-ms", type=int, default=100)
+    parser.add_argument("--probers", type=int, default=1)
     parser.add_argument("--settle", type=float, default=10)
     parser.add_argument("--first-port", type=int, default=17000)
     parser.add_argument("--program", default=str(TOP / "crates/rapidd/out/rapidd"))
@@ -132,7 +134,7 @@ def main():
     nodes = []
     try:
         for number in range(given.nodes):
-            nodes.append(Node(given.program, first + number, first, given.tick_ms))
+            nodes.append(Node(given.program, first + number, first, given))
         return 0 if measure(nodes, given.kill, given.settle) else 1
     finally:
         for node in nodes:

@@ -79,6 +79,7 @@ memory ran out.";
 pub(crate) const NODE_LINES: &str = "Lines of standard input:
   tick [COUNT]   the clock ticks so often, 1 to 1000 times
   view           prints the present view, or no view
+  edges          prints edge RING ENDPOINT up or down for each edge that the node observes, or edges none
   quit           ends the node, as the end of the input does
 A line that begins with # is passed over, and another prints refused BadLine. Each view that the node
 enters prints

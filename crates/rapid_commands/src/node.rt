@@ -58,13 +58,21 @@ pub(crate) fn node<'a>(alloc: Global) -> Result<Command<'a>, AllocError> {
         60_000,
         "How many milliseconds lie between two ticks, 0 to 60000; at 0 only lines tick",
     );
+    let probers = number(
+        alloc,
+        "probers",
+        "1",
+        1,
+        16,
+        "In how many threads those that it observes are probed, 1 to 16",
+    );
     let command = Command::new(alloc, NODE)
         .about("Runs a node over loopback TCP, and prints the views that it enters")
         .after_help(NODE_LINES)
         .arg(listen.required(true))?
         .arg(id)?
         .arg(join)?;
-    with_params(alloc, command)?.arg(tick_ms)
+    with_params(alloc, command)?.arg(tick_ms)?.arg(probers)
 }
 
 /// Whether the words of the program name the command `node`.
@@ -87,6 +95,7 @@ fn words_of<'a>(words: &ArgMatches<'a>) -> Option<NodeWords<'a>> {
         h: words.get_one::<u8>("h")?,
         l: words.get_one::<u8>("l")?,
         tick_ms: words.get_one::<u16>("tick-ms")?,
+        probers: words.get_one::<u8>("probers")?,
     })
 }
 

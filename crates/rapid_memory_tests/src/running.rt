@@ -89,6 +89,7 @@ where
         join: None,
         params,
         tick_ms: 0,
+        probers: 1,
     };
     run_node(rt, alloc, asked, rt, reader, writer, err)
 }

@@ -76,7 +76,7 @@ where
         err,
     } = streams;
     print_first(service.take_lines().as_slice(), writer)?;
-    let shared = Shared::new(start.alloc, service);
+    let shared = Shared::new(start.alloc, service, start.probers)?;
     let streams = Streams {
         reader: &mut *reader,
         writer: &mut *writer,
@@ -108,6 +108,7 @@ where
         alloc,
         ends,
         period: Duration::from_millis(u64::from(options.tick_ms)),
+        probers: options.probers.min(16),
     };
     match open(rt, alloc, &options, me, &peers) {
         Ok(service) => serve(rt, start, &peers, service, streams, told),

@@ -4,7 +4,7 @@ ghost use Rattle.std.specs.Thread.{IsSend, IsSync};
 
 use crate::arrivals::Arrivals;
 use crate::until::Until;
-use rapid_service::{NodeFault, Note, Post, Shared, run_lines, run_ticker};
+use rapid_service::{NodeFault, Note, Post, Shared, run_lines, run_prober, run_ticker};
 use rapid_transport::{Peers, SenderEnd};
 use std::alloc::Global;
 use std::io::{Read, Write};
@@ -25,6 +25,8 @@ pub(crate) struct Start {
     pub ends: Vec<SenderEnd>,
     /// How much time lies between two ticks; no ticker runs where it is zero.
     pub period: Duration,
+    /// In how many threads those that are observed are probed.
+    pub probers: u8,
 }
 
 /// What a node reads and writes.
@@ -151,6 +153,7 @@ where
         alloc,
         ends,
         period,
+        probers,
     } = start;
     thread::scope(
         thread::scope_env(),
@@ -166,6 +169,10 @@ where
             }
             if !period.is_zero() && scope.spawn(move || run_ticker(rt, shared, period)).is_err() {
                 return give_up(rt, shared);
+            }
+            // who ticks the node makes the parts for which no thread is to be had
+            for _ in 1..probers {
+                let _ = scope.spawn(move || run_prober(rt, shared));
             }
             if scope
                 .spawn(move || answer(rt, alloc, shared, reader))

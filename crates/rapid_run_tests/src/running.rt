@@ -4,6 +4,7 @@ mod clusters;
 mod devices;
 mod ends;
 mod notes;
+mod probing;
 mod repeats;
 mod rows;
 mod scarce;

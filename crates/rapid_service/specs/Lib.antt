@@ -2,7 +2,7 @@ pub mod NodeLine
 pub mod ViewText
 pub mod Options
 pub mod Statuses
-pub mod Watching
+pub mod EdgeText
 pub mod Repeating
 pub mod Remembering
 pub mod Asking

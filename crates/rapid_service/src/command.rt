@@ -18,6 +18,8 @@ pub enum Command {
     Ticks(u64),
     /// The present view.
     View,
+    /// The observed edges.
+    Edges,
     /// That the node ends.
     Quit,
 }
@@ -78,6 +80,8 @@ fn command_by(name: &[u8], rest: &[u8]) -> Option<Command>
         ticks(rest)
     } else if name == b"view".as_slice() {
         alone(Command::View, rest)
+    } else if name == b"edges".as_slice() {
+        alone(Command::Edges, rest)
     } else if name == b"quit".as_slice() {
         alone(Command::Quit, rest)
     } else {

@@ -26,6 +26,8 @@ pub struct NodeWords<'a> {
     pub l: u8,
     /// How many milliseconds lie between two ticks; no ticker runs at 0.
     pub tick_ms: u16,
+    /// In how many threads those that are observed are probed, 1 to 16.
+    pub probers: u8,
 }
 
 /// What the words of `node` ask for.
@@ -41,6 +43,8 @@ pub struct NodeOptions {
     pub params: Params,
     /// How many milliseconds lie between two ticks; no ticker runs at 0.
     pub tick_ms: u16,
+    /// In how many threads those that are observed are probed, 1 to 16.
+    pub probers: u8,
 }
 
 /// Why the words of `node` are refused.
@@ -104,6 +108,7 @@ pub fn judge(words: NodeWords) -> Result<NodeOptions, OptionsError>
     ensures texts { IfOk result (λ o. AreRead words.entry.listen.now (option_map (λ t. t.now) words.entry.join) (option_map (λ t. t.now) words.entry.id) o.listen o.join o.id) }
     ensures params { IfOk result (λ o. o.params ≡ record { k = words.entry.k; h = words.entry.h; l = words.entry.l }) }
     ensures tick { IfOk result (λ o. o.tick_ms ≡ words.entry.tick_ms) }
+    ensures probers { IfOk result (λ o. o.probers ≡ words.entry.probers) }
     ensures refused { IfErr result (IsRefusal (record { k = words.entry.k; h = words.entry.h; l = words.entry.l }) words.entry.listen.now (option_map (λ t. t.now) words.entry.join) (option_map (λ t. t.now) words.entry.id)) }
 {
     let NodeWords {
@@ -114,6 +119,7 @@ pub fn judge(words: NodeWords) -> Result<NodeOptions, OptionsError>
         h,
         l,
         tick_ms,
+        probers,
     } = words;
     let Ok(params) = Params::new(k, h, l) else {
         return Err(OptionsError::BadParams);
@@ -127,6 +133,7 @@ pub fn judge(words: NodeWords) -> Result<NodeOptions, OptionsError>
             join,
             params,
             tick_ms,
+            probers,
         }),
         Err(fault) => Err(fault),
     }

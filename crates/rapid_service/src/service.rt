@@ -3,9 +3,11 @@
 ghost use Rattle.std.specs.Prelude.{◌≡◌, ◌<◌};
 
 use crate::asking::Asking;
+use crate::edge_text::EdgeState;
 use crate::fault::NodeFault;
 use crate::journal::shorten;
 use crate::note::{Note, Notes};
+use crate::part::{MOST_RINGS, Part, PartRound};
 use crate::post::Post;
 use crate::repeats::Repeats;
 use crate::rounds::Rounds;
@@ -17,7 +19,6 @@ use rapid_desk::{Desk, Subscription, Taken};
 use rapid_endpoint::{Endpoint, Process};
 use rapid_join::Reply;
 use rapid_message::{Body, Destination, Message, Output, Outputs};
-use rapid_monitor::Probing;
 use rapid_node::{Event, Phase};
 use rapid_view::{View, ViewSeat};
 use rapid_wire::encode;
@@ -86,32 +87,19 @@ fn broadcast<R: Wait, P: Post>(
     Ok(())
 }
 
-/// Hands the frame of a probe on to the subject of each edge.
+/// Hands the frame of a probe on to each of these.
 fn probe_all<R: Wait, P: Post>(
     rt: &R,
     post: &mut P,
-    edges: &[Probing],
+    subjects: &[Option<Process>; MOST_RINGS],
     frame: &Bytes,
 ) -> Result<(), AllocError> {
-    for edge in edges {
-        post.post(rt, edge.subject.endpoint(), frame.clone()?);
-    }
-    Ok(())
-}
-
-/// The edges that went down by what became of their last probes: rings and subjects.
-fn gone_down(
-    alloc: Global,
-    watch: &mut Watch,
-    edges: &[Probing],
-) -> Result<Vec<(u8, Process)>, AllocError> {
-    let mut down = Vec::new(alloc);
-    for edge in edges {
-        if watch.judge(edge) {
-            down.push((edge.ring, edge.subject))?;
+    for subject in subjects {
+        if let Some(subject) = subject {
+            post.post(rt, subject.endpoint(), frame.clone()?);
         }
     }
-    Ok(down)
+    Ok(())
 }
 
 impl<R: Wait + Copy + Drop, P: Post + Drop> Service<R, P> {
@@ -178,25 +166,45 @@ impl<R: Wait + Copy + Drop, P: Post + Drop> Service<R, P> {
         Ok(service)
     }
 
-    /// A tick of the node. After every tenth the observed members are probed, and edges of which
-    /// too many probes were not acknowledged are handed to the node.
-    pub fn tick(&mut self) -> Result<(), NodeFault> {
+    /// A tick of the node; whether a round of probes is due after it, as after every tenth.
+    pub fn tick(&mut self) -> Result<bool, NodeFault> {
         self.step(Event::Tick)?;
         self.count_tick();
         self.note_question();
-        if self.rounds.tick() {
-            self.probe()?;
+        Ok(self.rounds.tick())
+    }
+
+    /// The parts of the probes in the present view, as many as are asked for: once for each view,
+    /// after it was entered.
+    pub fn take_parts(&mut self, parts: u8) -> Result<Option<Vec<Part>>, NodeFault> {
+        match &mut self.present {
+            Some(present) => present.watch.take_parts(parts),
+            None => Ok(None),
         }
+    }
+
+    /// A round of a part was made: its edges that went down are handed to the node, and its probes
+    /// go out.
+    pub fn hand_on(&mut self, round: &PartRound) -> Result<(), NodeFault> {
+        self.hand_down(round.id, &round.downs)?;
+        let frame = frame_of(self.alloc, &probe_of(self.me, round.id))?;
+        probe_all(&self.rt, &mut self.post, &round.probes, &frame)?;
         Ok(())
+    }
+
+    /// The observed edges by ring, and whether each is down; none before the first view.
+    pub fn edges(&mut self) -> Result<Vec<EdgeState>, AllocError> {
+        match &mut self.present {
+            Some(present) => present.watch.states(),
+            None => Ok(Vec::new(self.alloc)),
+        }
     }
 
     /// A message has come. It is dropped if it repeats one that came before in the present view and
     /// changes nothing: a step would only take room in the journal of the desk.
     pub fn receive(&mut self, message: Message) -> Result<(), NodeFault> {
-        match message.body() {
-            Body::ProbeAck(_) => self.ack(&message.sender()),
-            Body::Reply(joiner, reply) => self.hear(joiner, reply),
-            _ => {}
+        if let Body::Reply(joiner, reply) = message.body() {
+            self.hear(joiner, reply);
         }
         if !self.admits(&message) {
             return Ok(());
@@ -256,13 +264,6 @@ impl<R: Wait + Copy + Drop, P: Post + Drop> Service<R, P> {
     /// What takes the frames that it sends.
     pub fn post(&self) -> &P {
         &self.post
-    }
-
-    /// A process has acknowledged a probe.
-    fn ack(&mut self, process: &Process) {
-        if let Some(present) = &mut self.present {
-            present.watch.ack(process);
-        }
     }
 
     /// One event at the desk: what is sent goes out, and a new view is entered.
@@ -348,29 +349,21 @@ impl<R: Wait + Copy + Drop, P: Post + Drop> Service<R, P> {
     /// before: keys are computed of newcomers only.
     fn watch(&self, configuration: &Configuration) -> Result<Watch, AllocError> {
         match &self.present {
-            Some(present) => present.watch.next(self.alloc, configuration, &self.me),
+            Some(present) => present.watch.next(configuration),
             None => Watch::new(self.alloc, configuration, &self.me),
         }
     }
 
-    /// A round of probes.
-    fn probe(&mut self) -> Result<(), NodeFault> {
-        let Some(present) = &mut self.present else {
-            return Ok(());
-        };
-        let id = present.view.configuration().id();
-        let edges = present.watch.round(self.alloc)?;
-        let down = gone_down(self.alloc, &mut present.watch, edges.as_slice())?;
-        self.hand_down(id, down.as_slice())?;
-        let frame = frame_of(self.alloc, &probe_of(self.me, id))?;
-        probe_all(&self.rt, &mut self.post, edges.as_slice(), &frame)?;
-        Ok(())
-    }
-
-    /// Tells the node which edges went down in a configuration.
-    fn hand_down(&mut self, id: ConfigId, down: &[(u8, Process)]) -> Result<(), NodeFault> {
-        for edge in down {
-            self.step(Event::EdgeDown(id, edge.0, edge.1))?;
+    /// Tells the node which edges went down in a configuration, by ring.
+    fn hand_down(
+        &mut self,
+        id: ConfigId,
+        downs: &[Option<Process>; MOST_RINGS],
+    ) -> Result<(), NodeFault> {
+        for ring in 0..MOST_RINGS {
+            if let Some(subject) = downs[ring] {
+                self.step(Event::EdgeDown(id, ring as u8, subject))?;
+            }
         }
         Ok(())
     }

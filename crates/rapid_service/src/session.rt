@@ -66,6 +66,14 @@ impl<W: Wait, R: Wait + Copy + Drop, P: Post + Drop> Session<'_, W, R, P> {
         Ok(())
     }
 
+    /// Prints the observed edges.
+    fn edges(&mut self) -> Result<(), NodeFault> {
+        let mut lines = Vec::new(self.alloc);
+        self.shared.write_edges(self.rt, &mut lines)?;
+        self.shared.console().add(self.rt, lines.as_slice())?;
+        Ok(())
+    }
+
     /// Does what a line asks for.
     fn obey(&mut self, asked: Asked) -> Result<(), NodeFault> {
         match asked {
@@ -76,6 +84,7 @@ impl<W: Wait, R: Wait + Copy + Drop, P: Post + Drop> Session<'_, W, R, P> {
             }
             Asked::Taken(Command::Ticks(count)) => tick(self.rt, self.shared, count),
             Asked::Taken(Command::View) => self.view(),
+            Asked::Taken(Command::Edges) => self.edges(),
             Asked::Taken(Command::Quit) => {
                 self.shared.ending().end(self.rt, None);
                 Ok(())

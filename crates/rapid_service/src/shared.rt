@@ -1,33 +1,60 @@
 // What the threads of a node share.
 
 use crate::console::Console;
+use crate::dealer::Dealer;
+use crate::edge_text::write_edges;
 use crate::ending::Ending;
 use crate::fault::NodeFault;
 use crate::note::Note;
+use crate::part::{Part, PartRound};
 use crate::post::Post;
 use crate::service::Service;
-use rapid_message::Message;
+use rapid_endpoint::Process;
+use rapid_message::{Body, Message};
 use rapid_view::ViewSeat;
-use std::alloc::Global;
+use std::alloc::{AllocError, Global};
 use std::sync::{Mutex, Wait};
 
-/// What the threads of a node share: its service under a lock, what is printed, and whether it goes
-/// on.
+/// In how many parts those that are observed are probed at most: a member observes on at most as many
+/// rings.
+const MOST_PROBERS: u8 = 16;
+
+/// What the threads of a node share: its service under a lock, each part of its probes under one of
+/// its own, what is printed, and whether it goes on. The lock of a part is taken alone or under that
+/// of the service, and none is taken under it.
 #[derive(Drop)]
 pub struct Shared<R: Wait + Copy + Drop, P: Post + Drop> {
+    alloc: Global,
     service: Mutex<Service<R, P>>,
+    parts: Vec<Mutex<Option<Part>>>,
+    probers: u8,
+    dealer: Dealer,
     console: Console,
     ending: Ending,
 }
 
 impl<R: Wait + Copy + Drop, P: Post + Drop> Shared<R, P> {
-    /// The node of a service, which goes on.
-    pub fn new(alloc: Global, service: Service<R, P>) -> Shared<R, P> {
-        Shared {
+    /// The node of a service, which goes on. Those that it observes are probed in as many parts, 1 to
+    /// 16: by the thread that ticks it, and by those that run `run_prober`.
+    pub fn new(
+        alloc: Global,
+        service: Service<R, P>,
+        probers: u8,
+    ) -> Result<Shared<R, P>, AllocError> {
+        let probers = probers.clamp(1, MOST_PROBERS);
+        let mut parts = Vec::with_capacity(alloc, usize::from(probers))?;
+        for _ in 0..probers {
+            parts.push(Mutex::new(None))?;
+        }
+        Ok(Shared {
+            alloc,
             service: Mutex::new(service),
+            parts,
+            probers,
+            dealer: Dealer::new(usize::from(probers)),
             console: Console::new(alloc),
             ending: Ending::new(),
-        }
+        })
     }
 
     /// What is printed.
@@ -40,11 +67,31 @@ impl<R: Wait + Copy + Drop, P: Post + Drop> Shared<R, P> {
         &self.ending
     }
 
+    /// What deals the parts of rounds of probes.
+    pub fn dealer(&self) -> &Dealer {
+        &self.dealer
+    }
+
     /// Prints the views that the service has entered, while its lock is held: views are printed in
-    /// the order in which they were entered.
+    /// the order in which they were entered. Probes begin anew in the last of them.
     fn show<W: Wait>(&self, rt: &W, service: &mut Service<R, P>) -> Result<(), NodeFault> {
         let lines = service.take_lines();
-        self.console.add(rt, lines.as_slice())
+        self.console.add(rt, lines.as_slice())?;
+        if let Some(parts) = service.take_parts(self.probers)? {
+            self.begin_parts(rt, parts);
+        }
+        Ok(())
+    }
+
+    /// Puts each part of the probes of a new view in its place.
+    fn begin_parts<W: Wait>(&self, rt: &W, parts: Vec<Part>) {
+        let mut slots = self.parts.iter();
+        for part in parts {
+            if let Some(slot) = slots.next() {
+                let mut slot = slot.lock(rt);
+                *slot = Some(part);
+            }
+        }
     }
 
     /// Prints the views that were entered so far.
@@ -54,20 +101,93 @@ impl<R: Wait + Copy + Drop, P: Post + Drop> Shared<R, P> {
         Ok(())
     }
 
-    /// A tick of the node.
+    /// A tick of the node. After every tenth the observed members are probed, and edges of which too
+    /// many probes were not acknowledged are handed to the node. It returns when the round is made.
     pub fn tick<W: Wait>(&self, rt: &W) -> Result<(), NodeFault> {
+        if self.step(rt)? {
+            self.dealer.begin(rt);
+            self.probe_parts(rt);
+            self.dealer.finish(rt);
+        }
+        Ok(())
+    }
+
+    /// A tick of the node, without the round of probes that may be due after it; whether it is.
+    fn step<W: Wait>(&self, rt: &W) -> Result<bool, NodeFault> {
         let mut service = self.service.lock(rt);
         let done = service.tick();
         self.show(rt, &mut service)?;
         done
     }
 
+    /// A round of a part of the probes, if there is a view.
+    fn round_of<W: Wait>(&self, rt: &W, part: usize) -> Result<Option<PartRound>, NodeFault> {
+        let Some(slot) = self.parts.get(part) else {
+            return Ok(None);
+        };
+        let mut slot = slot.lock(rt);
+        match &mut *slot {
+            Some(part) => Ok(Some(part.round(self.alloc)?)),
+            None => Ok(None),
+        }
+    }
+
+    /// A round of a part of the probes. What it asks for is handed on when its lock is free again.
+    fn probe<W: Wait>(&self, rt: &W, part: usize) -> Result<(), NodeFault> {
+        let Some(round) = self.round_of(rt, part)? else {
+            return Ok(());
+        };
+        let mut service = self.service.lock(rt);
+        let done = service.hand_on(&round);
+        self.show(rt, &mut service)?;
+        done
+    }
+
+    /// Makes parts of the present round of probes while there is one that nobody makes.
+    pub fn probe_parts<W: Wait>(&self, rt: &W) {
+        for _ in 0..self.parts.len() {
+            let Some(part) = self.dealer.take(rt) else {
+                return;
+            };
+            self.probe_or_end(rt, part);
+            self.dealer.made(rt);
+        }
+    }
+
+    /// A round of a part of the probes, whose fault ends the node.
+    fn probe_or_end<W: Wait>(&self, rt: &W, part: usize) {
+        let done = self.probe(rt, part);
+        self.goes_on(rt, done);
+    }
+
+    /// A process has acknowledged a probe.
+    fn ack<W: Wait>(&self, rt: &W, process: &Process) {
+        for slot in &self.parts {
+            let mut slot = slot.lock(rt);
+            if let Some(part) = &mut *slot {
+                part.ack(process);
+            }
+        }
+    }
+
     /// A message has come.
     pub fn receive<W: Wait>(&self, rt: &W, message: Message) -> Result<(), NodeFault> {
+        if let Body::ProbeAck(_) = message.body() {
+            self.ack(rt, &message.sender());
+        }
         let mut service = self.service.lock(rt);
         let done = service.receive(message);
         self.show(rt, &mut service)?;
         done
+    }
+
+    /// Writes the lines of the observed edges: those of one view, each up or down as it is now.
+    pub fn write_edges<W: Wait>(&self, rt: &W, output: &mut Vec<u8>) -> Result<(), NodeFault> {
+        let mut service = self.service.lock(rt);
+        let edges = service.edges()?;
+        drop(service);
+        write_edges(edges.as_slice(), output)?;
+        Ok(())
     }
 
     /// A seat at the published view, once there is a view; it is given once.

@@ -15,7 +15,7 @@ pub const BAD_LINE: &[u8] = b"refused BadLine\n";
 pub const NO_VIEW: &[u8] = b"no view\n";
 
 /// Appends a number.
-fn write_number(number: u64, output: &mut Vec<u8>) -> Result<(), AllocError>
+pub(crate) fn write_number(number: u64, output: &mut Vec<u8>) -> Result<(), AllocError>
     ensures { OnOk result (output.new.items ≡ output.old.items ++ decimal number) }
 {
     let alloc = *output.allocator();
@@ -24,7 +24,7 @@ fn write_number(number: u64, output: &mut Vec<u8>) -> Result<(), AllocError>
 }
 
 /// Appends an endpoint.
-fn write_endpoint(endpoint: Endpoint, output: &mut Vec<u8>) -> Result<(), AllocError>
+pub(crate) fn write_endpoint(endpoint: Endpoint, output: &mut Vec<u8>) -> Result<(), AllocError>
     ensures { OnOk result (output.new.items ≡ output.old.items ++ endpoint_text endpoint) }
 {
     let alloc = *output.allocator();

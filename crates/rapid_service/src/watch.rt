@@ -1,118 +1,153 @@
-// What a member does about those whom it observes.
+// Whom a node observes in its present view.
 
-ghost use Rattle.std.specs.Prelude.{◌≡◌, ℕ, Bool, List, [], ◌∷◌, true, false, Some, IfOk, IsTrue};
-ghost use Rattle.rapid_model.specs.Process.{Process as ModelProcess};
+ghost use Rattle.std.specs.Prelude.{◌≡◌, ◌<◌, IfOk};
 ghost use Rattle.rapid_model.specs.Ring.{subjects_of};
-ghost use Rattle.rapid_model.specs.Monitors.{fresh_monitors};
-ghost use Rattle.rapid_monitor.specs.Probes.{book_when, round_when};
-ghost use Rattle.rapid_service.specs.Watching.{judged, down_by};
 
+use crate::edge_text::EdgeState;
+use crate::fault::NodeFault;
+use crate::part::Part;
 use rapid_config::Configuration;
 use rapid_endpoint::Process;
-use rapid_monitor::{Monitors, ProbeBook, Probing, Verdict};
-use rapid_rings::Rings;
+use rapid_monitor::{BoardError, EdgeBoard, EdgeSeat, ProbeBook};
+use rapid_rings::{ObserverTable, Rings};
 use std::alloc::{AllocError, Global};
 
-/// How many rings there are at most.
-const MOST_RINGS: usize = 16;
-
-/// What a member does about those whom it observes in one view: it probes them, and judges each
-/// edge by what was acknowledged.
+/// Whom a node observes in one view, and a watcher of the edges. The seats of the edges are here
+/// until they are given to parts.
 #[derive(Drop)]
 pub struct Watch {
+    alloc: Global,
     rings: Rings,
-    monitors: Monitors,
-    book: ProbeBook,
-    /// Which edges went down, by ring.
-    down: [bool; MOST_RINGS],
+    me: Process,
+    /// The edges by ring: the ring and who is observed on it. The number of an edge is its place.
+    edges: Vec<(u8, Process)>,
+    /// None where nobody is observed.
+    board: Option<EdgeBoard>,
+    /// By edge: the seats that were not given to a part.
+    seats: Vec<Option<EdgeSeat>>,
+    /// Whether the parts were taken.
+    parted: bool,
+}
+
+/// The seats, each to be taken by itself.
+fn loose(alloc: Global, seats: Vec<EdgeSeat>) -> Result<Vec<Option<EdgeSeat>>, AllocError> {
+    let mut loose = Vec::with_capacity(alloc, seats.len())?;
+    for seat in seats {
+        loose.push(Some(seat))?;
+    }
+    Ok(loose)
+}
+
+/// A watcher of as many edges, and a seat for each; nobody watches where there is none.
+fn board_of(alloc: Global, edges: usize) -> Result<(Option<EdgeBoard>, Vec<EdgeSeat>), AllocError> {
+    match EdgeBoard::new(alloc, edges, 1) {
+        Ok((mut boards, seats)) => Ok((boards.pop(), seats)),
+        // There are at most 16 edges, so only a board without edges is refused.
+        Err(BoardError::BadSize) => Ok((None, Vec::new(alloc))),
+        Err(BoardError::OutOfMemory) => Err(AllocError),
+    }
 }
 
 impl Watch {
-    /// Of a process in a configuration: nobody has been probed. It computes the rings of the
-    /// configuration.
+    /// Of a process in a configuration. It computes the rings of the configuration.
     pub fn new(
         alloc: Global,
         configuration: &Configuration,
         me: &Process,
     ) -> Result<Watch, AllocError>
-        ensures monitors { IfOk result (λ w. w.monitors ≡ fresh_monitors configuration.now me.now) }
-        ensures book { IfOk result (λ w. w.book ≡ book_when (subjects_of configuration.now me.now) false []) }
+        ensures { IfOk result (λ w. w.edges.items ≡ subjects_of configuration.now me.now) }
     {
         let rings = Rings::new(alloc, configuration)?;
         Watch::over(alloc, rings, me)
     }
 
-    /// Of the process in a configuration that follows: nobody has been probed. The rings are made
-    /// of the present ones, and keys are computed of newcomers only.
-    pub fn next(
-        &self,
-        alloc: Global,
-        configuration: &Configuration,
-        me: &Process,
-    ) -> Result<Watch, AllocError>
-        ensures monitors { IfOk result (λ w. w.monitors ≡ fresh_monitors configuration.now me.now) }
-        ensures book { IfOk result (λ w. w.book ≡ book_when (subjects_of configuration.now me.now) false []) }
+    /// Of the process in a configuration that follows. The rings are made of the present ones, and
+    /// keys are computed of newcomers only.
+    pub fn next(&self, configuration: &Configuration) -> Result<Watch, AllocError>
+        ensures { IfOk result (λ w. w.edges.items ≡ subjects_of configuration.now self.now.me) }
     {
-        let rings = self.rings.next(alloc, configuration)?;
-        Watch::over(alloc, rings, me)
+        let rings = self.rings.next(self.alloc, configuration)?;
+        Watch::over(self.alloc, rings, &self.me)
     }
 
     /// Of a process in the configuration of these rings.
     fn over(alloc: Global, rings: Rings, me: &Process) -> Result<Watch, AllocError>
-        ensures monitors { IfOk result (λ w. w.monitors ≡ fresh_monitors rings me.now) }
-        ensures book { IfOk result (λ w. w.book ≡ book_when (subjects_of rings me.now) false []) }
+        ensures { IfOk result (λ w. w.edges.items ≡ subjects_of rings me.now) }
     {
-        let monitors = Monitors::new(alloc, &rings, me)?;
-        let book = ProbeBook::new(alloc, &rings, me)?;
+        let edges = rings.subjects_of(alloc, me)?;
+        let (board, seats) = board_of(alloc, edges.len())?;
         Ok(Watch {
+            alloc,
             rings,
-            monitors,
-            book,
-            down: [false; MOST_RINGS],
+            me: *me,
+            edges,
+            board,
+            seats: loose(alloc, seats)?,
+            parted: false,
         })
     }
 
-    /// A process has acknowledged a probe.
-    pub fn ack(&mut self, process: &Process)
-        ensures book { (subjects : List (ℕ × ModelProcess)) (begun : Bool) (acks : List ModelProcess) → self.old.book ≡ book_when subjects begun acks →
-            self.new.book ≡ book_when subjects begun (process.now ∷ acks) }
-        ensures monitors { self.new.monitors ≡ self.old.monitors }
-    {
-        self.book.ack(process);
+    /// The parts of the probes, as many as are asked for, each with the seats of its rings: once, at
+    /// least one.
+    pub fn take_parts(&mut self, parts: u8) -> Result<Option<Vec<Part>>, NodeFault> {
+        if self.parted || parts == 0 {
+            return Ok(None);
+        }
+        self.parted = true;
+        let mut all = Vec::with_capacity(self.alloc, usize::from(parts))?;
+        for part in 0..parts {
+            all.push(self.part(part, parts)?)?;
+        }
+        Ok(Some(all))
     }
 
-    /// Begins a round: the edges to be probed, by ring, each with what became of its last probe.
-    pub fn round(&mut self, alloc: Global) -> Result<Vec<Probing>, AllocError>
-        ensures answers { (subjects : List (ℕ × ModelProcess)) (begun : Bool) (acks : List ModelProcess) → self.old.book ≡ book_when subjects begun acks →
-            IfOk result (λ edges. edges.items ≡ round_when subjects begun acks) }
-        ensures monitors { self.new.monitors ≡ self.old.monitors }
+    /// A part of the probes: its book, and the seats of its edges in the book's order.
+    fn part(&mut self, part: u8, parts: u8) -> Result<Part, NodeFault>
+        requires { 0 < parts }
     {
-        self.book.round(alloc)
-    }
-
-    /// Takes what became of the last probe of an edge, and says whether the edge went down by it.
-    pub fn judge(&mut self, probing: &Probing) -> bool
-        ensures monitors { self.new.monitors ≡ judged self.old.monitors probing.now.ring probing.now.answered }
-        ensures down { IsTrue result → down_by self.old.monitors probing.now.ring probing.now.answered ≡ Some true }
-    {
-        let Some(answered) = probing.answered else {
-            return false;
-        };
-        match self.monitors.probe(probing.ring, answered) {
-            Some(Verdict::Down) => self.goes_down(probing.ring),
-            Some(Verdict::Up) | None => false,
+        let book = ProbeBook::part(self.alloc, &self.rings, &self.me, part, parts)?;
+        let seats = self.take_seats(part, parts)?;
+        match Part::new(self.rings.id(), book, seats) {
+            Some(part) => Ok(part),
+            // A board has a seat for each edge, and both are dealt by ring: this does not happen.
+            None => Err(NodeFault::Halted),
         }
     }
 
-    /// An edge is down; whether it was not before.
-    fn goes_down(&mut self, ring: u8) -> bool
-        ensures { self.new.monitors ≡ self.old.monitors }
+    /// Takes the seats of the rings that leave this number.
+    fn take_seats(&mut self, part: u8, parts: u8) -> Result<Vec<EdgeSeat>, AllocError>
+        requires { 0 < parts }
     {
-        let place = usize::from(ring);
-        if place >= MOST_RINGS || self.down[place] {
-            return false;
+        let mut own = Vec::new(self.alloc);
+        for i in 0..self.edges.len().min(self.seats.len()) {
+            if self.edges[i].0 % parts == part
+                && let Some(seat) = self.seats[i].take()
+            {
+                own.push(seat)?;
+            }
         }
-        self.down[place] = true;
-        true
+        Ok(own)
+    }
+
+    /// Each edge by ring, and whether it is down now.
+    pub fn states(&mut self) -> Result<Vec<EdgeState>, AllocError> {
+        let mut states = Vec::with_capacity(self.alloc, self.edges.len())?;
+        for i in 0..self.edges.len() {
+            let (ring, subject) = self.edges[i];
+            states.push(EdgeState {
+                ring,
+                endpoint: subject.endpoint(),
+                is_down: is_down(&mut self.board, i),
+            })?;
+        }
+        Ok(states)
+    }
+}
+
+/// Whether a watcher, if there is one, answers that an edge is down.
+fn is_down(board: &mut Option<EdgeBoard>, edge: usize) -> bool {
+    match board {
+        Some(board) if edge < board.edges() => board.is_down(edge),
+        _ => false,
     }
 }

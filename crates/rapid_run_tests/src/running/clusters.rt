@@ -69,6 +69,8 @@ fn options(port: u16, seed: u16, params: Params) -> NodeOptions {
         },
         params,
         tick_ms: TICK,
+        // the founder probes in one thread, the next in two, and so on up to four
+        probers: 1 + (port.wrapping_sub(seed) % 4) as u8,
     }
 }
 

@@ -48,6 +48,7 @@ where
         join: seed.map(|port| Endpoint::new([127, 0, 0, 1], port)),
         params,
         tick_ms: 0,
+        probers: 1,
     };
     run_node(rt, alloc, asked, rt, reader, writer, err)
 }
@@ -71,6 +72,27 @@ fn a_founder_prints_its_view(rt: HostRuntime) -> Result<(), Fail> {
         b"height 0 members 127.0.0.1:7401\nheight 0 members 127.0.0.1:7401\n".as_slice()
     );
     assert!(rt; err.is_empty());
+    Ok(())
+}
+
+#[test]
+fn a_founder_observes_nobody(rt: HostRuntime) -> Result<(), Fail> {
+    let mut input = b"edges\nquit\n".as_slice();
+    let mut printed = Vec::new(rt.alloc());
+    let mut err = Vec::new(rt.alloc());
+    ran(
+        &rt,
+        rt.alloc(),
+        7_415,
+        None,
+        &mut input,
+        &mut printed,
+        &mut err,
+    )?;
+    assert_eq!(rt;
+        printed.as_slice(),
+        b"height 0 members 127.0.0.1:7415\nedges none\n".as_slice()
+    );
     Ok(())
 }
 

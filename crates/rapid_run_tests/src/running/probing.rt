@@ -1,0 +1,101 @@
+// The parts of a node's probes, and what its watcher answers.
+
+use rapid_config::{Configuration, Params};
+use rapid_endpoint::{Endpoint, Process, ProcessId};
+use rapid_service::{EdgeState, Part, PartRound, Watch};
+use std::alloc::{AllocError, Global};
+use std::process::Abort;
+use std::test::*;
+
+/// The process of this number.
+fn process(number: u8) -> Process {
+    let id = [0, 0, 0, 0, 0, 0, 0, 0, 0, 0, 0, 0, 0, 0, 0, number];
+    Process::new(
+        ProcessId::new(id),
+        Endpoint::new([127, 0, 0, 1], 7_650 + u16::from(number)),
+    )
+}
+
+/// Whom process 1 observes among five.
+fn watch_of_five(alloc: Global) -> Result<Watch, Fail> {
+    let members = [process(1), process(2), process(3), process(4), process(5)];
+    let configuration = Configuration::seed(alloc, Params::new(16, 9, 3)?, &members)?;
+    Ok(Watch::new(alloc, &configuration, &process(1))?)
+}
+
+/// How many processes are named.
+fn named(slots: &[Option<Process>; 16]) -> u32 {
+    let mut count = 0u32;
+    for slot in slots {
+        if slot.is_some() {
+            count = count.wrapping_add(1);
+        }
+    }
+    count
+}
+
+/// One more round of each part, before which process 2 alone has acknowledged: how many probes are to
+/// go out, and how many edges went down.
+fn round(alloc: Global, parts: &mut Vec<Part>) -> Result<(u32, u32), AllocError> {
+    let mut probes = 0u32;
+    let mut downs = 0u32;
+    for i in 0..parts.len() {
+        parts[i].ack(&process(2));
+        let PartRound {
+            id: _,
+            probes: probed,
+            downs: fallen,
+        } = parts[i].round(alloc)?;
+        probes = probes.wrapping_add(named(&probed));
+        downs = downs.wrapping_add(named(&fallen));
+    }
+    Ok((probes, downs))
+}
+
+/// How many edges there are, and to whom but process 2.
+fn edges_of(states: &[EdgeState]) -> (u32, u32) {
+    let mut all = 0u32;
+    let mut silent = 0u32;
+    for state in states {
+        all = all.wrapping_add(1);
+        if state.endpoint != process(2).endpoint() {
+            silent = silent.wrapping_add(1);
+        }
+    }
+    (all, silent)
+}
+
+/// Whether the edges to all but process 2 are down, or none is.
+fn are_down(states: &[EdgeState], silent: bool) -> bool {
+    for state in states {
+        if state.is_down != (silent && state.endpoint != process(2).endpoint()) {
+            return false;
+        }
+    }
+    true
+}
+
+/// Sees that, in as many parts, each edge is probed in each round, and that those to who does not
+/// acknowledge go down at the fifth, each once.
+fn probe_in<R: Abort>(rt: &R, alloc: Global, count: u8) -> Result<(), Fail> {
+    let mut watch = watch_of_five(alloc)?;
+    let mut parts = watch.take_parts(count)?.expect(rt, "parts");
+    assert_eq!(rt; parts.len(), usize::from(count));
+    assert!(rt; watch.take_parts(count)?.is_none());
+    let (all, silent) = edges_of(watch.states()?.as_slice());
+    assert!(rt; 0 < silent && silent < all);
+    for number in 0..9 {
+        assert!(rt; are_down(watch.states()?.as_slice(), 4 < number));
+        let downs = if number == 4 { silent } else { 0 };
+        assert_eq!(rt; round(alloc, &mut parts)?, (all, downs));
+    }
+    Ok(())
+}
+
+#[test]
+fn parts_of_probes(rt: HostRuntime) -> Result<(), Fail> {
+    for count in [1u8, 2, 4, 16] {
+        probe_in(&rt, rt.alloc(), count)?;
+    }
+    Ok(())
+}

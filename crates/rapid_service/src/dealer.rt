@@ -1,0 +1,96 @@
+// The threads that make rounds of probes.
+
+ghost use Rattle.std.specs.Prelude.{◌≡◌, ◌+◌, ◌<◌, ◌≤◌, IfSome, IfNone};
+
+use std::sync::{Condvar, Mutex, Wait};
+use std::time::{Clock, Duration};
+
+/// Deals the parts of a round of probes to the threads that make them, each part to one of them.
+#[derive(Drop)]
+pub struct Dealer {
+    parts: usize,
+    state: Mutex<Dealt>,
+    changed: Condvar,
+}
+
+/// How far a round is.
+#[derive(Drop)]
+struct Dealt {
+    /// The next part that is to be made; the number of parts where all were dealt.
+    next: usize,
+    /// How many parts are not made yet.
+    left: usize,
+}
+
+impl Dealt {
+    /// The next of so many parts, if there is one.
+    fn take(&mut self, parts: usize) -> Option<usize>
+        ensures next { IfSome result (λ part. (part ≡ self.old.next) × (part < parts) × (self.new.next ≡ part + 1)) }
+        ensures none { IfNone result ((parts ≤ self.old.next) × (self.new.next ≡ self.old.next)) }
+        ensures left { self.new.left ≡ self.old.left }
+    {
+        if self.next >= parts {
+            return None;
+        }
+        let part = self.next;
+        self.next = part + 1;
+        Some(part)
+    }
+}
+
+impl Dealer {
+    /// Deals so many parts a round. No round was begun.
+    pub fn new(parts: usize) -> Dealer {
+        Dealer {
+            parts,
+            state: Mutex::new(Dealt {
+                next: parts,
+                left: 0,
+            }),
+            changed: Condvar::new(),
+        }
+    }
+
+    /// Begins a round, once the one before is made.
+    pub fn begin<W: Wait>(&self, rt: &W) {
+        let state = self.state.lock(rt);
+        let mut state = self.changed.wait_while(rt, state, |state| state.left > 0);
+        *state = Dealt {
+            next: 0,
+            left: self.parts,
+        };
+        drop(state);
+        self.changed.notify_all();
+    }
+
+    /// The next part of the round, which the caller makes; none where all were dealt.
+    pub fn take<W: Wait>(&self, rt: &W) -> Option<usize> {
+        let mut state = self.state.lock(rt);
+        state.take(self.parts)
+    }
+
+    /// A part that was taken is made.
+    pub fn made<W: Wait>(&self, rt: &W) {
+        let mut state = self.state.lock(rt);
+        state.left = state.left.saturating_sub(1);
+        drop(state);
+        self.changed.notify_all();
+    }
+
+    /// Waits until all parts of the round are made.
+    pub fn finish<W: Wait>(&self, rt: &W) {
+        let state = self.state.lock(rt);
+        let state = self.changed.wait_while(rt, state, |state| state.left > 0);
+        drop(state);
+    }
+
+    /// Waits for so long, or until there is a part to be made.
+    pub fn wait<W: Wait + Clock>(&self, rt: &W, longest: Duration) {
+        let parts = self.parts;
+        let state = self.state.lock(rt);
+        let (state, _) = self
+            .changed
+            .wait_timeout_while(rt, state, longest, |state| state.next >= parts);
+        drop(state);
+    }
+}

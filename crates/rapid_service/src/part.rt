@@ -1,0 +1,89 @@
+// A part of the probes of a node, and what a round of it asks for.
+
+ghost use Rattle.std.specs.Prelude.{◌≡◌, ℕ, Bool, true, List, [], ◌∷◌, length, vec_len, IfSome, OnOk};
+ghost use Rattle.rapid_model.specs.Process.{Process as ModelProcess};
+ghost use Rattle.rapid_monitor.specs.Probes.{book_when, round_when, all_judged};
+
+use rapid_config::ConfigId;
+use rapid_endpoint::Process;
+use rapid_monitor::{EdgeSeat, EdgeSink, ProbeBook, probe_part};
+use std::alloc::{AllocError, Global};
+
+/// How many rings there are at most.
+pub(crate) const MOST_RINGS: usize = 16;
+
+/// What a round of a part asks for: whom to probe, and which edges went down, each by ring.
+#[derive(Clone, Copy)]
+pub struct PartRound {
+    /// The configuration in which it was made.
+    pub id: ConfigId,
+    /// Who is to be probed.
+    pub probes: [Option<Process>; MOST_RINGS],
+    /// To whom an edge went down.
+    pub downs: [Option<Process>; MOST_RINGS],
+}
+
+/// Notes a process at its ring.
+fn put(slots: &mut [Option<Process>; MOST_RINGS], ring: u8, subject: &Process) {
+    let place = usize::from(ring);
+    if place < MOST_RINGS {
+        slots[place] = Some(*subject);
+    }
+}
+
+impl EdgeSink for PartRound {
+    fn probe(&mut self, ring: u8, subject: &Process) {
+        put(&mut self.probes, ring, subject);
+    }
+
+    fn edge_down(&mut self, ring: u8, subject: &Process) {
+        put(&mut self.downs, ring, subject);
+    }
+}
+
+/// A part of the probes of a node in one view: the book of its rings, and a seat for each edge.
+#[derive(Drop)]
+pub struct Part {
+    id: ConfigId,
+    book: ProbeBook,
+    seats: Vec<EdgeSeat>,
+    ghost one_each: { vec_len seats ≡ length book.edges },
+}
+
+impl Part {
+    /// A part in the configuration with this identifier; none if there are not as many seats as the
+    /// book has edges.
+    pub fn new(id: ConfigId, book: ProbeBook, seats: Vec<EdgeSeat>) -> Option<Part>
+        ensures { IfSome result (λ p. (p.id ≡ id) × (p.book ≡ book) × (p.seats.items ≡ seats.items)) }
+    {
+        if seats.len() != book.len() {
+            return None;
+        }
+        Some(Part { id, book, seats })
+    }
+
+    /// A process has acknowledged a probe.
+    pub fn ack(&mut self, process: &Process)
+        ensures book { (subjects : List (ℕ × ModelProcess)) (begun : Bool) (acks : List ModelProcess) → self.old.book ≡ book_when subjects begun acks →
+            self.new.book ≡ book_when subjects begun (process.now ∷ acks) }
+        ensures seats { self.new.seats ≡ self.old.seats }
+    {
+        self.book.ack(process);
+    }
+
+    /// A round of the part: each seat takes whether its subject has acknowledged since the last.
+    pub fn round(&mut self, alloc: Global) -> Result<PartRound, AllocError>
+        ensures seats { (subjects : List (ℕ × ModelProcess)) (begun : Bool) (acks : List ModelProcess) → self.old.book ≡ book_when subjects begun acks →
+            OnOk result (self.new.seats.items ≡ all_judged self.old.seats.items (round_when subjects begun acks)) }
+        ensures book { (subjects : List (ℕ × ModelProcess)) (begun : Bool) (acks : List ModelProcess) → self.old.book ≡ book_when subjects begun acks →
+            OnOk result (self.new.book ≡ book_when subjects true []) }
+    {
+        let mut round = PartRound {
+            id: self.id,
+            probes: [None; MOST_RINGS],
+            downs: [None; MOST_RINGS],
+        };
+        probe_part(alloc, self.seats.as_mut_slice(), &mut self.book, &mut round)?;
+        Ok(round)
+    }
+}
