@@ -27,7 +27,7 @@ fn after(alloc: Global, configuration: &Configuration, number: u16) -> Result<Co
 
 /// Process 2 says that in the configuration with this identifier the cut of this process was
 /// decided.
-fn decision(alloc: Global, id: ConfigId, number: u16) -> Result<Event, Fail> {
+pub(crate) fn decision(alloc: Global, id: ConfigId, number: u16) -> Result<Event, Fail> {
     let message = Message::new(process(2), Body::Decision(id, cut(alloc, number)?))?;
     Ok(Event::Receive(message))
 }
@@ -40,7 +40,11 @@ fn confirmation(configuration: Configuration) -> Result<Event, MessageError> {
 
 /// The desk of process 1 alone, with this many seats. If its first view was not published, memory
 /// had run out.
-fn alone<R: Wait + Abort>(rt: &R, alloc: Global, seats: usize) -> Result<Box<Desk<&R>>, Fail>
+pub(crate) fn alone<R: Wait + Abort>(
+    rt: &R,
+    alloc: Global,
+    seats: usize,
+) -> Result<Box<Desk<&R>>, Fail>
     requires { (0 < seats) × (seats ≤ 64) }
 {
     let configuration = founding(alloc)?;
@@ -53,7 +57,7 @@ fn alone<R: Wait + Abort>(rt: &R, alloc: Global, seats: usize) -> Result<Box<Des
 }
 
 /// One event at the desk. What is to be sent after it is dropped.
-fn step<R: Wait>(desk: &mut Desk<&R>, event: Event) -> Result<(), DeskError> {
+pub(crate) fn step<R: Wait>(desk: &mut Desk<&R>, event: Event) -> Result<(), DeskError> {
     desk.step(event)?;
     Ok(())
 }

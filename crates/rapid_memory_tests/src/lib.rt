@@ -16,15 +16,23 @@ mod cut;
 #[cfg(test)]
 mod desk;
 #[cfg(test)]
+mod joiner;
+#[cfg(test)]
 mod joins;
+#[cfg(test)]
+mod lines;
 #[cfg(test)]
 mod node;
 #[cfg(test)]
 mod numbered;
 #[cfg(test)]
+mod published;
+#[cfg(test)]
 mod rings;
 #[cfg(test)]
 mod running;
+#[cfg(test)]
+mod simulated;
 #[cfg(test)]
 mod tables;
 #[cfg(test)]

@@ -1,4 +1,4 @@
-// The engines of `detect`, `sim` and `cluster`: a run ends with an error that says that memory ran
+// The engines of `detect` and `cluster`: a run ends with an error that says that memory ran
 // out, and has written a beginning of its output.
 
 ghost use Rattle.std.specs.Prelude.{◌≤◌};
@@ -6,7 +6,6 @@ ghost use Rattle.std.specs.Prelude.{◌≤◌};
 use rapid_cluster::run_cluster;
 use rapid_config::Params;
 use rapid_detect::run_detect;
-use rapid_sim::run_sim;
 use rapid_text::RunFault;
 use std::alloc::Global;
 use std::io;
@@ -17,9 +16,9 @@ use std::thread::Threads;
 
 /// A writer that allocates nothing. It has room for this many bytes, and takes none beyond.
 #[derive(Drop)]
-struct Fixed<'a> {
-    bytes: &'a mut [u8],
-    length: usize,
+pub(crate) struct Fixed<'a> {
+    pub(crate) bytes: &'a mut [u8],
+    pub(crate) length: usize,
 }
 
 impl Write for Fixed<'_> {
@@ -62,35 +61,6 @@ fn ends_by_name_if_out_of_memory(rt: HostRuntime) {
     match ran {
         Ok(()) => assert_eq!(rt; length, whole.len()),
         Err(fault) => assert_eq!(rt; fault, RunFault::OutOfMemory),
-    }
-}
-
-/// Three founders of whom one crashes: two votes are no fast quorum, and recovery decides.
-const RECOVERED: &[u8] =
-    b"params 3 3 1\nfound 1 2 3\ncrash 3\nlose 3\ntick 1\ntick 2\nflow\ntick 1 20\nflow\n";
-
-const RECOVERED_VIEWS: &[u8] = b"node 1 height 0 members 1 2 3\nnode 2 height 0 members 1 2 3\n\
-      node 3 height 0 members 1 2 3\nnode 2 height 1 members 1 2\nnode 1 height 1 members 1 2\n";
-
-/// Wherever memory runs out, the run ends by name, or counts it: then an event was refused for it,
-/// or a node halted. If memory never runs out the output is whole.
-#[test]
-fn ends_by_name_or_counts_out_of_memory(rt: HostRuntime) {
-    let mut output = [0u8; 512];
-    let mut writer = Fixed {
-        bytes: &mut output,
-        length: 0,
-    };
-    let mut input = RECOVERED;
-    let ran = run_sim(rt.alloc(), &mut input, &mut writer);
-    let length = writer.length;
-    assert!(rt; length <= output.len());
-    match ran {
-        Ok(0) => assert_eq!(rt; &output[..length], RECOVERED_VIEWS),
-        Ok(_) => assert_ne!(rt; &output[..length], RECOVERED_VIEWS),
-        Err(fault) => {
-            assert_eq!(rt; fault, RunFault::OutOfMemory);
-        }
     }
 }
 

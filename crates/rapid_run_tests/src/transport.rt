@@ -1,6 +1,7 @@
 // Tests of frames on their way.
 
 mod devices;
+mod kinds;
 mod patience;
 mod peers;
 mod places;
