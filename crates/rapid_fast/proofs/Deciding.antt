@@ -1,5 +1,6 @@
 -- One more vote at a fast round, by whether its position has voted.
-use Rattle.std.proofs.Common.{◌≡◌, ℕ, ◌+◌, ◌≤◌, Bool, true, false, cond, ◌==◌, refl, sym, ap, subst, ◌∙◌, Option, Some, None}
+use Rattle.std.proofs.Common.{◌≡◌, ℕ, ◌+◌, ◌<◌, ◌≤◌, arith, Bool, true, false, cond, ◌==◌, refl, sym, ap, subst, ◌∙◌, Option, Some, None}
+use Rattle.std.proofs.lemmas.Bool.Decides.{nat_tests}
 use Rattle.std.specs.Ordering.{nat_cmp}
 use Rattle.std.specs.FinSet as set
 use Rattle.rapid_model.specs.Cut.{Cut}
@@ -19,6 +20,17 @@ decision-new f p v h b e = rw h (ap (λ t. cond t (Some v) None) (sym e))
 
 pub after_vote-known : (r : OwnRound) (p : ℕ) (v : Cut) → set.contains r.round.heard p ≡ true → r ≡ after_vote r p v
 after_vote-known r p v h = λ i. record { position = r.position; round = sym (hear_vote-heard r.round p v h) i }
+
+-- where fewer have voted than one less than a fast quorum, no next vote decides
+pub decides_not : (r : OwnRound) → IsRound r → set.len r.round.heard + 1 < fast_size r.round.size → (p : ℕ) (v : Cut) → fast_decision r.round p v ≡ None
+decides_not r is few p v = by (set.contains r.round.heard p) refl
+  where
+    not_full : (count_of r.round.counts v + 1 == fast_size r.round.size) ≡ false
+    not_full = let most = is.counted v in grind (arith, nat_tests)
+
+    by : (b : Bool) → set.contains r.round.heard p ≡ b → fast_decision r.round p v ≡ None
+    by true h = sym (decision-known r.round p v h)
+    by false h = sym (decision-new r.round p v h false not_full)
 
 -- the fields of a round r, at a vote of a position that is not among those heard
 module _ (r : OwnRound) (n own : ℕ) (s : set.FinSet nat_cmp) (m : Counts) (view : record { position = own; round = record { size = n; heard = s; counts = m } } ≡ r) (p : ℕ) (v : Cut) (new : set.contains s p ≡ false) where

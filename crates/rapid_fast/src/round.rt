@@ -1,5 +1,6 @@
 // The fast round of one member.
-ghost use Rattle.std.specs.Prelude.{◌≡◌, ◌≤◌, ◌<◌, IfOk, OnOk, OnErr, IfErr};
+ghost use Rattle.std.specs.Prelude.{◌≡◌, ◌≤◌, ◌<◌, ℕ, true, None, IfOk, OnOk, OnErr, IfErr};
+ghost use Rattle.rapid_model.specs.Cut.{Cut as ModelCut};
 ghost use Rattle.rapid_model.specs.FastRound.{fast_decision};
 ghost use Rattle.rapid_fast.specs.OwnRound.{fresh_own, after_vote};
 ghost use Rattle.rapid_fast.specs.Refusals.{IsHearRefusal, hear_code};
@@ -111,6 +112,14 @@ impl FastRound {
         }
         self.count_vote(position, cut)
             .map_err(|_| HearError::OutOfMemory)
+    }
+
+    /// Whether no next vote can decide: at least two more are needed for each cut.
+    #[tactic(auto, using(crate::proofs::Deciding::decides_not))]
+    pub fn needs_two_votes(&self) -> bool
+        ensures { result ≡ true → (p : ℕ) → (v : ModelCut) → fast_decision self.now.round p v ≡ None }
+    {
+        self.heard.len() + 1 < fast_size(self.size)
     }
 
     /// Takes the vote of a member.

@@ -3,4 +3,5 @@ pub mod Echoing
 pub mod Flushing
 pub mod Hosts
 pub mod Places
+pub mod Quiet
 pub mod Waiting

@@ -11,6 +11,7 @@ ghost use Rattle.rapid_join.specs.Answers.{AnswersObservers};
 
 mod changing;
 mod parts;
+mod quiet;
 mod receiving;
 mod ticking;
 mod voting;

@@ -2,7 +2,7 @@
 use Rattle.std.specs.Prelude.{List}
 use Rattle.rapid_model.specs.World.{World, MarkedEvent}
 use Rattle.rapid_model.specs.Run.{run}
-use Rattle.rapid_model.specs.RunFacts.{AlertsJustified, AcceptsLawful, AsksOnce, AcceptsOnce, VotesOnce, MembersSpeak, SpokenAsMembers, InstallsRise, ConfirmsInstalled, DecisionsInstalled, DecisionsChosen, OneChosen, AcceptsExclude}
+use Rattle.rapid_model.specs.RunFacts.{AlertsJustified, AcceptsLawful, AsksOnce, AcceptsOnce, VotesOnce, MembersSpeak, SpokenAsMembers, InstallsRise, ConfirmsInstalled, DecisionsChosen, OneChosen, AcceptsExclude}
 use Rattle.rapid_model.specs.Prompt.{Prompt}
 use Rattle.rapid_model.specs.Agreement.{NoCollision, IsAgreed}
 
@@ -24,5 +24,4 @@ pub record RunHolds (w : World) : Type 0 where
   pub prompt : Prompt w
   pub installs_rise : InstallsRise w
   pub confirms_installed : ConfirmsInstalled w
-  pub decisions_installed : DecisionsInstalled w
   pub decisions_chosen : DecisionsChosen w

@@ -8,11 +8,11 @@ use Rattle.rapid_model.specs.Process.{Process, identifier, same_bytes}
 use Rattle.rapid_model.specs.Configuration.{Params, Configuration, founding}
 use Rattle.rapid_model.specs.Reading.{are_params}
 use Rattle.rapid_model.specs.World as world
-use Rattle.rapid_model.specs.World.{World, Peer, WorldEvent, MarkedEvent, running, running_under, peer_at, observed, can_deliver}
+use Rattle.rapid_model.specs.World.{World, Peer, WorldEvent, running, running_under, peer_at, observed, can_deliver}
 use Rattle.rapid_model.specs.Refusal as faults
 use Rattle.rapid_model.specs.Refusal.{WorldRefusal}
 use Rattle.rapid_model.specs.Run.{WorldReport, ReportInstalled, ReportHalted, founded, reports_of, step_reports}
-use Rattle.rapid_model.specs.StoredWorld.{StoredWorld, new_world, world_of, event_refusal, with_event}
+use Rattle.rapid_model.specs.StoredWorld.{StoredWorld, new_world, world_of, event_refusal, with_event, unmarked}
 use Rattle.rapid_model.specs.Lines.{line_feed, space, lines, line_words}
 use Rattle.rapid_model.specs.Numbered.{number_under}
 use Rattle.rapid_model.specs.SimLine.{SimLine, Parameters, Found, Events, Lose, Deliver, Drop, Flow, Packets, command_named}
@@ -103,10 +103,6 @@ refused s e = event_refusal s.world e
 
 -- ---- what lines do
 
--- An event in which no node halts for want of memory.
-abbrev pub unmarked : WorldEvent → MarkedEvent
-unmarked e = record { event = e; halts = false }
-
 -- A run of these founders, in which nothing happened yet.
 abbrev pub begun : Params → List Process → Simulation
 begun params founders = record { world = new_world (founding params founders); settled = set.empty }
@@ -118,15 +114,6 @@ taking s e = record s { world = with_event s.world (unmarked e) }
 -- The run with one more packet settled.
 abbrev pub settling : Simulation → ℕ → Simulation
 settling s k = record s { settled = set.insert s.settled k }
-
--- The run after events in turn: they stop at the first that is refused.
-unfoldable pub after_events : Simulation → List WorldEvent → Simulation
-after_events s [] = s
-after_events s (e ∷ es) = if is_some (refused s e) then s else after_events (taking s e) es
-
--- A packet is delivered and settled, unless that is refused.
-abbrev pub after_delivery : Simulation → ℕ → Simulation
-after_delivery s k = if is_some (refused s (world.Deliver k)) then s else settling (taking s (world.Deliver k)) k
 
 -- The second is the identifier of the member that is observed.
 abbrev pub is_observed_under : Option (Configuration × Process) → Identifier → Bool
@@ -159,54 +146,11 @@ least_unsettled s = find (λ k. not (set.contains s.settled k)) (range_with_len 
 abbrev pub can_reach : Simulation → ℕ → Bool
 can_reach s k = can_deliver (world_in s) k
 
--- The delivery of a packet is refused.
-abbrev pub is_stopped : Simulation → ℕ → Bool
-is_stopped s k = is_some (refused s (world.Deliver k))
-
--- A packet, if there is one, is delivered and settled where a running node is at its endpoint, else settled alone; then the flow
--- goes on, unless the delivery was refused.
-abbrev pub after_next : Simulation → Option ℕ → (Simulation → Simulation) → Simulation
-after_next s None flow = s
-after_next s (Some k) flow =
-    if not (can_reach s k) then flow (settling s k)
-    else if is_stopped s k then s
-    else flow (settling (taking s (world.Deliver k)) k)
-
--- The run after a flow of so many packets at most: each is the least unsettled one.
-unfoldable pub after_flow : ℕ → Simulation → Simulation
-after_flow zero s = s
-after_flow (suc n) s = after_next s (least_unsettled s) (after_flow n)
-
 -- How many packets one flow settles at most.
 abbrev pub most_in_flow : ℕ
 most_in_flow = 10000
 
--- The run after a command.
-abbrev pub underway_after : Simulation → SimLine → Simulation
-underway_after s (Parameters params) = s
-underway_after s (Found founders) = s
-underway_after s (Events e n) = after_events s (replicate n e)
-underway_after s (Lose id) = after_events s (losing (world_in s) id)
-underway_after s (Deliver k) = after_delivery s k
-underway_after s (Drop k) = settling s k
-underway_after s Flow = after_flow most_in_flow s
-underway_after s Packets = s
-
--- The state after a command that is not refused at once.
-abbrev pub obeying : SimState → SimLine → SimState
-obeying Blank (Parameters params) = Prepared params
-obeying Blank _ = Blank
-obeying (Prepared params) (Found founders) = Underway (begun params founders)
-obeying (Prepared params) _ = Prepared params
-obeying (Underway s) c = Underway (underway_after s c)
-
--- The state after a line: one that is refused at once or passed over leaves it.
-unfoldable pub after : SimState → Asked → SimState
-after s Nothing = s
-after s Unknown = s
-after s (Command c) = if is_some (refusal s c) then s else obeying s c
-
--- ---- the output
+-- ---- texts
 
 -- The name of a refusal of the world.
 abbrev pub world_refusal_name : WorldRefusal → Text
@@ -259,63 +203,93 @@ reports_text rs = flat_map report_line rs
 abbrev pub taken_text : Simulation → WorldEvent → Text
 taken_text s e = reports_text (step_reports (world_in s) (unmarked e))
 
--- What an event prints that the world refuses for this reason, or accepts; then what follows it where it is accepted.
-abbrev pub event_text : Simulation → WorldEvent → Option WorldRefusal → Text → Text
-event_text s e (Some r) later = refusal_line (ByWorld r)
-event_text s e None later = taken_text s e ++ later
+-- ---- what lines print, and what comes of them
 
--- What events print in turn: they stop at the first that is refused, and print why.
-unfoldable pub events_text : Simulation → List WorldEvent → Text
-events_text s [] = []
-events_text s (e ∷ es) = event_text s e (refused s e) (events_text (taking s e) es)
+-- What is printed, and the run after it.
+pub record Said : Type 0 where
+  pub text : Text
+  pub run : Simulation
 
--- What one event prints.
-abbrev pub one_text : Simulation → WorldEvent → Text
-one_text s e = event_text s e (refused s e) []
+-- Nothing is printed, and the run is this.
+abbrev pub silent : Simulation → Said
+silent s = record { text = []; run = s }
 
--- What the next packet of a flow prints, and all that follow it.
-abbrev pub next_text : Simulation → Option ℕ → (Simulation → Text) → Text
-next_text s None flow = []
-next_text s (Some k) flow =
-    if not (can_reach s k) then flow (settling s k)
-    else event_text s (world.Deliver k) (refused s (world.Deliver k)) (flow (settling (taking s (world.Deliver k)) k))
+-- This is printed first.
+abbrev pub behind : Text → Said → Said
+behind text d = record d { text = text ++ d.text }
 
--- What a flow of so many packets at most prints.
-unfoldable pub flow_text : ℕ → Simulation → Text
-flow_text zero s = []
-flow_text (suc n) s = next_text s (least_unsettled s) (flow_text n)
+-- An event, which the world refuses for this reason or accepts; then what follows where it is accepted.
+abbrev pub event_then : Simulation → WorldEvent → Option WorldRefusal → Said → Said
+event_then s e (Some r) later = record { text = refusal_line (ByWorld r); run = s }
+event_then s e None later = behind (taken_text s e) later
+
+-- Events in turn: they stop at the first that is refused.
+unfoldable pub do_events : Simulation → List WorldEvent → Said
+do_events s [] = silent s
+do_events s (e ∷ es) = event_then s e (refused s e) (do_events (taking s e) es)
+
+-- The delivery of a packet, and what follows once it is settled.
+abbrev pub deliver_then : Simulation → ℕ → (Simulation → Said) → Said
+deliver_then s k later = event_then s (world.Deliver k) (refused s (world.Deliver k)) (later (settling (taking s (world.Deliver k)) k))
+
+-- A packet, if there is one, is delivered and settled where a running node is at its endpoint, else settled alone; then the flow
+-- goes on, unless the delivery was refused.
+abbrev pub next_then : Simulation → Option ℕ → (Simulation → Said) → Said
+next_then s None flow = silent s
+next_then s (Some k) flow = if not (can_reach s k) then flow (settling s k) else deliver_then s k flow
+
+-- A flow of so many packets at most: each is the least unsettled one.
+unfoldable pub do_flow : ℕ → Simulation → Said
+do_flow zero s = silent s
+do_flow (suc n) s = next_then s (least_unsettled s) (do_flow n)
 
 -- What a founding prints: all founders report it.
 abbrev pub founding_text : Configuration → Text
 founding_text c = reports_text (reports_of (founded c).log)
 
--- What a command of a run prints.
-abbrev pub underway_text : Simulation → SimLine → Text
-underway_text s (Parameters params) = []
-underway_text s (Found founders) = []
-underway_text s (Events e n) = events_text s (replicate n e)
-underway_text s (Lose id) = events_text s (losing (world_in s) id)
-underway_text s (Deliver k) = one_text s (world.Deliver k)
-underway_text s (Drop k) = []
-underway_text s Flow = flow_text most_in_flow s
-underway_text s Packets = codes "packets " ++ decimal (packets_sent s) ++ line_feed ∷ []
+-- A command of a run.
+abbrev pub do_command : Simulation → SimLine → Said
+do_command s (Parameters params) = silent s
+do_command s (Found founders) = silent s
+do_command s (Events e n) = do_events s (replicate n e)
+do_command s (Lose id) = do_events s (losing (world_in s) id)
+do_command s (Deliver k) = deliver_then s k silent
+do_command s (Drop k) = silent (settling s k)
+do_command s Flow = do_flow most_in_flow s
+do_command s Packets = record { text = codes "packets " ++ decimal (packets_sent s) ++ line_feed ∷ []; run = s }
 
--- What a command prints that is not refused at once.
-abbrev pub obeyed_text : SimState → SimLine → Text
-obeyed_text (Underway s) c = underway_text s c
-obeyed_text (Prepared params) (Found founders) = founding_text (founding params founders)
-obeyed_text _ _ = []
+-- What a line prints, and the state after it.
+pub record Answer : Type 0 where
+  pub text : Text
+  pub state : SimState
 
--- What a command prints that is refused at once for this reason, or is not.
-abbrev pub command_text : SimState → SimLine → Option SimRefusal → Text
-command_text s c (Some r) = refusal_line r
-command_text s c None = obeyed_text s c
+-- A command that is not refused at once.
+abbrev pub obeyed : SimState → SimLine → Answer
+obeyed Blank (Parameters params) = record { text = []; state = Prepared params }
+obeyed Blank _ = record { text = []; state = Blank }
+obeyed (Prepared params) (Found founders) =
+    record { text = founding_text (founding params founders); state = Underway (begun params founders) }
+obeyed (Prepared params) _ = record { text = []; state = Prepared params }
+obeyed (Underway s) c = record { text = (do_command s c).text; state = Underway (do_command s c).run }
+
+-- A command that is refused at once for this reason, or is not.
+abbrev pub obeyed_unless : SimState → SimLine → Option SimRefusal → Answer
+obeyed_unless s c (Some r) = record { text = refusal_line r; state = s }
+obeyed_unless s c None = obeyed s c
+
+-- A line: one that is refused at once or passed over leaves the state.
+unfoldable pub answer : SimState → Asked → Answer
+answer s Nothing = record { text = []; state = s }
+answer s Unknown = record { text = refusal_line BadLine; state = s }
+answer s (Command c) = obeyed_unless s c (refusal s c)
 
 -- What a line prints.
-unfoldable pub printed : SimState → Asked → Text
-printed s Nothing = []
-printed s Unknown = refusal_line BadLine
-printed s (Command c) = command_text s c (refusal s c)
+abbrev pub printed : SimState → Asked → Text
+printed s a = (answer s a).text
+
+-- The state after a line.
+abbrev pub after : SimState → Asked → SimState
+after s a = (answer s a).state
 
 -- What these lines print, from a state on.
 abbrev pub text_of_lines : SimState → List Line → Text

@@ -1,5 +1,6 @@
 pub mod Asking
 pub mod Observed
+pub mod Quiet
 pub mod Settling
 pub mod Showing
 pub mod Viewing

@@ -1,4 +1,5 @@
 pub mod Codes
 pub mod Phases
+pub mod Quiet
 pub mod Steps
 pub mod Views

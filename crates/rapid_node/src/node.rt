@@ -18,6 +18,7 @@ ghost use Rattle.rapid_model.specs.World.{observed_in};
 ghost use Rattle.rapid_join.specs.Answers.{answer_of};
 ghost use Rattle.rapid_member.specs.Members.{IsSameMember};
 ghost use Rattle.rapid_node.specs.Phases.{phase_of, name_of, IsState};
+ghost use Rattle.rapid_node.specs.Quiet.{IsQuiet};
 ghost use Rattle.rapid_node.specs.Steps.{event_of, in_phase, Continues, HasOutcome, Stops, IsFault};
 ghost use Rattle.rapid_node.specs.declared.fault.NodeFault.TheVariants as fault;
 
@@ -569,6 +570,29 @@ impl Node {
                     self.be_removed(configuration);
                     Ok(())
                 }
+            },
+        }
+    }
+
+    /// Whether its step by the event certainly says nothing and installs nothing: an edge that went
+    /// down, a fast vote that cannot decide, a tick of a member at which nothing is due. False says
+    /// nothing of it. A driver that has to make room for what a step sends makes none for such a
+    /// step.
+    #[tactic(auto, using(crate::proofs::Quiet::edge_down_is_quiet, crate::proofs::Quiet::tick_is_quiet, crate::proofs::Quiet::removed_is_quiet, crate::proofs::Quiet::halted_is_quiet, crate::proofs::Quiet::message_is_quiet))]
+    pub fn is_quiet(&self, event: &Event) -> bool
+        ensures { result ≡ true → IsQuiet self.now (event_of event.now) }
+    {
+        match event {
+            Event::EdgeDown(..) => true,
+            Event::Tick => match &self.state {
+                State::Member(member) => member.has_quiet_tick(),
+                State::Removed(_) => true,
+                State::Halted => true,
+                State::Joining(_) => false,
+            },
+            Event::Receive(message) => match &self.state {
+                State::Member(member) => member.is_quiet_at(message),
+                State::Joining(_) | State::Removed(_) | State::Halted => false,
             },
         }
     }

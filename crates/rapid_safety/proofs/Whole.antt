@@ -8,7 +8,7 @@ use Rattle.rapid_safety.proofs.Asking.{asks_once}
 use Rattle.rapid_safety.proofs.Speaking.{accepts_go_out_once, members_speak, words_are_of_members}
 use Rattle.rapid_safety.proofs.Alerts.{alerts_are_justified}
 use Rattle.rapid_safety.proofs.Prompting.{decisions_are_prompt}
-use Rattle.rapid_safety.proofs.Told.{installs_rise, confirms_name_installed, decisions_name_installed}
+use Rattle.rapid_safety.proofs.Told.{installs_rise, confirms_name_installed}
 use Rattle.rapid_safety.proofs.Rules.{one_cut_is_chosen, accepts_are_lawful, accepts_exclude_below}
 use Rattle.rapid_safety.proofs.Agreement.{run_agrees, decisions_are_chosen}
 
@@ -36,6 +36,5 @@ runs_hold c es params are apart =
       prompt = decisions_are_prompt c es are apart;
       installs_rise = installs_rise c es are;
       confirms_installed = confirms_name_installed c es are;
-      decisions_installed = decisions_name_installed c es are;
       decisions_chosen = decisions_are_chosen c es are apart;
     }

@@ -3,15 +3,15 @@ use Rattle.std.proofs.Common.{◌≡◌, ℕ, zero, suc, ◌+◌, ◌-◌, ◌<�
 use Rattle.rapid_model.specs.World as world
 use Rattle.rapid_model.specs.World.{WorldEvent, MarkedEvent}
 use Rattle.rapid_model.specs.Run.{WorldReport}
-use Rattle.rapid_model.specs.StoredWorld.{StoredWorld, StoresEvent}
+use Rattle.rapid_model.specs.StoredWorld.{StoredWorld, StoresEvent, wants_of}
 use Rattle.rapid_model.specs.Refusal as faults
 use Rattle.rapid_model.specs.SimText.{Simulation, SimState, Underway, Asked, Nothing, Command, after, printed, refused, reports_text, settling, least_unsettled, can_reach}
 use Rattle.rapid_model.specs.SimLine.{SimLine}
-use Rattle.rapid_world.specs.Events.{Refuses}
+use Rattle.rapid_world.specs.Events.{Refuses, error_wants}
 use Rattle.rapid_world.specs.declared.error.WorldError.{WorldError}
 use Rattle.rapid_world.specs.declared.error.WorldError.TheVariants.{IdentifierUsed, EndpointBusy, NoSuchNode, NoSuchPacket, NotObserved, EventsFull, OutOfMemory}
-use Rattle.rapid_sim.specs.Wants.{IsSilent, IsRefused, LacksMemory, IsTaken, EventPrints, EventsPrint, DeliveryPrints, FlowPrints, CommandPrints, wants_of}
-use Rattle.rapid_sim.specs.Progress.{GoesOn, IsDone, IsAnswered, IsAnsweredExactly, WasTaken, WasStopped, HasStepped, HasFlowed, error_text, error_wants, mark_of, last_mark}
+use Rattle.rapid_sim.specs.Wants.{IsSilent, IsRefused, LacksMemory, IsTaken, EventPrints, EventsPrint, DeliveryPrints, FlowPrints, CommandPrints}
+use Rattle.rapid_sim.specs.Progress.{GoesOn, IsDone, IsAnswered, IsAnsweredExactly, WasTaken, WasStopped, HasStepped, HasFlowed, error_text}
 
 adds : (a b c : ℕ) → a + (b + c) ≡ (a + b) + c
 adds a b c = omega arith
@@ -37,20 +37,6 @@ stops s e NoSuchPacket h = inl (record { reason = faults.NoSuchPacket; is = h; s
 stops s e NotObserved h = inl (record { reason = faults.NotObserved; is = h; says = refl; stays = refl; none = refl })
 stops s e EventsFull h = inl (record { reason = faults.EventsFull; is = h; says = refl; stays = refl; none = refl })
 stops s e OutOfMemory h = inr (record { allowed = h; says = refl; stays = refl; once = refl })
-
-at_end : (es : List MarkedEvent) (m : MarkedEvent) → slice_get (es ++ m ∷ []) (length es) ≡ Some m
-at_end [] m = refl
-at_end (x ∷ es) m = at_end es m
-
-last_of : (es : List MarkedEvent) (m : MarkedEvent) → mark_of (slice_get (es ++ m ∷ []) (length (es ++ m ∷ []) - 1)) ≡ m.halts
-last_of es m =
-    let e : length (es ++ m ∷ []) - 1 ≡ length es = omega (arith, length-append es (m ∷ [])) in
-    ap (λ n. mark_of (slice_get (es ++ m ∷ []) n)) e ∙ ap mark_of (at_end es m)
-
--- The last mark is that of the event that was stored last.
-pub mark_stored : (old new : StoredWorld) (e : WorldEvent) (reports : List WorldReport) (h : StoresEvent old new e reports) → last_mark new.events ≡ h.halts
-unfolding last_mark
-mark_stored old new e reports h = ap (λ (s : StoredWorld). mark_of (slice_get s.events (length s.events - 1))) h.stored ∙ last_of old.events (record { event = e; halts = h.halts })
 
 -- ---- what follows
 

@@ -3,9 +3,9 @@ use Rattle.std.specs.Prelude.{◌≡◌, ℕ, suc, ◌+◌, Bool, true, false, �
 use Rattle.rapid_model.specs.World.{WorldEvent, MarkedEvent}
 use Rattle.rapid_model.specs.Refusal as faults
 use Rattle.rapid_model.specs.Run.{WorldReport}
-use Rattle.rapid_model.specs.StoredWorld.{StoredWorld, StoresEvent}
+use Rattle.rapid_model.specs.StoredWorld.{StoredWorld, StoresEvent, wants_of}
 use Rattle.rapid_model.specs.SimText.{Simulation, SimState, Asked, ByWorld, after, printed, reports_text, refusal_line}
-use Rattle.rapid_sim.specs.Wants.{IsRefused, LacksMemory, LinePrints, FlowPrints, no_memory_line, wants_of}
+use Rattle.rapid_sim.specs.Wants.{IsRefused, LacksMemory, LinePrints, FlowPrints, no_memory_line}
 use Rattle.rapid_world.specs.declared.error.WorldError.{WorldError}
 use Rattle.rapid_world.specs.declared.error.WorldError.TheVariants.{IdentifierUsed, EndpointBusy, NoSuchNode, NoSuchPacket, NotObserved, EventsFull, OutOfMemory}
 
@@ -52,11 +52,6 @@ error_text NotObserved = refusal_line (ByWorld faults.NotObserved)
 error_text EventsFull = refusal_line (ByWorld faults.EventsFull)
 error_text OutOfMemory = no_memory_line
 
--- How often a refused event meets want of memory.
-abbrev pub error_wants : WorldError → ℕ
-error_wants OutOfMemory = 1
-error_wants _ = 0
-
 -- The event was accepted, and its reports were printed.
 pub record WasTaken (old new : Simulation) (e : WorldEvent) (before after : List ℕ) (met now : ℕ) : Type 0 where
   pub reports : List WorldReport
@@ -78,15 +73,6 @@ pub record WasStopped (old new : Simulation) (e : WorldEvent) (before after : Li
 abbrev pub HasStepped : Simulation → Simulation → WorldEvent → List ℕ → List ℕ → ℕ → ℕ → Bool → Type 0
 HasStepped old new e before after met now true = WasTaken old new e before after met now
 HasStepped old new e before after met now false = WasStopped old new e before after met now
-
--- The mark of an event, if there is one.
-abbrev pub mark_of : Option MarkedEvent → Bool
-mark_of None = false
-mark_of (Some m) = m.halts
-
--- The mark of the last event.
-unfoldable pub last_mark : List MarkedEvent → Bool
-last_mark es = mark_of (slice_get es (length es - 1))
 
 -- A packet of a flow was settled, or the flow has ended.
 abbrev pub HasFlowed : Simulation → Simulation → List ℕ → List ℕ → ℕ → ℕ → Bool → Type 0

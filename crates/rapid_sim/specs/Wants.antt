@@ -7,7 +7,7 @@ use Rattle.rapid_model.specs.World.{WorldEvent}
 use Rattle.rapid_model.specs.Refusal as faults
 use Rattle.rapid_model.specs.Refusal.{WorldRefusal}
 use Rattle.rapid_model.specs.Run.{WorldReport}
-use Rattle.rapid_model.specs.StoredWorld.{StoredWorld, StoresEvent}
+use Rattle.rapid_model.specs.StoredWorld.{StoredWorld, StoresEvent, wants_of}
 use Rattle.rapid_model.specs.Lines.{line_feed, lines}
 use Rattle.rapid_model.specs.SimLine.{SimLine, Parameters, Found, Events, Lose, Deliver, Drop, Flow, Packets}
 use Rattle.rapid_model.specs.SimText.{Simulation, SimState, Blank, Underway, ByWorld, Asked, Command, asked, after, printed, world_in, refused, refusal_line, reports_text, settling, losing, least_unsettled, can_reach, most_in_flow}
@@ -38,11 +38,6 @@ pub record LacksMemory (s : Simulation) (e : WorldEvent) (text : List ℕ) (t : 
   pub says : text ≡ no_memory_line
   pub stays : t ≡ s
   pub once : wants ≡ 1
-
--- How often an event meets want of memory that is accepted: once where its node halts for it.
-abbrev pub wants_of : Bool → ℕ
-wants_of true = 1
-wants_of false = 0
 
 -- The world accepts the event, which prints its reports; then it goes on.
 pub record IsTaken (s : Simulation) (e : WorldEvent) (text : List ℕ) (wants : ℕ) (goes_on : Simulation → List ℕ → ℕ → Type 0) : Type 0 where

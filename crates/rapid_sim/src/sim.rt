@@ -57,7 +57,7 @@ fn begin(alloc: Global, configuration: &Configuration) -> Result<Simulator, Allo
     })
 }
 
-#[tactic(auto, unfolding(rapid_model::specs::SimText::after, rapid_model::specs::SimText::printed))]
+#[tactic(auto, unfolding(rapid_model::specs::SimText::answer))]
 impl Simulator {
     /// Settles a packet that was sent.
     fn drop_packet(&mut self, packet: u64, output: &mut Vec<u8>) -> Result<(), AllocError>
@@ -108,7 +108,7 @@ impl Simulator {
     }
 }
 
-#[tactic(auto, unfolding(rapid_model::specs::SimText::after, rapid_model::specs::SimText::printed))]
+#[tactic(auto, unfolding(rapid_model::specs::SimText::answer))]
 impl SimRun {
     /// A run that has taken nothing.
     fn new(alloc: Global) -> SimRun

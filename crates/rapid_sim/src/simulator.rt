@@ -3,11 +3,11 @@
 ghost use Rattle.std.specs.Prelude.{◌≡◌, ◌+◌, ◌++◌, ◌∷◌, [], ◌≤◌, false, map, flat_map, replicate, Some, IfOk, OnOk};
 ghost use Rattle.rapid_model.specs.World as model;
 ghost use Rattle.rapid_model.specs.World.{running_under, peer_at};
-ghost use Rattle.rapid_model.specs.StoredWorld.{world_of};
+ghost use Rattle.rapid_model.specs.StoredWorld.{world_of, wants_of, last_mark};
 ghost use Rattle.rapid_model.specs.SimText.{least_unsettled, observes_on, failing, losing};
-ghost use Rattle.rapid_world.specs.Events.{event_of};
-ghost use Rattle.rapid_sim.specs.Wants.{EventsPrint, DeliveryPrints, FlowPrints, wants_of};
-ghost use Rattle.rapid_sim.specs.Progress.{IsDone, HasStepped, HasFlowed, error_text, error_wants, last_mark};
+ghost use Rattle.rapid_world.specs.Events.{event_of, error_wants};
+ghost use Rattle.rapid_sim.specs.Wants.{EventsPrint, DeliveryPrints, FlowPrints};
+ghost use Rattle.rapid_sim.specs.Progress.{IsDone, HasStepped, HasFlowed, error_text};
 ghost use Rattle.rapid_sim.specs.Simulators.{simulation_of};
 ghost use Rattle.rapid_sim.specs.Losing.{failing_where, losing_by};
 
@@ -54,7 +54,7 @@ fn error_wants(error: WorldError) -> u64
 }
 
 /// How often the last event met want of memory: once where it was marked, since its node halted.
-#[tactic(auto, unfolding(crate::specs::Progress::last_mark))]
+#[tactic(auto, unfolding(rapid_model::specs::StoredWorld::last_mark))]
 fn last_wants(world: &World) -> u64
     ensures { result ≡ wants_of (last_mark world.now.events) }
 {

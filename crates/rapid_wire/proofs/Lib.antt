@@ -12,4 +12,6 @@ pub mod Fronts
 pub mod Feeds
 pub mod Streams
 pub mod Unique
+pub mod Alone
+pub mod Sizes
 pub mod Lives

@@ -10,7 +10,7 @@ use Rattle.rapid_wire.proofs.Frames.{same_payload}
 use Rattle.rapid_wire.proofs.Fronts.{begins_long, long_is}
 
 -- One whole frame stands in front, and one rest follows.
-one_frame : (bytes v w r s : List ℕ) → BeginsWith bytes v r → BeginsWith bytes w s → (v ≡ w) × (r ≡ s)
+pub one_frame : (bytes v w r s : List ℕ) → BeginsWith bytes v r → BeginsWith bytes w s → (v ≡ w) × (r ≡ s)
 one_frame bytes v w r s h k =
     let size = to_be_bytes w32 (length v) in
     let size' = to_be_bytes w32 (length w) in
@@ -95,7 +95,7 @@ one_fault_in_front bytes f g h k = by (faults bytes f h) (faults bytes g k)
     by (inr x) (inl y) = absurd (not_too_long bytes x.0 x.1 x.2 y.0)
     by (inr x) (inr y) = one_fault x.0 y.0 f g x.3 y.3 (one_frame bytes x.0 y.0 x.1 y.1 x.2 y.2).0
 
-no_fault_and_message : (bytes : List ℕ) (f : WireFault) (m : Message) (rest : List ℕ) → IsFront bytes (Faulty f) → IsFront bytes (Whole m rest) → ⊥
+pub no_fault_and_message : (bytes : List ℕ) (f : WireFault) (m : Message) (rest : List ℕ) → IsFront bytes (Faulty f) → IsFront bytes (Whole m rest) → ⊥
 no_fault_and_message bytes f m rest h k = by (faults bytes f h)
   where
     by : Faults bytes f → ⊥

@@ -3,6 +3,7 @@
 ghost use Rattle.std.specs.Prelude.{◌≡◌, ◌++◌, IfOk, OnOk};
 ghost use Rattle.rapid_model.specs.Frame.{IsFrame, payload};
 
+use crate::lengths::frame_length;
 use crate::numbers::write_length;
 use crate::told::tell_message;
 use crate::writing::{kind_of_body, put_body};
@@ -24,12 +25,12 @@ fn put_payload(alloc: Global, out: &mut Vec<u8>, message: &Message) -> Result<()
 
 /// The frame of a message: the length of what follows in four bytes, high byte first, then the
 /// version of the format, the message's kind, its sender and its body. It is the one spelling of
-/// the message.
+/// the message. The memory of the frame is taken at once, and no more than it needs.
 pub fn encode(alloc: Global, message: &Message) -> Result<Vec<u8>, AllocError>
     ensures { IfOk result (λ bytes. IsFrame bytes.items message.now) }
 {
     tell_message(message);
-    let mut frame = Vec::new(alloc);
+    let mut frame = Vec::with_capacity(alloc, frame_length(message))?;
     frame.extend_from_slice(&[0; 4])?;
     put_payload(alloc, &mut frame, message)?;
     let length = frame.len() - 4;

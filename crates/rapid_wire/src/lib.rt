@@ -8,14 +8,17 @@ mod encoding;
 mod fault;
 mod feed;
 mod kinds;
+mod lengths;
 mod numbers;
 mod reading;
+mod single;
 mod told;
 mod writing;
 
 pub use encoding::encode;
 pub use fault::WireFault;
 pub use feed::Feed;
+pub use single::read_frame;
 
 /// No frame is the beginning of another, and no two messages have one frame.
 pub fn no_frame_begins_another()

@@ -260,6 +260,7 @@ start_stored s p seed isopen fresh free =
       stored = refl;
       reported = sym (ap reports_of (ap (λ (w : World). drop (length (world_of s).log) w.log) (ap (λ o. cond (is_some o) (world_of s) (started (world_of s) p seed)) (start_taken s p seed fresh free)) ∙ whole (world_of s).log));
       marked = λ t. cc;
+      needed = λ t. cc;
     }
 
 -- by the edge that a node observes

@@ -2,10 +2,10 @@
 use Rattle.std.proofs.Common.{◌≡◌, ℕ, Bool, true, false, cond, List, [], ◌∷◌, ◌++◌, map, length, drop, slice_get, slice_set, refl, sym, ap, subst, ◌∙◌, Option, Some, None}
 use Rattle.std.specs.Prelude.{IsTrue}
 use Rattle.std.specs.List.{list_any}
-use Rattle.rapid_model.specs.Process.{identifier}
+use Rattle.rapid_model.specs.Process.{Process, identifier}
 use Rattle.rapid_model.specs.Configuration.{Configuration, AreMembers}
 use Rattle.rapid_model.specs.Edge.{probed}
-use Rattle.rapid_model.specs.Node.{Node, Event, Effect, Outcome, configuration_of, has_installed}
+use Rattle.rapid_model.specs.Node.{Node, Event, EdgeDown, Effect, Outcome, configuration_of, has_installed}
 use Rattle.rapid_model.specs.NodeStep.{node_step}
 use Rattle.rapid_model.specs.NodeReports.{installed_report}
 use Rattle.rapid_model.specs.World.{World, Peer, Packet, Act, Did, Installed, HasHalted, WorldEvent, MarkedEvent, Entry}
@@ -17,6 +17,7 @@ use Rattle.rapid_safety.proofs.Lived.{lived_run}
 use Rattle.rapid_world.specs.Handed.{Handed, stopped, went_on, stepped, handed, told}
 use Rattle.rapid_world.specs.Worlds.{IsRunOf}
 use Rattle.rapid_world.specs.Does.{Does}
+use Rattle.rapid_world.proofs.Going.{goes_quiet, edge_goes}
 
 -- ---- one event more
 
@@ -45,14 +46,15 @@ done_run s e i p f ps packets h does old =
     }
 
 pub done_stored : (s : StoredWorld) (e : WorldEvent) (i : ℕ) (p : Peer) (f : Bool → Handed) (h : Bool) (reports : List WorldReport) → Does s e i p f → reports ≡ (f h).reports →
-    (h ≡ true → IsTrue (list_any is_halt (f h).reports)) → StoresEvent s (with_event s (record { event = e; halts = h })) e reports
-done_stored s e i p f h reports does told marks =
+    (h ≡ true → IsTrue (list_any is_halt (f h).reports)) → (h ≡ true → list_any is_halt (f false).reports ≡ false) → StoresEvent s (with_event s (record { event = e; halts = h })) e reports
+done_stored s e i p f h reports does told marks needs =
     record {
       halts = h;
       not_refused = does.not_refused;
       stored = refl;
       reported = told ∙ sym (does.reports h);
       marked = λ t. subst (λ (r : List WorldReport). IsTrue (list_any is_halt r)) (sym told) (marks t);
+      needed = λ t. ap (list_any is_halt) (does.reports false) ∙ needs t;
     }
 
 pub handed_marks : (p : Peer) (e : Event) (h : Bool) → h ≡ true → IsTrue (list_any is_halt (handed p e h).reports)
@@ -71,6 +73,15 @@ told_marks p k ok e h quiet t = by (probed (edge_on p.edges k) ok).is_down refl
       where
         differ : true ≡ false → ⊥
         differ z = cc
+
+pub told_needed : (p : Peer) (k : ℕ) (ok : Bool) (id : List ℕ) (q : Process) → list_any is_halt (told p k ok (EdgeDown id k q) false).reports ≡ false
+unfolding told
+told_needed p k ok id q = by (probed (edge_on p.edges k) ok).is_down
+  where
+    by : (b : Bool) →
+        list_any is_halt (cond b (handed (with_edge p k (probed (edge_on p.edges k) ok)) (EdgeDown id k q) false) (record { peer = with_edge p k (probed (edge_on p.edges k) ok); packets = []; reports = [] })).reports ≡ false
+    by true = goes_quiet (with_edge p k (probed (edge_on p.edges k) ok)) (EdgeDown id k q) (edge_goes p.node id k q)
+    by false = refl
 
 -- ---- what the definitions' step does to the peer
 

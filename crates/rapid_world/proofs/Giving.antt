@@ -54,10 +54,10 @@ given_run now founding events reserved pushed x ps qs packets after i p f v same
 
 pub given_stored : (now : StoredWorld) (founding : Configuration) (events reserved pushed : List (WorldEvent × Bool)) (x : WorldEvent × Bool) (i : ℕ) (p : Peer) (f : Bool → Handed) (reports : List WorldReport) →
     stored_of founding events ≡ now → reserved ≡ events → pushed ≡ reserved ++ x ∷ [] → Does now (event_of x.0) i p f → reports ≡ (f x.1).reports → (x.1 ≡ true → IsTrue (list_any is_halt (f x.1).reports)) →
-    StoresEvent now (stored_of founding pushed) (event_of x.0) reports
-given_stored now founding events reserved pushed x i p f reports v same push does told marks =
+    (x.1 ≡ true → list_any is_halt (f false).reports ≡ false) → StoresEvent now (stored_of founding pushed) (event_of x.0) reports
+given_stored now founding events reserved pushed x i p f reports v same push does told marks needs =
     subst (λ t. StoresEvent now t (event_of x.0) reports) (sym (one_event founding events reserved pushed x now v same push))
-    (done_stored now (event_of x.0) i p f (x.1) reports does told marks)
+    (done_stored now (event_of x.0) i p f (x.1) reports does told marks needs)
 
 -- the reports with the one more, of none
 pub one_report : (before after : List Report) (o : Option Report) → after ≡ before ++ option_to_list o → before ≡ [] → map report_of after ≡ option_to_list (option_map report_of o)

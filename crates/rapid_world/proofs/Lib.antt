@@ -12,3 +12,4 @@ pub mod Running
 pub mod Founders
 pub mod Ids
 pub mod Finding
+pub mod Going

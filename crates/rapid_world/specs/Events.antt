@@ -47,3 +47,8 @@ Refuses r NoSuchPacket = r ≡ Some refusal.NoSuchPacket
 Refuses r NotObserved = r ≡ Some refusal.NotObserved
 Refuses r EventsFull = r ≡ Some refusal.EventsFull
 Refuses r OutOfMemory = (r ≡ None) ⊎ (r ≡ Some refusal.NotObserved)
+
+-- How often a refused event met a refused allocation.
+abbrev pub error_wants : WorldError → ℕ
+error_wants OutOfMemory = 1
+error_wants _ = 0

@@ -8,3 +8,4 @@ pub mod Recipients
 pub mod Sent
 pub mod Windows
 pub mod Worlds
+pub mod Going

@@ -20,7 +20,6 @@ use rapid_endpoint::{Endpoint, Process, ProcessId};
 use rapid_message::Message;
 use rapid_node::Event;
 use std::alloc::AllocError;
-use std::mem;
 
 /// How many events a world accepts at most.
 const MOST_EVENTS: usize = 1_000_000;
@@ -229,34 +228,5 @@ impl World {
             WorldEvent::Deliver(number) => self.deliver(number),
             WorldEvent::Crash(id) => self.crash(id),
         }
-    }
-
-    /// Steps by an event, and says whether it was accepted.
-    fn try_step(&mut self, event: &WorldEvent) -> bool
-        ensures { (s : StoredWorld) (es : List model.WorldEvent) (n : ℕ) → RunsTo s es n self.old → RunsTo s (es ++ event_of event.now ∷ []) (if result then suc n else n) self.new }
-    {
-        match self.step(event) {
-            Ok(reports) => {
-                mem::drop(reports);
-                true
-            }
-            Err(_) => false,
-        }
-    }
-
-    /// Steps by these events in order, and says how many were accepted. The others are passed over:
-    /// each changes nothing.
-    pub fn run(&mut self, events: &[WorldEvent]) -> usize
-        ensures run { RunsTo self.old (map event_of events.now) result self.new }
-        ensures holds { NoCollision (world_of self.new) → RunHolds (world_of self.new) }
-    {
-        let mut accepted = 0;
-        for event in events {
-            if self.try_step(event) {
-                accepted += 1;
-            }
-        }
-        self.tell();
-        accepted
     }
 }

@@ -18,6 +18,7 @@ ghost use Rattle.rapid_world.specs.Does.{Does, Hands, Probes};
 ghost use Rattle.rapid_world.specs.Handed.{crash_of};
 ghost use Rattle.rapid_world.specs.Worlds.{IsRunOf};
 
+use crate::going::has_outcome;
 use crate::mail::{Mail, push_within};
 use crate::peer::Peer;
 use crate::peers::Peers;
@@ -145,8 +146,10 @@ impl World {
     {
         self.events.reserve(1)?;
         let reports = Vec::with_capacity(self.alloc, 1)?;
+        // a node whose history is full halts without a mark, also if it had no memory to find out
+        let has_outcome = has_outcome(self.peers.as_slice()[place].node(), taken)?;
         let told = self.peers.hand(place, &mut self.mail, taken)?;
-        push_within(&mut self.events, (event, told.halts));
+        push_within(&mut self.events, (event, told.halts && has_outcome));
         Ok(with_report(reports, told.report))
     }
 

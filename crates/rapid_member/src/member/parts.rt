@@ -191,6 +191,7 @@ impl Raised {
     pub(crate) fn waits(&self) -> bool
         ensures none { result ≡ false → batch_of (outbox.unflushed self.now.outbox) ≡ None }
         ensures still { result ≡ false → outbox.flush self.now.outbox ≡ self.now.outbox }
+        ensures flushed { result ≡ false → outbox.unflushed self.now.outbox ≡ [] }
     {
         self.waits
     }

@@ -31,7 +31,7 @@ const FIRST_RECOVERY: u64 = 20;
 const RECOVERY_STEP: u64 = 4;
 
 /// After how many ticks votes and alerts go out again.
-const AGAIN: u64 = 20;
+pub(super) const AGAIN: u64 = 20;
 
 impl MemberState {
     /// The member's alert on a process for a ring.
@@ -230,15 +230,22 @@ impl MemberState {
         self.take_batch(out, batch.alerts())
     }
 
+    /// Whether a ballot is due at a tick.
+    pub(super) fn is_due_at(&self, at: u64) -> bool
+        ensures { result ≡ tick.is_due (record self.now { tick = at }) self.now.first_vote }
+    {
+        let patience = FIRST_RECOVERY + RECOVERY_STEP * self.place() as u64;
+        match self.first_vote {
+            Some(first) => first < at && (at - first) % patience == 0,
+            None => false,
+        }
+    }
+
     /// Whether a ballot is due.
     fn is_due(&self) -> bool
         ensures { result ≡ tick.is_due self.now self.now.first_vote }
     {
-        let patience = FIRST_RECOVERY + RECOVERY_STEP * self.place() as u64;
-        match self.first_vote {
-            Some(first) => first < self.tick && (self.tick - first) % patience == 0,
-            None => false,
-        }
+        self.is_due_at(self.tick)
     }
 
     /// Begins a ballot, if one is due: the Prepare goes out and is taken.

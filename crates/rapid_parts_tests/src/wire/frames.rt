@@ -3,7 +3,7 @@
 use crate::numbered::process;
 use rapid_join::Reply;
 use rapid_message::{Body, Message};
-use rapid_wire::{Feed, WireFault, encode};
+use rapid_wire::{Feed, WireFault, encode, read_frame};
 use std::alloc::{AllocError, Global};
 use std::test::Fail;
 
@@ -92,10 +92,21 @@ fn writes(alloc: Global, message: &Message, frame: &[u8]) -> Result<bool, AllocE
     Ok(written.as_slice() == frame)
 }
 
+/// Whether a message is read from its frame alone as it was.
+fn stands_alone(alloc: Global, message: &Message) -> Result<bool, AllocError> {
+    let frame = encode(alloc, message)?;
+    let read = read_frame(alloc, frame.as_slice())?;
+    writes(alloc, &read, frame.as_slice())
+}
+
 /// Whether the bytes are one frame that is read, and written again as it was.
 fn returns(alloc: Global, feed: &mut Feed, bytes: &[u8]) -> Result<bool, WireFault> {
     match fed(feed, bytes)? {
-        Some(message) => Ok(writes(alloc, &message, bytes)? && feed.next()?.is_none()),
+        Some(message) => Ok(
+            writes(alloc, &message, bytes)?
+                && stands_alone(alloc, &message)?
+                && feed.next()?.is_none(),
+        ),
         None => Ok(false),
     }
 }

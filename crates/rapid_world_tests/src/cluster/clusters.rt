@@ -39,6 +39,17 @@ fn written<R: Threads + Wait + Sync>(
     Ok(text)
 }
 
+/// What is written of two nodes after nine turns, with these rings and marks.
+fn after_nine_turns<R: Threads + Wait + Sync>(
+    rt: &R,
+    alloc: Global,
+    params: Params,
+) -> Result<Vec<u8>, Fail> {
+    let mut text = Vec::with_capacity(alloc, ROOM)?;
+    run_cluster(rt, alloc, &mut text, params, 2, 1, 9)?;
+    Ok(text)
+}
+
 /// Whether a text is these two, one behind the other.
 fn is_joined(text: &[u8], first: &[u8], rest: &[u8]) -> bool {
     text.strip_prefix(first) == Some(rest)
@@ -58,6 +69,20 @@ fn a_node_without_a_view_is_joining(rt: HostRuntime) -> Result<(), Fail> {
     let text = written(&rt, rt.alloc(), 2, 1, 1)?;
     let expected = b"events 2\nnode 1 height 0 members 1\nnode 2 joining\nagree yes\n";
     assert_eq!(rt; text.as_slice(), expected.as_slice());
+    Ok(())
+}
+
+/// A joiner asks once a ring: with three rings the last turn of nine delivers its Confirm, with ten
+/// the fifth of its ten requests.
+#[test]
+fn a_cluster_has_the_parameters_that_it_was_given(rt: HostRuntime) -> Result<(), Fail> {
+    let few = after_nine_turns(&rt, rt.alloc(), Params::new(3, 3, 1)?)?;
+    let met =
+        b"events 10\nnode 1 height 1 members 1 2\nnode 2 height 1 members 1 2\nagree yes\n";
+    assert_eq!(rt; few.as_slice(), met.as_slice());
+    let many = after_nine_turns(&rt, rt.alloc(), Params::new(10, 9, 3)?)?;
+    let waits = b"events 10\nnode 1 height 0 members 1\nnode 2 joining\nagree yes\n";
+    assert_eq!(rt; many.as_slice(), waits.as_slice());
     Ok(())
 }
 

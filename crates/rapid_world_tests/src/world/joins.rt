@@ -3,7 +3,7 @@
 use crate::numbered::{endpoint, id, process};
 use crate::world::worlds::alone;
 use rapid_node::Phase;
-use rapid_world::WorldEvent::{Deliver, Start, Tick};
+use rapid_world::WorldEvent::{Crash, Deliver, Probe, Start, Tick};
 use rapid_world::{World, WorldError, WorldEvent};
 use std::process::Abort;
 use std::test::Fail;
@@ -34,8 +34,8 @@ fn assert_member(rt: &impl Abort, world: &World, number: u16, height: u64) {
 #[test]
 fn a_guest_is_let_in(rt: HostRuntime) -> Result<(), Fail> {
     let mut world = alone(rt.alloc())?;
-    let accepted = world.run(&join());
-    assert_eq!(&rt; accepted, 9);
+    let ran = world.run_counted(&join());
+    assert_eq!(&rt; (ran.accepted, ran.wanted), (9, 0));
     assert_member(&rt, &world, 2, 1);
     assert_member(&rt, &world, 1, 1);
     Ok(())
@@ -52,5 +52,25 @@ fn events_are_kept_and_refused(rt: HostRuntime) -> Result<(), Fail> {
     assert_eq!(&rt; world.packets(), 6);
     let unsent = world.step(&Deliver(7));
     assert!(&rt; matches!(unsent, Err(WorldError::NoSuchPacket)));
+    Ok(())
+}
+
+/// With memory nothing is passed over but what is refused, of each kind of event.
+#[test]
+fn only_refused_events_are_passed_over(rt: HostRuntime) -> Result<(), Fail> {
+    let mut world = alone(rt.alloc())?;
+    let _joined = world.run(&join());
+    let ran = world.run_counted(&[
+        Probe(id(1), 0, false),
+        Probe(id(3), 0, false),
+        Probe(id(2), 1, true),
+        Start(process(3), endpoint(1)),
+        Start(process(3), endpoint(1)),
+        Tick(id(2)),
+        Deliver(6),
+        Crash(id(3)),
+        Crash(id(3)),
+    ]);
+    assert_eq!(&rt; (ran.accepted, ran.wanted), (6, 0));
     Ok(())
 }

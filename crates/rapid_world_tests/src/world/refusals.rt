@@ -43,14 +43,14 @@ fn refuses_by_the_rules(rt: HostRuntime) -> Result<(), Fail> {
 fn a_crash_ends_a_node(rt: HostRuntime) -> Result<(), Fail> {
     let mut world = alone(rt.alloc())?;
     let next = Process::new(id(3), endpoint(1));
-    let accepted = world.run(&[
+    let ran = world.run_counted(&[
         Crash(id(1)),
         Start(process(1), endpoint(1)),
         Crash(id(1)),
         Start(next, endpoint(1)),
         Tick(id(3)),
     ]);
-    assert_eq!(rt; accepted, 3);
+    assert_eq!(rt; (ran.accepted, ran.wanted), (3, 0));
     let running = world.running()?;
     assert_eq!(rt; running.as_slice(), [id(3)].as_slice());
     // what the newcomer asks the endpoint comes to itself

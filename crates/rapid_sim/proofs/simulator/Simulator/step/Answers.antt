@@ -1,10 +1,12 @@
 use Rattle.std.proofs.Common.{◌+◌, ◌++◌, ◌⊎◌, ◌∙◌, ap, sym, refl, subst, map}
-use Rattle.rapid_world.specs.Events.{event_of, report_of}
+use Rattle.rapid_world.specs.Events.{event_of, report_of, error_wants}
+use Rattle.rapid_world.proofs.Running.{mark_stored}
+use Rattle.rapid_model.specs.StoredWorld.{wants_of}
 use Rattle.rapid_model.specs.SimText.{reports_text}
-use Rattle.rapid_sim.specs.Wants.{IsRefused, LacksMemory, wants_of}
-use Rattle.rapid_sim.specs.Progress.{error_text, error_wants}
+use Rattle.rapid_sim.specs.Wants.{IsRefused, LacksMemory}
+use Rattle.rapid_sim.specs.Progress.{error_text}
 use Rattle.rapid_sim.specs.Simulators.{simulation_of}
-use Rattle.rapid_sim.proofs.Progress.{mark_stored, stops}
+use Rattle.rapid_sim.proofs.Progress.{stops}
 use Rattle.rapid_sim.proofs.simulator.Simulator.step.Goals as goal
 
 pub returns-in_ok-write_reports-in-Ok : goal.returns-in_ok-write_reports-in-Ok

@@ -26,4 +26,4 @@ invariant_of-self-2 c =
 pub returns-clause-stored : goal.returns-clause-stored
 returns-clause-stored c =
     given_stored c.args.self.now _ _ _ _ (c.args.event, false) _ _ (crash_of c.requires.0) _
-    c.self.view_is c.reserve.ensures.items c.push_within.ensures c.requires.1 (no_reports _ c.new.ensures.items) (λ t. cc)
+    c.self.view_is c.reserve.ensures.items c.push_within.ensures c.requires.1 (no_reports _ c.new.ensures.items) (λ t. cc) (λ t. cc)

@@ -1,8 +1,9 @@
-use Rattle.std.proofs.Common.{ap, ◌∙◌}
+use Rattle.std.proofs.Common.{◌&&◌, ◌++◌, slice_set, ap, ◌∙◌}
 use Rattle.std.proofs.lemmas.Result.{err_from_is_err_and}
 use Rattle.rapid_node.specs.Steps.{event_of as taken_of}
-use Rattle.rapid_world.specs.Handed.{handed}
+use Rattle.rapid_world.specs.Handed.{Handed, handed}
 use Rattle.rapid_world.proofs.Doing.{handed_marks}
+use Rattle.rapid_world.proofs.Going.{same_mark, mark_needed}
 use Rattle.rapid_world.proofs.Giving.{stored_of, same_room, at_place, kept_run, given_run, given_stored, one_report}
 use Rattle.rapid_world.proofs.world.World.give.Goals as goal
 
@@ -22,6 +23,17 @@ returns-in_err-reports-clause-unchanged c =
     let p = err_from_is_err_and c.from_residual-in_err-reports.result c.from_residual-in_err-reports.ensures.1 in
     rw (p.1) (same_room _ _ _ _ c.self.view_is c.reserve.ensures.items)
 
+pub has_outcome-requires : goal.has_outcome-requires
+has_outcome-requires c = ?
+
+pub invariant_of-self-in_err-has_outcome : goal.invariant_of-self-in_err-has_outcome
+invariant_of-self-in_err-has_outcome c = rw c.reserve.ensures.items c.self.invariant
+
+pub returns-in_err-has_outcome-clause-unchanged : goal.returns-in_err-has_outcome-clause-unchanged
+returns-in_err-has_outcome-clause-unchanged c =
+    let p = err_from_is_err_and c.from_residual-in_err-has_outcome.result c.from_residual-in_err-has_outcome.ensures.1 in
+    rw (p.1) (same_room _ _ _ _ c.self.view_is c.reserve.ensures.items)
+
 pub hand-requires : goal.hand-requires
 hand-requires c =
     record { peer = c.requires.peer; at = at_place _ _ _ _ _ _ c.self.invariant c.self.view_is c.requires.does.at; up = c.requires.up; keeps = c.requires.keeps }
@@ -29,17 +41,23 @@ hand-requires c =
 pub invariant_of-self-2 : goal.invariant_of-self-2
 invariant_of-self-2 c =
     let at = at_place _ _ _ _ _ _ c.self.invariant c.self.view_is c.requires.does.at in
-    given_run c.args.self.now _ _ _ _ (c.args.event, c.in_ok-told.told.halts) _ _ _ _ _ _ (handed c.requires.peer (taken_of c.args.taken.now))
+    let goes = c.in_ok-has_outcome.has_outcome in
+    let same = same_mark c.requires.peer (taken_of c.args.taken.now) c.in_ok-told.told.halts goes ? in
+    given_run c.args.self.now _ _ _ _ (c.args.event, c.in_ok-told.told.halts && goes) _ _ _ _ _ _ (handed c.requires.peer (taken_of c.args.taken.now))
     c.self.view_is c.reserve.ensures.items c.push_within.ensures c.self.invariant c.requires.does
-    (c.in_ok-told.ensures.peers c.requires.peer at) (c.in_ok-told.ensures.packets c.requires.peer at)
+    (c.in_ok-told.ensures.peers c.requires.peer at ∙ ap (λ (d : Handed). slice_set c.self.inside.peers c.args.place d.peer) same)
+    (c.in_ok-told.ensures.packets c.requires.peer at ∙ ap (λ (d : Handed). c.self.inside.mail.packets ++ d.packets) same)
 
 pub returns-clause-stored : goal.returns-clause-stored
 returns-clause-stored c =
     let at = at_place _ _ _ _ _ _ c.self.invariant c.self.view_is c.requires.does.at in
-    given_stored c.args.self.now _ _ _ _ (c.args.event, c.in_ok-told.told.halts) _ _ (handed c.requires.peer (taken_of c.args.taken.now)) _
+    let goes = c.in_ok-has_outcome.has_outcome in
+    let same = same_mark c.requires.peer (taken_of c.args.taken.now) c.in_ok-told.told.halts goes ? in
+    given_stored c.args.self.now _ _ _ _ (c.args.event, c.in_ok-told.told.halts && goes) _ _ (handed c.requires.peer (taken_of c.args.taken.now)) _
     c.self.view_is c.reserve.ensures.items c.push_within.ensures c.requires.does
-    (one_report _ _ _ c.with_report.ensures c.in_ok-reports.ensures.items ∙ c.in_ok-told.ensures.reports c.requires.peer at)
-    (handed_marks c.requires.peer (taken_of c.args.taken.now) c.in_ok-told.told.halts)
+    (one_report _ _ _ c.with_report.ensures c.in_ok-reports.ensures.items ∙ c.in_ok-told.ensures.reports c.requires.peer at ∙ ap (λ (d : Handed). d.reports) same)
+    (handed_marks c.requires.peer (taken_of c.args.taken.now) (c.in_ok-told.told.halts && goes))
+    (mark_needed c.requires.peer (taken_of c.args.taken.now) c.in_ok-told.told.halts goes ?)
 
 pub invariant_of-self-in_err-told : goal.invariant_of-self-in_err-told
 invariant_of-self-in_err-told c =

@@ -2,7 +2,7 @@ use Rattle.std.proofs.Common.{ap, ◌∙◌}
 use Rattle.std.proofs.lemmas.Result.{err_from_is_err_and}
 use Rattle.rapid_model.specs.Node.{EdgeDown}
 use Rattle.rapid_world.specs.Handed.{told}
-use Rattle.rapid_world.proofs.Doing.{told_marks}
+use Rattle.rapid_world.proofs.Doing.{told_marks, told_needed}
 use Rattle.rapid_world.proofs.Giving.{stored_of, same_room, at_place, kept_run, given_run, given_stored, one_report}
 use Rattle.rapid_world.proofs.world.World.probe_at.Goals as goal
 
@@ -47,6 +47,7 @@ returns-clause-stored c =
     c.self.view_is c.reserve.ensures.items c.push_within.ensures c.requires.1.does
     (one_report _ _ _ c.with_report.ensures c.in_ok-reports.ensures.items ∙ c.in_ok-told.ensures.reports c.requires.0 at)
     (told_marks c.requires.0 c.args.ring c.args.ok (EdgeDown c.args.config c.args.ring c.args.subject) c.in_ok-told.told.halts (c.in_ok-told.ensures.quiet c.requires.0 at))
+    (λ t. told_needed c.requires.0 c.args.ring c.args.ok c.args.config c.args.subject)
 
 pub invariant_of-self-in_err-told : goal.invariant_of-self-in_err-told
 invariant_of-self-in_err-told c =

@@ -1,0 +1,113 @@
+// How long frames are.
+
+ghost use Rattle.std.specs.Prelude.{◌≡◌, ◌+◌, ◌*◌, ◌≤◌, length, map};
+ghost use Rattle.rapid_model.specs.Configuration.{configuration_bytes};
+ghost use Rattle.rapid_model.specs.Cut.{cut_bytes};
+ghost use Rattle.rapid_model.specs.Message.{Batch as ModelBatch, item_of};
+ghost use Rattle.rapid_model.specs.Frame.{IsAnswer, IsBody, IsMessage, answer_bytes, body_bytes, frame, report_bytes};
+ghost use Rattle.rapid_join.specs.Answers.{answer_of};
+ghost use Rattle.rapid_message.specs.Bodies.{body_of};
+ghost use Rattle.rapid_paxos.specs.Reported.{last_of};
+
+use crate::reading::{ID_BYTES, PROCESS_BYTES};
+use rapid_alerts::Batch;
+use rapid_config::{Configuration, Cut};
+use rapid_join::Reply;
+use rapid_message::{Body, Message};
+use rapid_paxos::Ballot;
+
+/// The bytes of a ring, a kind and a subject.
+const ITEM_BYTES: usize = 24;
+
+/// The bytes of a ballot.
+const BALLOT_BYTES: usize = 3;
+
+/// The bytes of a configuration before its members.
+const HEAD_BYTES: usize = 49;
+
+/// The bytes before a body: the length, the version, the kind and the sender.
+const OPENING_BYTES: usize = 28;
+
+/// The bytes of a cut.
+#[tactic(auto, using(crate::proofs::Sizes::cut_length_is))]
+fn cut_length(cut: &Cut) -> usize
+    ensures value { result ≡ length (cut_bytes cut.now) }
+    ensures few { result ≤ 33794 }
+{
+    2 + PROCESS_BYTES * cut.processes().len()
+}
+
+/// The bytes of what a batch says after its configuration's identifier.
+fn batch_length(batch: &Batch) -> usize
+    ensures value { result ≡ 2 + 24 * length (map item_of batch.now) }
+    ensures few { result ≤ 49154 }
+{
+    2 + ITEM_BYTES * batch.alerts().len()
+}
+
+/// The bytes of the vote that a promise reports, or of none.
+#[tactic(auto, using(crate::proofs::Sizes::report_length_is))]
+fn report_length(vote: &Option<(Ballot, Cut)>) -> usize
+    ensures value { result ≡ length (report_bytes (last_of vote.now)) }
+    ensures few { result ≤ 33798 }
+{
+    match vote {
+        Some((_, cut)) => 1 + BALLOT_BYTES + cut_length(cut),
+        None => 1,
+    }
+}
+
+/// The bytes of an answer to a joiner.
+#[tactic(auto, using(crate::proofs::Sizes::safe_length_is))]
+fn answer_length(answer: &Reply) -> usize
+    requires { IsAnswer (answer_of answer.now) }
+    ensures value { result ≡ length (answer_bytes (answer_of answer.now)) }
+    ensures few { result ≤ 386 }
+{
+    match answer {
+        Reply::Safe(_, observers) => { 2 + ID_BYTES + PROCESS_BYTES * observers.as_slice().len() }
+        Reply::EndpointInUse | Reply::ConfigurationChanged | Reply::TooManyJoiners => 1,
+    }
+}
+
+/// The bytes of a configuration.
+#[tactic(auto, using(crate::proofs::Sizes::configuration_length_is))]
+fn configuration_length(configuration: &Configuration) -> usize
+    ensures value { result ≡ length (configuration_bytes configuration.now) }
+    ensures few { result ≤ 22577 }
+{
+    configuration.tell();
+    HEAD_BYTES + PROCESS_BYTES * configuration.members().len()
+}
+
+/// The bytes of a body.
+#[tactic(auto, using(crate::proofs::Sizes::batch_body, crate::proofs::Sizes::id_and, crate::proofs::Sizes::id_ballot_and, crate::proofs::Sizes::process_and))]
+fn body_length(body: &Body) -> usize
+    requires { IsBody (body_of body.now) }
+    ensures value { result ≡ length (body_bytes (body_of body.now)) }
+    ensures few { result ≤ 65512 }
+{
+    match body {
+        Body::Batch(_, batch) => ID_BYTES + batch_length(batch),
+        Body::FastVote(_, cut) | Body::Decision(_, cut) => ID_BYTES + cut_length(cut),
+        Body::Prepare(..) => ID_BYTES + BALLOT_BYTES,
+        Body::Promise(_, _, vote) => ID_BYTES + BALLOT_BYTES + report_length(vote),
+        Body::Accept(_, _, cut) | Body::Accepted(_, _, cut) => {
+            ID_BYTES + BALLOT_BYTES + cut_length(cut)
+        }
+        Body::PreJoin => 0,
+        Body::Reply(_, answer) => PROCESS_BYTES + answer_length(answer),
+        Body::JoinRequest(..) => ID_BYTES + 1,
+        Body::Confirm(configuration) => configuration_length(configuration),
+        Body::Probe(_) | Body::ProbeAck(_) => ID_BYTES,
+    }
+}
+
+/// The bytes of the frame of a message.
+#[tactic(auto, using(crate::proofs::Sizes::frame_length_is))]
+pub(crate) fn frame_length(message: &Message) -> usize
+    requires { IsMessage message.now }
+    ensures { result ≡ length (frame message.now) }
+{
+    OPENING_BYTES + body_length(message.body())
+}
