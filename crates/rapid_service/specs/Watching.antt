@@ -1,3 +1,4 @@
+-- Clauses of public calls cite this file.
 -- How edges are judged by what became of their last probes.
 use Rattle.std.specs.Prelude.{ℕ, Bool, Option, Some, None}
 use Rattle.rapid_model.specs.Monitors.{Monitors, probed_at, is_down_after}
