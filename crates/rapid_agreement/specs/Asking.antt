@@ -1,3 +1,4 @@
+-- Clauses of public calls cite this file.
 -- A coordinator that hears promises of the ballot that it began.
 use Rattle.std.specs.Prelude.{◌≡◌, ◌≢◌, ℕ, ◌<◌, List, [], ◌∷◌, length, Contains, Option, Some}
 use Rattle.rapid_model.specs.Cut.{Cut}

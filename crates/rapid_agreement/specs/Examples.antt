@@ -1,3 +1,4 @@
+-- Clauses of public calls cite this file.
 -- Runs of five members that keep the rules, one for each way to a decision.
 use Rattle.std.specs.Prelude.{ℕ, ◌+◌, Bool, List, [], ◌∷◌, Option, Some, nat_eq, nat_lt, if◌then◌else◌}
 use Rattle.rapid_model.specs.Ballot.{Ballot, Vote, fast_ballot}

@@ -1,3 +1,4 @@
+-- Clauses of public calls cite this file.
 -- Alerts as the definitions see them.
 use Rattle.rapid_model.specs.Alert as model
 use Rattle.rapid_alerts.specs.declared.alert.Kind.{Kind}

@@ -1,3 +1,4 @@
+-- Clauses of public calls cite this file.
 -- Outboxes with their tables and owners, and what they keep to find alerts again.
 use Rattle.std.specs.Prelude.{◌≡◌, ◌≤◌, ℕ, Bool, true, not, ◌&&◌, ◌||◌, nat_lt, List, [], ◌∷◌, length, map, filter, All, if◌then◌else◌, Option, Some, None, refl}
 use Rattle.std.specs.List.{list_any}

@@ -1,3 +1,4 @@
+-- Clauses of public calls cite this file.
 -- The errors of batches and of raising, and what they report.
 use Rattle.std.specs.Prelude.{◌≡◌, ℕ, Option, Some, None}
 use Rattle.rapid_model.specs.Batch as batch

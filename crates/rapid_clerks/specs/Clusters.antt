@@ -1,3 +1,4 @@
+-- Clauses of public calls cite this file.
 -- A cluster that clerks drive: what it keeps, and what a job does to it.
 use Rattle.std.specs.Prelude.{◌≡◌, ◌≢◌, ℕ, List, nat_lt, if◌then◌else◌, Option, Some, None, refl}
 use Rattle.std.specs.Coded.{Coded, code_by, coded×, coded_ℕ, coded_option}

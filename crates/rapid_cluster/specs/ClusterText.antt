@@ -1,3 +1,4 @@
+-- Clauses of public calls cite this file.
 -- What `cluster` prints: the state of its world at the end.
 use Rattle.std.specs.Prelude.{◌≡◌, ℕ, Bool, not, ◌&&◌, ◌==◌, List, [], ◌∷◌, ◌++◌, flat_map, codes, decimal, if◌then◌else◌, Option, Some, None}
 use Rattle.std.specs.List.{list_any, range_with_len}

@@ -1,3 +1,4 @@
+-- Clauses of public calls cite this file.
 -- How a cluster comes to its end: it is founded, the other nodes are started, and turns are taken.
 use Rattle.std.specs.Prelude.{◌≡◌, ◌≤◌, ℕ, ◌-◌, List, [], ◌∷◌, ◌++◌, map, replicate}
 use Rattle.std.specs.List.{range_with_len}

@@ -1,3 +1,4 @@
+-- Clauses of public calls cite this file.
 -- What was written of a report after a fault.
 use Rattle.std.specs.Prelude.{◌≡◌, ℕ, List, [], Option}
 use Rattle.std.specs.Io.KnownBytes.{Appends}

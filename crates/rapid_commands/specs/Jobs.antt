@@ -1,3 +1,4 @@
+-- Clauses of public calls cite this file.
 -- What the commands of the program print.
 use Rattle.std.specs.Prelude.{◌≡◌, ◌≤◌, ◌*◌, ℕ, List, [], Option, IfSome}
 use Rattle.std.specs.Io.KnownBytes.{Appends}

@@ -1,3 +1,4 @@
+-- Clauses of public calls cite this file.
 -- Words that name the command `node`.
 use Rattle.std.specs.Prelude.{◌≡◌, ℕ, List, Some, codes, slice_get}
 use Rattle.std.specs.Option.{option_map}

@@ -1,3 +1,4 @@
+-- Clauses of public calls cite this file.
 -- The errors of configurations and cuts, and the faults that they report.
 use Rattle.std.specs.Prelude.{◌≡◌, ℕ, Option, Some, None, ◌⊎◌}
 use Rattle.rapid_model.specs.Reading as fault

@@ -1,3 +1,4 @@
+-- Clauses of public calls cite this file.
 -- What is proved of cut detection itself.
 use Rattle.std.specs.Prelude.{◌≡◌, ◌≢◌, ◌↔◌, ◌≤◌, ◌<◌, ◌⊎◌, ◌||◌, ℕ, List, [], ◌∷◌, ◌++◌, Contains, IsTrue, Some, None}
 use Rattle.std.specs.FinSet as set

@@ -1,3 +1,4 @@
+-- Clauses of public calls cite this file.
 -- A detector with the table over which it detects.
 use Rattle.std.specs.Prelude.{refl}
 use Rattle.std.specs.Coded.{Coded, code_by, coded×}

@@ -1,3 +1,4 @@
+-- Clauses of public calls cite this file.
 -- What is put for a subscriber: successive views, and then at most one mark.
 use Rattle.std.specs.Prelude.{◌≡◌, ◌⊎◌, ℕ, ◌+◌, ◌≤◌, List, [], ◌∷◌, ◌++◌, Option, None, Some, MatchOption}
 use Rattle.atomic_table.specs.Seated.{TableId}

@@ -1,3 +1,4 @@
+-- Clauses of public calls cite this file.
 -- What a desk holds of its node, and what holds of it whenever its lock is free.
 use Rattle.std.specs.Prelude.{◌≡◌, ◌⊎◌, ◌||◌, Bool, List, [], ◌∷◌, ◌++◌, if◌then◌else◌, IsTrue, Option, Some, None}
 use Rattle.rapid_model.specs.Configuration.{Configuration, Stamp}

@@ -1,3 +1,4 @@
+-- Clauses of public calls cite this file.
 -- What an answer says of what was taken before and is taken now.
 use Rattle.std.specs.Prelude.{◌≡◌, ◌⊎◌, List, [], ◌∷◌, ◌++◌}
 use Rattle.rapid_desk.specs.declared.notice.Loss.{Loss}

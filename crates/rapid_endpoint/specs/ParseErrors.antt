@@ -1,3 +1,4 @@
+-- Clauses of public calls cite this file.
 -- The numbers of the errors.
 use Rattle.std.specs.Prelude.{ℕ}
 use Rattle.rapid_endpoint.specs.declared.parse_error.ParseError.{ParseError}

@@ -1,3 +1,4 @@
+-- Clauses of public calls cite this file.
 -- How endpoints are spelled.
 use Rattle.std.specs.Prelude.{◌≡◌, ℕ, ◌<◌, List, All, length, Ok}
 use Rattle.rapid_model.specs.EndpointText.{endpoint_text}

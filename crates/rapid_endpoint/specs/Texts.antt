@@ -1,3 +1,4 @@
+-- Clauses of public calls cite this file.
 -- What texts are read as.
 use Rattle.std.specs.Prelude.{ℕ, ◌++◌, ◌==◌, not, Bool, List, map, length, if◌then◌else◌, Option, Some, None, Result, Ok, Err}
 use Rattle.std.specs.List.{list_all}

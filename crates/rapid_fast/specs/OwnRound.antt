@@ -1,3 +1,4 @@
+-- Clauses of public calls cite this file.
 -- The fast round as the member at a position keeps it.
 use Rattle.std.specs.Prelude.{ℕ, ◌≤◌, refl}
 use Rattle.std.specs.Coded.{Coded, code_by, coded×, coded_ℕ}

@@ -1,3 +1,4 @@
+-- Clauses of public calls cite this file.
 -- Why a vote is refused.
 use Rattle.std.specs.Prelude.{ℕ, ◌≤◌, ◌<◌}
 use Rattle.rapid_model.specs.FastRound.{FastRound}

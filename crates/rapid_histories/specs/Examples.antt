@@ -1,3 +1,4 @@
+-- Clauses of public calls cite this file.
 -- Small histories, in which the premises of the laws are met.
 use Rattle.std.specs.Prelude.{ℕ, List, [], ◌∷◌, Some, None}
 use Rattle.rapid_model.specs.Cut.{Cut}

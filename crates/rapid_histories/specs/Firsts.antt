@@ -1,3 +1,4 @@
+-- Clauses of public calls cite this file.
 -- What was said by positions, of which only what each said first counts.
 use Rattle.std.specs.Prelude.{ℕ, ◌<◌, Bool, false, ◌==◌, List, All, Option, Some, None}
 use Rattle.std.specs.List.{find}

@@ -1,3 +1,4 @@
+-- Clauses of public calls cite this file.
 -- A learner over all notices that it was given.
 use Rattle.std.specs.Prelude.{◌≡◌, ℕ, ◌<◌, ◌↔◌, Bool, ◌&&◌, ◌==◌, List, [], ◌∷◌, ◌++◌, All, Some, None}
 use Rattle.std.specs.List.{list_any}

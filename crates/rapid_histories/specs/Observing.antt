@@ -1,3 +1,4 @@
+-- Clauses of public calls cite this file.
 -- Who observes whom, as the lists that a member and a joiner are given.
 use Rattle.std.specs.Prelude.{◌≡◌, ℕ, ◌<◌, ◌↔◌, false, length, slice_get, Contains, IsTrue, Some}
 use Rattle.std.specs.List.{AllPairs}

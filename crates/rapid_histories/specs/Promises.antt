@@ -1,3 +1,4 @@
+-- Clauses of public calls cite this file.
 -- A coordinator over all promises that it was given since it began a ballot.
 use Rattle.std.specs.Prelude.{◌≡◌, ℕ, ◌<◌, ◌↔◌, Bool, true, false, ◌&&◌, List, [], ◌∷◌, ◌++◌, filter_map, if◌then◌else◌, Option, Some, None}
 use Rattle.std.specs.FinSet as set

@@ -1,3 +1,4 @@
+-- Clauses of public calls cite this file.
 -- A fast round over all votes that it was told.
 use Rattle.std.specs.Prelude.{◌≡◌, ℕ, ◌<◌, ◌↔◌, Bool, List, [], ◌∷◌, ◌++◌, Some, None}
 use Rattle.rapid_model.specs.Cut.{Cut, same_cut}

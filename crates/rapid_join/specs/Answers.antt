@@ -1,3 +1,4 @@
+-- Clauses of public calls cite this file.
 -- What the two sides answer, as the definitions see it.
 use Rattle.std.specs.Prelude.{ℕ, ◌≤◌, Bool, true, false, List, [], ◌∷◌, length, map, if◌then◌else◌, Option, Some, None}
 use Rattle.rapid_model.specs.Process.{Process}

@@ -1,3 +1,4 @@
+-- Clauses of public calls cite this file.
 -- A host as it begins, and a code by which a proof tells hosts apart.
 use Rattle.std.specs.Prelude.{ℕ, List, refl}
 use Rattle.std.specs.Coded.{Coded, code_by, coded×, coded_ℕ, coded_list}

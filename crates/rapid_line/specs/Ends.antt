@@ -1,3 +1,4 @@
+-- Clauses of public calls cite this file.
 -- What contracts see of the two ends of a queue.
 use Rattle.std.specs.Prelude.{ℕ, List}
 use Rattle.atomic_table.specs.Seated.{TableId}

@@ -1,3 +1,4 @@
+-- Clauses of public calls cite this file.
 -- What was put into a queue is what was taken and then what it holds. One pass at most puts and one at most takes.
 use Rattle.std.specs.Prelude.{◌≡◌, ℕ, Bool, true, List, [], ◌∷◌, ◌++◌, length}
 use mathlib.Core.Option.{some}

@@ -1,3 +1,4 @@
+-- Clauses of public calls cite this file.
 -- Members before and after a call.
 use Rattle.std.specs.Prelude.{◌≡◌}
 use Rattle.rapid_model.specs.Node.{MemberState}

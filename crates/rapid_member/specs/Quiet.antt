@@ -1,3 +1,4 @@
+-- Clauses of public calls cite this file.
 -- Work that says nothing.
 use Rattle.std.specs.Prelude.{◌≡◌, [], None}
 use Rattle.rapid_model.specs.Member.{Work}

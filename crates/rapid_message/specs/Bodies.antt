@@ -1,3 +1,4 @@
+-- Clauses of public calls cite this file.
 -- Messages as the definitions see them.
 use Rattle.std.specs.Prelude.{◌≡◌, ℕ, List, map, All}
 use Rattle.rapid_model.specs.Bytes.{ConfigurationId}

@@ -1,3 +1,4 @@
+-- Clauses of public calls cite this file.
 -- Destinations as the definitions see them.
 use Rattle.rapid_model.specs.Node as model
 use Rattle.rapid_message.specs.declared.output.Destination.{Destination}

@@ -1,3 +1,4 @@
+-- Clauses of public calls cite this file.
 -- The rule of a board: a word for each edge, which only the seat of its owner changes, and watchers that know edges that are down.
 use Rattle.std.specs.Prelude.{◌≡◌, ℕ, ◌<◌, ◌≤◌, List, [], ◌∷◌, ◌++◌, map, length, slice_index, Bool, true, false, ◌⊎◌, if◌then◌else◌, IsTrue}
 use mathlib.Core.Option.{some}

@@ -1,3 +1,4 @@
+-- Clauses of public calls cite this file.
 -- What the watchers and the seats of a board show.
 use Rattle.std.specs.Prelude.{ℕ, Bool, ◌≤◌, List, [], if◌then◌else◌}
 use Rattle.atomic_table.specs.Seated.{TableId}

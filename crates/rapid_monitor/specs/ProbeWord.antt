@@ -1,3 +1,4 @@
+-- Clauses of public calls cite this file.
 -- The word of an edge: its probe window as one number.
 use Rattle.std.specs.Prelude.{ℕ, ◌+◌, ◌*◌, ◌%◌, ◌==◌, List, [], ◌∷◌, Bool, length, if◌then◌else◌, nat_le}
 use Rattle.rapid_model.specs.Edge.{Edge, fresh_edge, edge_after}

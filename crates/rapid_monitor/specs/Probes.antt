@@ -1,3 +1,4 @@
+-- Clauses of public calls cite this file.
 -- The probes of a member: whom it observes, and who has acknowledged since the last round.
 use Rattle.std.specs.Prelude.{ℕ, ◌%◌, ◌==◌, Bool, false, ◌||◌, List, [], ◌∷◌, ◌++◌, map, filter, if◌then◌else◌, Option, Some, None}
 use Rattle.rapid_model.specs.Process.{Process, same_bytes, is_in}

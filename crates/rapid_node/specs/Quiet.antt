@@ -1,3 +1,4 @@
+-- Clauses of public calls cite this file.
 -- Steps that say nothing.
 use Rattle.std.specs.Prelude.{◌≡◌, [], false, Some}
 use Rattle.rapid_model.specs.Node.{Node, Event, Outcome, outputs, has_installed}

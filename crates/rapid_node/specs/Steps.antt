@@ -1,3 +1,4 @@
+-- Clauses of public calls cite this file.
 -- Steps of nodes: their events, their outcomes and their faults.
 use Rattle.std.specs.Prelude.{◌≡◌, ℕ, List, ◌++◌, true, false, Option, Some, None}
 use Rattle.rapid_model.specs.Process.{Process}

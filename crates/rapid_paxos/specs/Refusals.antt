@@ -1,3 +1,4 @@
+-- Clauses of public calls cite this file.
 -- Why an acceptor or a coordinator refuses, and the numbers of the refusals.
 use Rattle.std.specs.Prelude.{◌≡◌, ℕ, Option, Result, Err, IsOk}
 use Rattle.rapid_model.specs.Cut.{Cut}

@@ -1,3 +1,4 @@
+-- Clauses of public calls cite this file.
 -- The code's votes as the definitions see them.
 use Rattle.std.specs.Prelude.{Option, Some, None}
 use Rattle.rapid_model.specs.Cut.{Cut}

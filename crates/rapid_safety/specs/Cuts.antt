@@ -1,3 +1,4 @@
+-- Clauses of public calls cite this file.
 -- What a cut says of the alerts that have it.
 use Rattle.std.specs.Prelude.{◌≡◌, ◌≢◌, ◌≤◌, ◌↔◌, List, [], Contains, Some}
 use Rattle.rapid_model.specs.Process.{Process}

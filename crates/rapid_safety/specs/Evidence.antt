@@ -1,3 +1,4 @@
+-- Clauses of public calls cite this file.
 -- What a member that decided a cut had taken.
 use Rattle.std.specs.Prelude.{◌≡◌, Bool, true, List, filter_map, Contains}
 use Rattle.rapid_model.specs.Process.{Process}

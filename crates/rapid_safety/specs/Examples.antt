@@ -1,3 +1,4 @@
+-- Clauses of public calls cite this file.
 -- Runs of three processes: two found a configuration, and a third joins it.
 use Rattle.std.specs.Prelude.{ℕ, false, List, [], ◌∷◌, ◌++◌, replicate}
 use Rattle.rapid_model.specs.Process.{Process, identifier, endpoint}

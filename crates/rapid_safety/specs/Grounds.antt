@@ -1,3 +1,4 @@
+-- Clauses of public calls cite this file.
 -- On what grounds a configuration was installed.
 use Rattle.std.specs.Prelude.{◌≡◌, ◌⊎◌, Contains, IsTrue, None, Some}
 use Rattle.rapid_model.specs.Process.{Process}

@@ -1,3 +1,4 @@
+-- Clauses of public calls cite this file.
 -- What members propose.
 use Rattle.std.specs.Prelude.{◌≡◌, Some}
 use Rattle.rapid_model.specs.Process.{Process}

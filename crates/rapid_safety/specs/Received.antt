@@ -1,3 +1,4 @@
+-- Clauses of public calls cite this file.
 -- What members take.
 use Rattle.rapid_model.specs.Process.{Process}
 use Rattle.rapid_model.specs.Configuration.{Configuration}

@@ -1,3 +1,4 @@
+-- Clauses of public calls cite this file.
 -- What `node` prints of edges.
 use Rattle.std.specs.Prelude.{Bool, List, [], ◌∷◌, ◌++◌, flat_map, codes, decimal, if◌then◌else◌}
 use Rattle.rapid_model.specs.Bytes.{Text}

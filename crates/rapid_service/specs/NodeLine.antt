@@ -1,3 +1,4 @@
+-- Clauses of public calls cite this file.
 -- The lines of `node`.
 use Rattle.std.specs.Prelude.{List, [], ◌∷◌, bytes_eq, codes, if◌then◌else◌, Option, Some, None}
 use Rattle.std.specs.Option.{option_map}

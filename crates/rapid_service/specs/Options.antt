@@ -1,3 +1,4 @@
+-- Clauses of public calls cite this file.
 -- What the words of `node` are read as.
 use Rattle.std.specs.Prelude.{◌≡◌, if◌then◌else◌, Option, Some, None, Result, Ok, Err}
 use Rattle.rapid_model.specs.Bytes.{Identifier, Endpoint, Text}

@@ -1,3 +1,4 @@
+-- Clauses of public calls cite this file.
 -- What a filter of repeats keeps.
 use Rattle.std.specs.Prelude.{◌≡◌, ◌≤◌, ℕ, List}
 use Rattle.std.specs.BTreeMap.{btree_map_len}

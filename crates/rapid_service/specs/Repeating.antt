@@ -1,3 +1,4 @@
+-- Clauses of public calls cite this file.
 -- Messages that change nothing, since an equal one was let through before in the same configuration.
 use Rattle.std.specs.Prelude.{◌≡◌, ℕ, ◌+◌, ◌<◌, Bool, true, false, List, [], ◌∷◌, ◌++◌, All, Contains}
 use Rattle.std.specs.BTreeMap as tree

@@ -1,3 +1,4 @@
+-- Clauses of public calls cite this file.
 -- Why a node ends, and the status that the program ends with.
 use Rattle.std.specs.Prelude.{ℕ}
 use Rattle.rapid_node.specs.declared.fault.NodeFault.TheVariants as step

@@ -1,3 +1,4 @@
+-- Clauses of public calls cite this file.
 -- What `node` prints of views.
 use Rattle.std.specs.Prelude.{List, [], ◌∷◌, ◌++◌, flat_map, codes, decimal}
 use Rattle.rapid_model.specs.Bytes.{Text}

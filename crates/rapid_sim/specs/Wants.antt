@@ -1,3 +1,4 @@
+-- Clauses of public calls cite this file.
 -- What `sim` may print where want of memory may be met: a node's own, which halts it, and the world's, which refuses an event. Each
 -- relation says from which state, what is printed, to which state that leads, and how often want of memory is met. Where it is never
 -- met, what is printed is what the definitions of `sim` print.

@@ -1,3 +1,4 @@
+-- Clauses of public calls cite this file.
 -- How far a run over an input has come. What lines print is a relation: from a state on, these lines may print this
 -- text if memory runs out this many times in all.
 use Rattle.std.specs.Prelude.{◌≡◌, ℕ, true, List, ◌∷◌, ◌++◌, Option}

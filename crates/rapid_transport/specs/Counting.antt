@@ -1,3 +1,4 @@
+-- Clauses of public calls cite this file.
 -- How many calls of a device have failed. The count stays at 2^64 - 1.
 use Rattle.std.specs.Prelude.{ℕ, ◌+◌, ◌-◌, ◌^◌, min, Result, Ok, Err}
 use Rattle.rapid_transport.specs.declared.error.TransportError.{TransportError}

@@ -1,3 +1,4 @@
+-- Clauses of public calls cite this file.
 -- The errors of frames on their way.
 use Rattle.std.specs.Prelude.{ℕ}
 use Rattle.rapid_wire.specs.declared.fault.WireFault.{WireFault}

@@ -1,3 +1,4 @@
+-- Clauses of public calls cite this file.
 -- Where peers may be.
 use Rattle.std.specs.Prelude.{Bool, ◌&&◌, ◌==◌, drop, slice_index, nat_le}
 use Rattle.std.specs.Int.{w16, from_be_bytes}

@@ -1,3 +1,4 @@
+-- Clauses of public calls cite this file.
 -- The two ends of a sender's queue.
 use Rattle.std.specs.Prelude.{ℕ, List}
 use Rattle.atomic_table.specs.Seated.{TableId}

@@ -1,3 +1,4 @@
+-- Clauses of public calls cite this file.
 -- What is answered of the bytes of a reader, which go through a feed.
 use Rattle.std.specs.Prelude.{◌≡◌, ◌≢◌, ℕ, Bool, true, false, List, [], ◌++◌, Option, Some, None, Result, Ok, Err}
 use Rattle.std.specs.Io.KnownBytes.{Consumes, IsAtEnd}

@@ -1,3 +1,4 @@
+-- Clauses of public calls cite this file.
 -- What a writer holds after a frame was not sent.
 use Rattle.std.specs.Prelude.{◌≡◌, ◌≢◌, ℕ, List, [], ◌++◌, Option}
 use Rattle.std.specs.Io.KnownBytes.{Appends}

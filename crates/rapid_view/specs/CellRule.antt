@@ -1,3 +1,4 @@
+-- Clauses of public calls cite this file.
 -- The rule of a view cell. Word 0 is how many stamps are published, and behind it each stamp has a place of six words.
 use Rattle.std.specs.Prelude.{◌≡◌, ℕ, ◌+◌, ◌*◌, ◌<◌, ◌≤◌, List, [], ◌∷◌, ◌++◌, length, slice_index, true, false}
 use mathlib.Core.Option.{some}

@@ -1,3 +1,4 @@
+-- Clauses of public calls cite this file.
 -- What is proved of the rule that a view cell keeps.
 use Rattle.std.specs.Prelude.{◌≡◌, ℕ, List, length, map, slice_index}
 use mathlib.Core.Option.{some}

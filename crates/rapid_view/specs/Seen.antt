@@ -1,3 +1,4 @@
+-- Clauses of public calls cite this file.
 -- What the writer and the seats of a cell show.
 use Rattle.std.specs.Prelude.{◌≡◌, ◌≢◌, ℕ, ◌+◌, ◌-◌, ◌<◌, List, [], ◌∷◌, length, slice_get, Option, Some}
 use Rattle.atomic_table.specs.Seated.{TableId}

@@ -1,3 +1,4 @@
+-- Clauses of public calls cite this file.
 -- The six words of a stamp give it back.
 use Rattle.std.specs.Prelude.{◌≡◌, ℕ, List, ◌++◌, slice_index}
 use Rattle.std.specs.Int.{w64, to_be_bytes}

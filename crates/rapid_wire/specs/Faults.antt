@@ -1,3 +1,4 @@
+-- Clauses of public calls cite this file.
 -- The faults of the code as the definitions see them.
 use Rattle.std.specs.Prelude.{◌≡◌, ℕ, List, Option, Some, None, Result, Ok, Err}
 use Rattle.rapid_model.specs.Feed as model

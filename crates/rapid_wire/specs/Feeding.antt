@@ -1,3 +1,4 @@
+-- Clauses of public calls cite this file.
 -- What a feed does with a stream.
 use Rattle.std.specs.Prelude.{◌≡◌, ℕ, List, ◌++◌, Option, Some, None, Result, Ok, Err}
 use Rattle.rapid_model.specs.Message.{Message}

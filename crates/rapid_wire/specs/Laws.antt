@@ -1,3 +1,4 @@
+-- Clauses of public calls cite this file.
 -- What is proved of the frames themselves.
 use Rattle.std.specs.Prelude.{◌≡◌, ℕ, ◌≤◌, List, [], ◌∷◌, ◌++◌, length, map, All, Option, Some, None, Result, Ok, Err}
 use Rattle.std.specs.List.{concat}

@@ -1,3 +1,4 @@
+-- Clauses of public calls cite this file.
 -- The events, reports and refusals of a world, as the definitions see them.
 use Rattle.std.specs.Prelude.{◌≡◌, ◌⊎◌, ℕ, Bool, Option, Some, None}
 use Rattle.rapid_model.specs.World as model

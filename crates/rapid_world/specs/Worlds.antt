@@ -1,3 +1,4 @@
+-- Clauses of public calls cite this file.
 -- What a world keeps of the run of its events, and what a node of it observes.
 use Rattle.std.specs.Prelude.{◌≡◌, ℕ, List, [], ◌∷◌, if◌then◌else◌, Option}
 use Rattle.std.specs.Option.{option_and_then, option_map}
