@@ -18,6 +18,8 @@ QUOTED = re.compile(rf"`(?:\./)?({FOLDERS}/[\w./*-]+?)/?`")
 IN_CODE = re.compile(r"(?<![\w/$.>])((?:docs|examples|bench)/[\w./-]+\.(?:txt|sh|py|rs|service))\b")
 LINK = re.compile(r"\]\(([^()\s]+)\)")
 NOT_THERE = re.compile(r"/out/|/my_|\bNAME\b")  # built files, and places for names
+TEST = re.compile(r"#\[test\]\s+fn (\w+)\(")
+SHOWN = re.compile(r"`([a-z]\w+)`")
 BLOCK = re.compile(r"^```.*?^```$", re.M | re.S)
 
 
@@ -41,9 +43,17 @@ def is_there(path):
     return bool(NOT_THERE.search(path)) or any(TOP.glob(below + path))
 
 
+def missing_tests():
+    """What LIMITS.md names as a test and is none."""
+    text = [it.read_text() for it in TOP.glob("crates/*_tests/src/**/*.rt")]
+    tests = {name for it in text for name in TEST.findall(it)}
+    rows = [line.split(" | ")[-1] for line in (TOP / "docs/LIMITS.md").read_text().splitlines() if " | " in line]
+    return [name for row in rows for name in SHOWN.findall(row) if name not in tests]
+
+
 def main():
     """Looks through all pages."""
-    bad = []
+    bad = [f"docs/LIMITS.md: the test {name} is not there" for name in missing_tests()]
     tops = [TOP / "README.md", TOP / "bench/README.md", *TOP.glob(".ci/README.md")]
     for page in [*tops, *sorted((TOP / "docs").rglob("*.md"))]:
         text, code = BLOCK.sub("", page.read_text()), "\n".join(BLOCK.findall(page.read_text()))

@@ -5,6 +5,7 @@ mod ending;
 mod founding;
 mod journal;
 mod published;
+mod seats;
 mod subscriptions;
 mod threads;
 mod views;

@@ -8,6 +8,7 @@ mod echo;
 mod edges;
 mod founding;
 mod join;
+mod kept;
 mod network;
 mod plays;
 mod probes;

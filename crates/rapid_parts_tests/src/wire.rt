@@ -1,4 +1,5 @@
 // Tests of messages and frames.
 
 mod frames;
+mod longest;
 mod refusals;

@@ -10,4 +10,6 @@ mod history;
 #[cfg(test)]
 mod numbered;
 #[cfg(test)]
+mod simulated;
+#[cfg(test)]
 mod worlds;
