@@ -45,11 +45,13 @@ impl Gate for Open {
 /// for it in the type of what threads share.
 trait Asked {
     ghost params: { ModelParams };
+
     ghost nodes: { ℕ };
 }
 
 impl Asked for Brand {
     ghost params = { record { k = 0; h = 0; l = 0 } };
+
     ghost nodes = { 0 };
 }
 

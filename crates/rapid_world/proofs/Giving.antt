@@ -1,5 +1,5 @@
 -- A world with an event more.
-use Rattle.std.proofs.Common.{◌≡◌, ℕ, Bool, true, false, List, [], ◌∷◌, ◌++◌, map, slice_get, slice_set, refl, sym, ap, subst, ◌∙◌, Option, Some, None}
+use Rattle.std.proofs.Common.{◌≡◌, ℕ, zero, suc, get_or, Bool, true, false, List, [], ◌∷◌, ◌++◌, map, slice_get, slice_set, refl, sym, ap, subst, ◌∙◌, Option, Some, None}
 use Rattle.std.specs.Prelude.{IsTrue, is_some}
 use Rattle.std.specs.List.{list_any}
 use Rattle.std.specs.Option.{option_map, option_to_list}
@@ -37,6 +37,12 @@ one_event founding events reserved pushed x now v same push =
 -- the peer at a place of the run is the one that is kept there
 pub at_place : (s : StoredWorld) (now : StoredWorld) (ps : List Peer) (packets : List Packet) (i : ℕ) (p : Peer) → IsRunOf s ps packets → s ≡ now → slice_get (world_of now).peers i ≡ Some p → slice_get ps i ≡ Some p
 at_place s now ps packets i p run same at = ap (λ (l : List Peer). slice_get l i) (run.peers ∙ ap (λ (x : StoredWorld). (world_of x).peers) same) ∙ at
+
+-- what is read at the place of the peer is the peer
+pub read_at : {A : Type 0} (xs : List A) (i : ℕ) (p x : A) → slice_get xs i ≡ Some p → x ≡ get_or xs i x → x ≡ p
+read_at [] i p x h e = cc
+read_at (y ∷ ys) zero p x h e = cc
+read_at (y ∷ ys) (suc i) p x h e = read_at ys i p x h e
 
 -- nothing was changed
 pub kept_run : (s t : StoredWorld) (ps qs : List Peer) (sent after : List Packet) → IsRunOf s ps sent → t ≡ s → qs ≡ ps → after ≡ sent → IsRunOf t qs after

@@ -6,11 +6,11 @@
 mod error;
 mod event;
 mod founding;
-mod going;
 mod handing;
 mod keys;
 mod lookups;
 mod mail;
+mod outcome;
 mod peer;
 mod peers;
 mod places;

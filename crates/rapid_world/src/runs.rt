@@ -66,14 +66,9 @@ impl World {
         }
     }
 
-    /// Steps by these events in order, and says how many were accepted, and how often memory was
-    /// refused. An event that is not accepted is passed over and changes nothing: the world refuses
-    /// it, or had no memory for it, which is counted. If memory was refused 0 times, the world is
-    /// just what the definitions make of these events.
-    pub fn run_counted(&mut self, events: &[WorldEvent]) -> Ran
-        ensures run { RunsTo self.old (map event_of events.now) result.accepted result.wanted self.new }
-        ensures exact { result.wanted ≡ 0 → self.new ≡ run_by self.old (map event_of events.now) }
-        ensures holds { NoCollision (world_of self.new) → RunHolds (world_of self.new) }
+    /// Steps by these events in order, and counts what became of them.
+    fn count(&mut self, events: &[WorldEvent]) -> Ran
+        ensures { RunsTo self.old (map event_of events.now) result.accepted result.wanted self.new }
     {
         let mut ran = Ran {
             accepted: 0,
@@ -84,6 +79,19 @@ impl World {
             ran.accepted += one.accepted;
             ran.wanted += one.wanted;
         }
+        ran
+    }
+
+    /// Steps by these events in order, and says how many were accepted, and how often memory was
+    /// refused. An event that is not accepted is passed over and changes nothing: the world refuses
+    /// it, or had no memory for it, which is counted. If memory was refused 0 times, the world is
+    /// just what the definitions make of these events.
+    pub fn run_counted(&mut self, events: &[WorldEvent]) -> Ran
+        ensures run { RunsTo self.old (map event_of events.now) result.accepted result.wanted self.new }
+        ensures exact { result.wanted ≡ 0 → self.new ≡ run_by self.old (map event_of events.now) }
+        ensures holds { NoCollision (world_of self.new) → RunHolds (world_of self.new) }
+    {
+        let ran = self.count(events);
         self.tell();
         ran
     }

@@ -18,8 +18,8 @@ ghost use Rattle.rapid_world.specs.Does.{Does, Hands, Probes};
 ghost use Rattle.rapid_world.specs.Handed.{crash_of};
 ghost use Rattle.rapid_world.specs.Worlds.{IsRunOf};
 
-use crate::going::has_outcome;
 use crate::mail::{Mail, push_within};
+use crate::outcome::{has_outcome, is_marked};
 use crate::peer::Peer;
 use crate::peers::Peers;
 use crate::report::Report;
@@ -149,7 +149,8 @@ impl World {
         // a node whose history is full halts without a mark, also if it had no memory to find out
         let has_outcome = has_outcome(self.peers.as_slice()[place].node(), taken)?;
         let told = self.peers.hand(place, &mut self.mail, taken)?;
-        push_within(&mut self.events, (event, told.halts && has_outcome));
+        let mark = is_marked(told.halts, has_outcome);
+        push_within(&mut self.events, (event, mark));
         Ok(with_report(reports, told.report))
     }
 

@@ -77,8 +77,7 @@ fn a_node_without_a_view_is_joining(rt: HostRuntime) -> Result<(), Fail> {
 #[test]
 fn a_cluster_has_the_parameters_that_it_was_given(rt: HostRuntime) -> Result<(), Fail> {
     let few = after_nine_turns(&rt, rt.alloc(), Params::new(3, 3, 1)?)?;
-    let met =
-        b"events 10\nnode 1 height 1 members 1 2\nnode 2 height 1 members 1 2\nagree yes\n";
+    let met = b"events 10\nnode 1 height 1 members 1 2\nnode 2 height 1 members 1 2\nagree yes\n";
     assert_eq!(rt; few.as_slice(), met.as_slice());
     let many = after_nine_turns(&rt, rt.alloc(), Params::new(10, 9, 3)?)?;
     let waits = b"events 10\nnode 1 height 0 members 1\nnode 2 joining\nagree yes\n";

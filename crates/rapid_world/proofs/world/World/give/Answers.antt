@@ -1,10 +1,13 @@
-use Rattle.std.proofs.Common.{◌&&◌, ◌++◌, slice_set, ap, ◌∙◌}
+use Rattle.std.proofs.Common.{◌≡◌, ◌&&◌, ◌++◌, List, get_or, slice_set, is_some, ap, sym, ◌∙◌}
 use Rattle.std.proofs.lemmas.Result.{err_from_is_err_and}
+use Rattle.rapid_model.specs.Node.{Node, is_halted}
+use Rattle.rapid_model.specs.NodeStep.{node_step}
+use Rattle.rapid_model.specs.World.{Peer}
 use Rattle.rapid_node.specs.Steps.{event_of as taken_of}
 use Rattle.rapid_world.specs.Handed.{Handed, handed}
 use Rattle.rapid_world.proofs.Doing.{handed_marks}
 use Rattle.rapid_world.proofs.Going.{same_mark, mark_needed}
-use Rattle.rapid_world.proofs.Giving.{stored_of, same_room, at_place, kept_run, given_run, given_stored, one_report}
+use Rattle.rapid_world.proofs.Giving.{stored_of, same_room, at_place, read_at, kept_run, given_run, given_stored, one_report}
 use Rattle.rapid_world.proofs.world.World.give.Goals as goal
 
 pub invariant_of-self : goal.invariant_of-self
@@ -24,7 +27,10 @@ returns-in_err-reports-clause-unchanged c =
     rw (p.1) (same_room _ _ _ _ c.self.view_is c.reserve.ensures.items)
 
 pub has_outcome-requires : goal.has_outcome-requires
-has_outcome-requires c = ?
+has_outcome-requires c =
+    let at = at_place _ _ _ _ _ _ c.self.invariant c.self.view_is c.requires.does.at in
+    let is = read_at c.self.inside.peers c.args.place c.requires.peer c.index-as_slice-place.result at (c.index-as_slice-place.is ∙ ap (λ (l : List Peer). get_or l c.args.place c.index-as_slice-place.result) c.as_slice.ensures) in
+    ap is_halted (c.node.ensures ∙ ap (λ (p : Peer). p.node) is) ∙ c.requires.up
 
 pub invariant_of-self-in_err-has_outcome : goal.invariant_of-self-in_err-has_outcome
 invariant_of-self-in_err-has_outcome c = rw c.reserve.ensures.items c.self.invariant
@@ -41,9 +47,11 @@ hand-requires c =
 pub invariant_of-self-2 : goal.invariant_of-self-2
 invariant_of-self-2 c =
     let at = at_place _ _ _ _ _ _ c.self.invariant c.self.view_is c.requires.does.at in
-    let goes = c.in_ok-has_outcome.has_outcome in
-    let same = same_mark c.requires.peer (taken_of c.args.taken.now) c.in_ok-told.told.halts goes ? in
-    given_run c.args.self.now _ _ _ _ (c.args.event, c.in_ok-told.told.halts && goes) _ _ _ _ _ _ (handed c.requires.peer (taken_of c.args.taken.now))
+    let is = read_at c.self.inside.peers c.args.place c.requires.peer c.index-as_slice-place.result at (c.index-as_slice-place.is ∙ ap (λ (l : List Peer). get_or l c.args.place c.index-as_slice-place.result) c.as_slice.ensures) in
+    let goes : c.in_ok-has_outcome.has_outcome ≡ is_some (node_step c.requires.peer.node (taken_of c.args.taken.now)) =
+    c.in_ok-has_outcome.ensures ∙ ap (λ (n : Node). is_some (node_step n (taken_of c.args.taken.now))) (c.node.ensures ∙ ap (λ (p : Peer). p.node) is) in
+    let same = same_mark c.requires.peer (taken_of c.args.taken.now) c.in_ok-told.told.halts c.in_ok-has_outcome.has_outcome goes ∙ ap (handed c.requires.peer (taken_of c.args.taken.now)) (sym c.is_marked-mark.ensures) in
+    given_run c.args.self.now _ _ _ _ (c.args.event, c.is_marked-mark.result) _ _ _ _ _ _ (handed c.requires.peer (taken_of c.args.taken.now))
     c.self.view_is c.reserve.ensures.items c.push_within.ensures c.self.invariant c.requires.does
     (c.in_ok-told.ensures.peers c.requires.peer at ∙ ap (λ (d : Handed). slice_set c.self.inside.peers c.args.place d.peer) same)
     (c.in_ok-told.ensures.packets c.requires.peer at ∙ ap (λ (d : Handed). c.self.inside.mail.packets ++ d.packets) same)
@@ -51,13 +59,15 @@ invariant_of-self-2 c =
 pub returns-clause-stored : goal.returns-clause-stored
 returns-clause-stored c =
     let at = at_place _ _ _ _ _ _ c.self.invariant c.self.view_is c.requires.does.at in
-    let goes = c.in_ok-has_outcome.has_outcome in
-    let same = same_mark c.requires.peer (taken_of c.args.taken.now) c.in_ok-told.told.halts goes ? in
-    given_stored c.args.self.now _ _ _ _ (c.args.event, c.in_ok-told.told.halts && goes) _ _ (handed c.requires.peer (taken_of c.args.taken.now)) _
+    let is = read_at c.self.inside.peers c.args.place c.requires.peer c.index-as_slice-place.result at (c.index-as_slice-place.is ∙ ap (λ (l : List Peer). get_or l c.args.place c.index-as_slice-place.result) c.as_slice.ensures) in
+    let goes : c.in_ok-has_outcome.has_outcome ≡ is_some (node_step c.requires.peer.node (taken_of c.args.taken.now)) =
+    c.in_ok-has_outcome.ensures ∙ ap (λ (n : Node). is_some (node_step n (taken_of c.args.taken.now))) (c.node.ensures ∙ ap (λ (p : Peer). p.node) is) in
+    let same = same_mark c.requires.peer (taken_of c.args.taken.now) c.in_ok-told.told.halts c.in_ok-has_outcome.has_outcome goes ∙ ap (handed c.requires.peer (taken_of c.args.taken.now)) (sym c.is_marked-mark.ensures) in
+    given_stored c.args.self.now _ _ _ _ (c.args.event, c.is_marked-mark.result) _ _ (handed c.requires.peer (taken_of c.args.taken.now)) _
     c.self.view_is c.reserve.ensures.items c.push_within.ensures c.requires.does
     (one_report _ _ _ c.with_report.ensures c.in_ok-reports.ensures.items ∙ c.in_ok-told.ensures.reports c.requires.peer at ∙ ap (λ (d : Handed). d.reports) same)
-    (handed_marks c.requires.peer (taken_of c.args.taken.now) (c.in_ok-told.told.halts && goes))
-    (mark_needed c.requires.peer (taken_of c.args.taken.now) c.in_ok-told.told.halts goes ?)
+    (handed_marks c.requires.peer (taken_of c.args.taken.now) c.is_marked-mark.result)
+    (λ t. mark_needed c.requires.peer (taken_of c.args.taken.now) c.in_ok-told.told.halts c.in_ok-has_outcome.has_outcome goes (sym c.is_marked-mark.ensures ∙ t))
 
 pub invariant_of-self-in_err-told : goal.invariant_of-self-in_err-told
 invariant_of-self-in_err-told c =

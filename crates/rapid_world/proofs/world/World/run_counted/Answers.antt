@@ -1,6 +1,5 @@
-use Rattle.std.proofs.Common.{arith}
-use Rattle.rapid_model.specs.StoredWorld.{ends}
+use Rattle.rapid_world.proofs.Running.{run_exact}
 use Rattle.rapid_world.proofs.world.World.run_counted.Goals as goal
 
-pub loop-event-init : goal.loop-event-init
-loop-event-init c = record { runs = ends c.args.self.now; few = omega arith; seldom = omega arith }
+pub returns-clause-exact : goal.returns-clause-exact
+returns-clause-exact c = run_exact _ _ _ _ _ c.count-ran.ensures

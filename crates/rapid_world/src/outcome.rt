@@ -1,6 +1,6 @@
 // Whether a node has an outcome of an event.
 
-ghost use Rattle.std.specs.Prelude.{◌≡◌, false, is_some, IfOk};
+ghost use Rattle.std.specs.Prelude.{◌≡◌, ◌&&◌, false, is_some, IfOk};
 ghost use Rattle.rapid_model.specs.Node as model;
 ghost use Rattle.rapid_model.specs.NodeStep.{node_step};
 ghost use Rattle.rapid_node.specs.Steps.{event_of};
@@ -28,7 +28,6 @@ fn has_room(node: &Node) -> bool
 /// Whether a node has an outcome of an event, and does not halt for a history that is full. It
 /// always has one if there is room for a further view; only if there is none a copy of it tries the
 /// event.
-#[tactic(auto, using(crate::proofs::Going::room_goes))]
 pub(crate) fn has_outcome(node: &Node, event: &Event) -> Result<bool, AllocError>
     requires { model.is_halted node.now ≡ false }
     ensures { IfOk result (λ has. has ≡ is_some (node_step node.now (event_of event.now))) }
@@ -45,4 +44,11 @@ pub(crate) fn has_outcome(node: &Node, event: &Event) -> Result<bool, AllocError
         Err(NodeFault::HistoryFull | NodeFault::Halted) => Ok(false),
         Err(NodeFault::OutOfMemory) => Err(AllocError),
     }
+}
+
+/// Whether an event is marked by which a node halted or not: it has an outcome without the mark.
+pub(crate) fn is_marked(halts: bool, has_outcome: bool) -> bool
+    ensures { result ≡ (halts && has_outcome) }
+{
+    halts && has_outcome
 }

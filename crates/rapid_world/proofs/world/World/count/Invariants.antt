@@ -1,7 +1,7 @@
 use Rattle.std.proofs.Common.{◌≤◌, map, take}
 use Rattle.rapid_model.specs.StoredWorld.{RunsTo}
 use Rattle.rapid_world.specs.Events.{event_of}
-use Rattle.rapid_world.proofs.world.World.run_counted.Given as goal
+use Rattle.rapid_world.proofs.world.World.count.Given as goal
 
 abbrev pub invariant-loop-event : goal.invariant-loop-event
 invariant-loop-event l = record {
