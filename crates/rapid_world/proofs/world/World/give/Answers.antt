@@ -31,7 +31,7 @@ invariant_of-self-2 c =
     let at = at_place _ _ _ _ _ _ c.self.invariant c.self.view_is c.requires.does.at in
     given_run c.args.self.now _ _ _ _ (c.args.event, c.in_ok-told.told.halts) _ _ _ _ _ _ (handed c.requires.peer (taken_of c.args.taken.now))
     c.self.view_is c.reserve.ensures.items c.push_within.ensures c.self.invariant c.requires.does
-    (c.in_ok-told.ensures.peers c.requires.peer at) (c.in_ok-told.ensures.packets c.requires.peer at)
+    (c.in_ok-told.ensures.peers c.requires.peer at) (c.in_ok-told.ensures.packets c.requires.peer at) (c.in_ok-told.ensures.framed c.requires.peer at)
 
 pub returns-clause-stored : goal.returns-clause-stored
 returns-clause-stored c =
