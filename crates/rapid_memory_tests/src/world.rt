@@ -63,3 +63,48 @@ fn out_of_memory_in_a_run(rt: HostRuntime) -> Result<(), Fail> {
     assert!(rt; ran.wanted > 0 || ran.accepted == 9);
     Ok(())
 }
+
+/// Steps by an event, and once more if the world had no memory for it. Whether it was accepted.
+fn is_taken_again(world: &mut World, event: &WorldEvent) -> bool {
+    match world.step(event) {
+        Err(WorldError::OutOfMemory) => world.step(event).is_ok(),
+        result => result.is_ok(),
+    }
+}
+
+/// Whether a node halted out of memory in some event.
+fn has_halted(world: &World) -> bool {
+    for i in 0..world.accepted() {
+        if matches!(world.event(i), Some((_, true))) {
+            return true;
+        }
+    }
+    false
+}
+
+/// The frame by which the process 2 asks to join.
+const PRE_JOIN: [u8; 28] = [
+    0, 0, 0, 0x18, 1, 8, 0, 0, 0, 0, 0, 0, 0, 0, 0, 0, 0, 0, 0, 0, 0, 0, 2, 0x7f, 0, 0, 1, 0, 2,
+];
+
+/// Whether all six packets of a join were sent, the first of them with its frame.
+fn has_sent_all(world: &World) -> bool {
+    let asks: &[u8] = &PRE_JOIN;
+    match world.frame(1) {
+        Some(packet) => world.packets() == 6 && packet.1 == asks,
+        None => false,
+    }
+}
+
+#[test]
+fn an_event_refused_for_memory_is_taken_again(rt: HostRuntime) -> Result<(), Fail> {
+    let mut world = alone(rt.alloc())?;
+    let mut taken = 0usize;
+    for event in &join() {
+        if is_taken_again(&mut world, event) {
+            taken = taken.saturating_add(1);
+        }
+    }
+    assert!(rt; has_halted(&world) || taken == 9 && has_sent_all(&world));
+    Ok(())
+}

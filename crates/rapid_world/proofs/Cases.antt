@@ -1,6 +1,6 @@
 -- What each event does.
 use Rattle.std.proofs.Common.{◌≡◌, ◌⊎◌, inl, inr, ℕ, zero, suc, ◌-◌, ◌<◌, Bool, true, false, cond, not, ◌&&◌, ◌==◌, drop, List, [], ◌∷◌, ◌++◌, length, slice_get, get_or, refl, sym, ap, subst, ◌∙◌, Option, Some, None, arith}
-use Rattle.std.specs.Prelude.{Contains, position, is_some, nat_lt}
+use Rattle.std.specs.Prelude.{Contains, position, is_some, nat_lt, map, All}
 use Rattle.std.specs.List.{list_any, position_or_len}
 use Rattle.std.proofs.lemmas.Bool.{and_parts}
 use Rattle.std.proofs.lemmas.Option.{slice_get-get_or}
@@ -20,6 +20,7 @@ use Rattle.rapid_model.specs.StoredWorld.{StoredWorld, StoresEvent, world_of, ev
 use Rattle.rapid_safety.proofs.Histories.{now_member}
 use Rattle.rapid_safety.proofs.Steps.{found, by_tick, by_packet, by_probe}
 use Rattle.rapid_model.proofs.Orders.{same_bytes_decides}
+use Rattle.rapid_world.specs.Framed.{FramedPacket, framed_packet, HasFrame}
 use Rattle.rapid_world.specs.Handed.{handed, told, crash_of}
 use Rattle.rapid_world.specs.Does.{Does, Hands, Probes}
 use Rattle.rapid_world.specs.Worlds.{IsRunOf}
@@ -232,17 +233,18 @@ probe_does s id k ok i p x are isopen e at ob =
     sees (Halted c) is h = cc
 
 -- a start, stored
-pub start_run : (s : StoredWorld) (p : Process) (seed : List ℕ) (ps : List Peer) (packets : List Packet) (q : Peer) → Open s →
+pub start_run : (s : StoredWorld) (p : Process) (seed : List ℕ) (ps : List Peer) (sent : List FramedPacket) (q : Peer) → Open s →
     list_any (has_identifier (identifier p)) (world_of s).peers ≡ false → is_some (running_at (world_of s) (endpoint p)) ≡ false → q ≡ added (joiner_node p seed) →
-    IsRunOf s ps packets → IsRunOf (with_event s (record { event = Start p seed; halts = false })) (ps ++ q ∷ []) packets
+    IsRunOf s ps sent → IsRunOf (with_event s (record { event = Start p seed; halts = false })) (ps ++ q ∷ []) sent
 unfolding world_step
-start_run s p seed ps packets q isopen fresh free is old =
+start_run s p seed ps sent q isopen fresh free is old =
     let next = one_more s (record { event = Start p seed; halts = false }) ∙ ap (λ o. cond (is_some o) (world_of s) (started (world_of s) p seed)) (start_taken s p seed fresh free) in
     record {
       params = old.params;
       members = old.members;
       peers = ap (λ (l : List Peer). l ++ q ∷ []) old.peers ∙ ap (λ (x : Peer). (world_of s).peers ++ x ∷ []) is ∙ sym (ap (λ (w : World). w.peers) next);
-      packets = old.packets ∙ sym (ap (λ (w : World). w.packets) next);
+      packets = old.packets ∙ sym (ap (λ (w : World). map framed_packet w.packets) next);
+      framed = subst (λ (w : World). All HasFrame w.packets) (sym next) old.framed;
     }
 
 whole : {A : Type 0} (xs : List A) → drop (length xs) xs ≡ []

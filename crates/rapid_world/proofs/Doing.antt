@@ -1,6 +1,8 @@
 -- Steps of a world, read off what they do to the peer at a place.
 use Rattle.std.proofs.Common.{◌≡◌, ℕ, Bool, true, false, cond, List, [], ◌∷◌, ◌++◌, map, length, drop, slice_get, slice_set, refl, sym, ap, subst, ◌∙◌, Option, Some, None}
-use Rattle.std.specs.Prelude.{IsTrue}
+use Rattle.std.specs.Prelude.{IsTrue, All}
+use Rattle.std.proofs.lemmas.List.{map-append}
+use Rattle.std.proofs.lemmas.List.Elements.{All-append}
 use Rattle.std.specs.List.{list_any}
 use Rattle.rapid_model.specs.Process.{Process, identifier}
 use Rattle.rapid_model.specs.Configuration.{Configuration, AreMembers}
@@ -14,6 +16,7 @@ use Rattle.rapid_model.specs.Run.{run, founded, WorldReport, ReportInstalled, re
 use Rattle.rapid_model.specs.StoredWorld.{StoredWorld, StoresEvent, world_of, event_refusal, with_event, is_halt}
 use Rattle.rapid_safety.proofs.Histories.{Lived}
 use Rattle.rapid_safety.proofs.Lived.{lived_run}
+use Rattle.rapid_world.specs.Framed.{FramedPacket, framed_packet, HasFrame}
 use Rattle.rapid_world.specs.Handed.{Handed, stopped, went_on, stepped, handed, told}
 use Rattle.rapid_world.specs.Worlds.{IsRunOf}
 use Rattle.rapid_world.specs.Does.{Does}
@@ -35,14 +38,17 @@ lives s are = lived_run s.founding s.events are
 
 -- ---- what a step does, stored
 
-pub done_run : (s : StoredWorld) (e : WorldEvent) (i : ℕ) (p : Peer) (f : Bool → Handed) (ps : List Peer) (packets : List Packet) (h : Bool) → Does s e i p f → IsRunOf s ps packets →
-    IsRunOf (with_event s (record { event = e; halts = h })) (slice_set ps i (f h).peer) (packets ++ (f h).packets)
-done_run s e i p f ps packets h does old =
+pub done_run : (s : StoredWorld) (e : WorldEvent) (i : ℕ) (p : Peer) (f : Bool → Handed) (ps : List Peer) (sent : List FramedPacket) (h : Bool) → Does s e i p f → All HasFrame (f h).packets → IsRunOf s ps sent →
+    IsRunOf (with_event s (record { event = e; halts = h })) (slice_set ps i (f h).peer) (sent ++ map framed_packet (f h).packets)
+done_run s e i p f ps sent h does framed old =
+    let all : (world_of s).packets ++ (f h).packets ≡ (world_of (with_event s (record { event = e; halts = h }))).packets =
+    sym (does.packets h) ∙ sym (ap (λ (w : World). w.packets) (one_more s _)) in
     record {
       params = old.params;
       members = old.members;
       peers = ap (λ (l : List Peer). slice_set l i (f h).peer) old.peers ∙ sym (does.peers h) ∙ sym (ap (λ (w : World). w.peers) (one_more s _));
-      packets = ap (λ (l : List Packet). l ++ (f h).packets) old.packets ∙ sym (does.packets h) ∙ sym (ap (λ (w : World). w.packets) (one_more s _));
+      packets = ap (λ (l : List FramedPacket). l ++ map framed_packet (f h).packets) old.packets ∙ sym (map-append framed_packet (world_of s).packets (f h).packets) ∙ ap (map framed_packet) all;
+      framed = subst (All HasFrame) all (All-append HasFrame (world_of s).packets (f h).packets old.framed framed);
     }
 
 pub done_stored : (s : StoredWorld) (e : WorldEvent) (i : ℕ) (p : Peer) (f : Bool → Handed) (h : Bool) (reports : List WorldReport) → Does s e i p f → reports ≡ (f h).reports →

@@ -1,6 +1,7 @@
 -- The founding of a world.
 use Rattle.std.proofs.Common.{◌≡◌, ℕ, zero, suc, ◌<◌, Bool, true, false, ◌||◌, List, [], ◌∷◌, arith, map, length, get_or, refl, ap, subst}
 use Rattle.std.specs.List.{list_any}
+use Rattle.std.proofs.lemmas.List.Elements.{All-nil}
 use Rattle.rapid_model.proofs.Orders.{same_bytes_decides}
 use Rattle.rapid_model.specs.Process.{Process, is_in, same_bytes}
 use Rattle.rapid_model.specs.Configuration.{Configuration, IsConfiguration, is_member}
@@ -8,6 +9,7 @@ use Rattle.rapid_model.specs.Node.{seed_node}
 use Rattle.rapid_model.specs.World.{Peer}
 use Rattle.rapid_model.specs.WorldStep.{added}
 use Rattle.rapid_model.specs.StoredWorld.{new_world, world_of}
+use Rattle.rapid_world.specs.Framed.{HasFrame}
 use Rattle.rapid_world.specs.Worlds.{IsRunOf}
 
 or_right : (x y : Bool) → y ≡ true → (x || y) ≡ true
@@ -24,4 +26,4 @@ is_there c ms i p same l read = subst (λ (l : List Process). is_in l p ≡ true
 
 pub founded_run : (c : Configuration) (ps : List Peer) → IsConfiguration c → ps ≡ map (λ p. added (seed_node c p)) c.members → IsRunOf (new_world c) ps []
 unfolding world_of
-founded_run c ps is e = record { params = is.params; members = is.members; peers = e; packets = refl }
+founded_run c ps is e = record { params = is.params; members = is.members; peers = e; packets = refl; framed = All-nil HasFrame }

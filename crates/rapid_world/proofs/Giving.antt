@@ -1,6 +1,7 @@
 -- A world with an event more.
 use Rattle.std.proofs.Common.{◌≡◌, ℕ, zero, suc, get_or, Bool, true, false, List, [], ◌∷◌, ◌++◌, map, slice_get, slice_set, refl, sym, ap, subst, ◌∙◌, Option, Some, None}
-use Rattle.std.specs.Prelude.{IsTrue, is_some}
+use Rattle.std.specs.Prelude.{IsTrue, is_some, All}
+use Rattle.std.proofs.lemmas.List.Elements.{All-nil}
 use Rattle.std.specs.List.{list_any}
 use Rattle.std.specs.Option.{option_map, option_to_list}
 use Rattle.std.proofs.lemmas.List.{map_push}
@@ -14,6 +15,7 @@ use Rattle.rapid_model.specs.StoredWorld.{StoredWorld, StoresEvent, with_event, 
 use Rattle.rapid_world.specs.declared.event.WorldEvent.{WorldEvent}
 use Rattle.rapid_world.specs.declared.report.Report.{Report}
 use Rattle.rapid_world.specs.Events.{event_of, marked_of, report_of}
+use Rattle.rapid_world.specs.Framed.{FramedPacket, framed_packet, HasFrame}
 use Rattle.rapid_world.specs.Handed.{Handed}
 use Rattle.rapid_world.specs.Worlds.{IsRunOf}
 use Rattle.rapid_world.specs.Does.{Does}
@@ -35,7 +37,7 @@ one_event founding events reserved pushed x now v same push =
     ∙ ap (λ s. with_event s (marked_of x)) v
 
 -- the peer at a place of the run is the one that is kept there
-pub at_place : (s : StoredWorld) (now : StoredWorld) (ps : List Peer) (packets : List Packet) (i : ℕ) (p : Peer) → IsRunOf s ps packets → s ≡ now → slice_get (world_of now).peers i ≡ Some p → slice_get ps i ≡ Some p
+pub at_place : (s : StoredWorld) (now : StoredWorld) (ps : List Peer) (packets : List FramedPacket) (i : ℕ) (p : Peer) → IsRunOf s ps packets → s ≡ now → slice_get (world_of now).peers i ≡ Some p → slice_get ps i ≡ Some p
 at_place s now ps packets i p run same at = ap (λ (l : List Peer). slice_get l i) (run.peers ∙ ap (λ (x : StoredWorld). (world_of x).peers) same) ∙ at
 
 -- what is read at the place of the peer is the peer
@@ -45,18 +47,18 @@ read_at (y ∷ ys) zero p x h e = cc
 read_at (y ∷ ys) (suc i) p x h e = read_at ys i p x h e
 
 -- nothing was changed
-pub kept_run : (s t : StoredWorld) (ps qs : List Peer) (sent after : List Packet) → IsRunOf s ps sent → t ≡ s → qs ≡ ps → after ≡ sent → IsRunOf t qs after
+pub kept_run : (s t : StoredWorld) (ps qs : List Peer) (sent after : List FramedPacket) → IsRunOf s ps sent → t ≡ s → qs ≡ ps → after ≡ sent → IsRunOf t qs after
 kept_run s t ps qs sent after run same peers packets =
     subst (λ x. IsRunOf x qs after) (sym same) (subst (λ l. IsRunOf s l after) (sym peers) (subst (λ l. IsRunOf s ps l) (sym packets) run))
 
-pub given_run : (now : StoredWorld) (founding : Configuration) (events reserved pushed : List (WorldEvent × Bool)) (x : WorldEvent × Bool) (ps qs : List Peer) (packets after : List Packet) (i : ℕ) (p : Peer) (f : Bool → Handed) →
+pub given_run : (now : StoredWorld) (founding : Configuration) (events reserved pushed : List (WorldEvent × Bool)) (x : WorldEvent × Bool) (ps qs : List Peer) (packets after : List FramedPacket) (i : ℕ) (p : Peer) (f : Bool → Handed) →
     stored_of founding events ≡ now → reserved ≡ events → pushed ≡ reserved ++ x ∷ [] → IsRunOf (stored_of founding events) ps packets → Does now (event_of x.0) i p f →
-    qs ≡ slice_set ps i (f x.1).peer → after ≡ packets ++ (f x.1).packets → IsRunOf (stored_of founding pushed) qs after
-given_run now founding events reserved pushed x ps qs packets after i p f v same push old does peers sent =
-    let done = done_run now (event_of x.0) i p f ps packets (x.1) does (subst (λ s. IsRunOf s ps packets) v old) in
+    qs ≡ slice_set ps i (f x.1).peer → after ≡ packets ++ map framed_packet (f x.1).packets → All HasFrame (f x.1).packets → IsRunOf (stored_of founding pushed) qs after
+given_run now founding events reserved pushed x ps qs packets after i p f v same push old does peers sent framed =
+    let done = done_run now (event_of x.0) i p f ps packets (x.1) does framed (subst (λ s. IsRunOf s ps packets) v old) in
     subst (λ s. IsRunOf s qs after) (sym (one_event founding events reserved pushed x now v same push))
     (subst (λ l. IsRunOf (with_event now (marked_of x)) qs l) (sym sent)
-    (subst (λ l. IsRunOf (with_event now (marked_of x)) l (packets ++ (f x.1).packets)) (sym peers) done))
+    (subst (λ l. IsRunOf (with_event now (marked_of x)) l (packets ++ map framed_packet (f x.1).packets)) (sym peers) done))
 
 pub given_stored : (now : StoredWorld) (founding : Configuration) (events reserved pushed : List (WorldEvent × Bool)) (x : WorldEvent × Bool) (i : ℕ) (p : Peer) (f : Bool → Handed) (reports : List WorldReport) →
     stored_of founding events ≡ now → reserved ≡ events → pushed ≡ reserved ++ x ∷ [] → Does now (event_of x.0) i p f → reports ≡ (f x.1).reports → (x.1 ≡ true → IsTrue (list_any is_halt (f x.1).reports)) →
@@ -76,12 +78,19 @@ one_report before after o e none = ap (map report_of) (e ∙ ap (λ (l : List Re
 pub no_reports : (rs : List Report) → rs ≡ [] → map report_of rs ≡ []
 no_reports rs e = ap (map report_of) e
 
-pub nothing_more : (ps : List Packet) → ps ≡ ps ++ []
+pub nothing_more : (ps : List FramedPacket) → ps ≡ ps ++ []
 nothing_more [] = refl
 nothing_more (p ∷ ps) = ap (λ l. p ∷ l) (nothing_more ps)
 
+-- a step that says nothing
+pub none_more : (sent : List FramedPacket) (ps : List Packet) → ps ≡ [] → sent ≡ sent ++ map framed_packet ps
+none_more sent ps none = nothing_more sent ∙ sym (ap (λ (l : List Packet). sent ++ map framed_packet l) none)
+
+pub none_framed : (ps : List Packet) → ps ≡ [] → All HasFrame ps
+none_framed ps none = subst (All HasFrame) (sym none) (All-nil HasFrame)
+
 -- a start
-pub joined_run : (now : StoredWorld) (founding : Configuration) (events reserved pushed : List (WorldEvent × Bool)) (me : List ℕ) (seed : List ℕ) (x : WorldEvent × Bool) (ps : List Peer) (packets : List Packet) (q : Peer) →
+pub joined_run : (now : StoredWorld) (founding : Configuration) (events reserved pushed : List (WorldEvent × Bool)) (me : List ℕ) (seed : List ℕ) (x : WorldEvent × Bool) (ps : List Peer) (packets : List FramedPacket) (q : Peer) →
     stored_of founding events ≡ now → reserved ≡ events → pushed ≡ reserved ++ x ∷ [] → marked_of x ≡ record { event = Start me seed; halts = false } → IsRunOf (stored_of founding events) ps packets → Open now →
     list_any (has_identifier (identifier me)) (world_of now).peers ≡ false → is_some (running_at (world_of now) (endpoint me)) ≡ false → q ≡ added (joiner_node me seed) →
     IsRunOf (stored_of founding pushed) (ps ++ q ∷ []) packets

@@ -1,5 +1,6 @@
 pub mod Others
 pub mod Packets
+pub mod Framing
 pub mod Mails
 pub mod Taking
 pub mod Probing

@@ -4,7 +4,7 @@ use Rattle.std.specs.Prelude.{nat_lt}
 use Rattle.std.specs.List.Sorted.{IsPartitionPoint, IsPartitionedBy}
 use Rattle.std.proofs.lemmas.List.{length-append}
 use Rattle.std.proofs.lemmas.Option.{slice_get_past}
-use Rattle.rapid_model.specs.World.{Packet}
+use Rattle.rapid_world.specs.Framed.{FramedPacket}
 use Rattle.rapid_world.specs.Sent.{Sent, all_packets, AreNumbered, numbered_packet}
 use Rattle.rapid_world.proofs.Packets.{get_left, get_right}
 
@@ -113,7 +113,7 @@ found_from n k (s ∷ ss) total (suc i) d h l w p =
 abbrev Points : ℕ → List Sent → ℕ → Type 0
 Points k ss i = IsPartitionPoint (λ s. begins_before k s ≡ true) (λ s. begins_before k s ≡ false) ss i
 
-zero_or_not : (k : ℕ) (x : Option Packet) → (0 < k → x ≡ None) → cond (k == 0) None x ≡ None
+zero_or_not : (k : ℕ) (x : Option FramedPacket) → (0 < k → x ≡ None) → cond (k == 0) None x ≡ None
 zero_or_not k x h = by (k == 0) refl
   where
     by : (b : Bool) → (k == 0) ≡ b → cond b None x ≡ None

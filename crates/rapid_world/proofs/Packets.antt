@@ -1,14 +1,12 @@
--- Packets of outputs, counted and found by their places.
+-- Packets of framed outputs, counted and found by their places.
 use Rattle.std.proofs.Common.{◌≡◌, ℕ, zero, suc, ◌+◌, ◌-◌, ◌<◌, ◌≤◌, List, [], ◌∷◌, ◌++◌, map, length, get_or, take, drop, slice_get, refl, sym, ap, subst, ◌∙◌, Option, Some, None, arith}
 use Rattle.std.specs.Prelude.{flat_map}
 use Rattle.std.specs.Option.{option_map}
 use Rattle.std.proofs.lemmas.List.{length-map, length-append, drop_more, drop_all, take_more}
 use Rattle.std.proofs.lemmas.Option.{slice_get-map, slice_get_past}
 use Rattle.rapid_model.specs.Process.{Process, endpoint}
-use Rattle.rapid_model.specs.Message.{Message}
-use Rattle.rapid_model.specs.Node.{Destination, To, Others, Output}
-use Rattle.rapid_model.specs.World.{Packet}
-use Rattle.rapid_model.specs.Packets.{packets_of, packets_to, packet_to}
+use Rattle.rapid_model.specs.Node.{Destination, To, Others}
+use Rattle.rapid_world.specs.Framed.{FramedPacket, FramedOutput, frames_of, frames_to, frame_to}
 
 -- what stands in the first of two lists, and in the second
 pub get_left : {A : Type 0} (xs ys : List A) (i : ℕ) → i < length xs → slice_get (xs ++ ys) i ≡ slice_get xs i
@@ -21,48 +19,48 @@ get_right [] ys i h = let e : i ≡ i - 0 = omega arith in ap (slice_get ys) e
 get_right (x ∷ xs) ys zero h = absurd (omega arith)
 get_right (x ∷ xs) ys (suc i) h = let e : i - length xs ≡ suc i - suc (length xs) = omega arith in get_right xs ys i (omega arith) ∙ ap (slice_get ys) e
 
-abbrev made : List Process → List Output → List Packet
-made rs os = flat_map (packets_of rs) os
+abbrev made : List Process → List FramedOutput → List FramedPacket
+made rs os = flat_map (frames_of rs) os
 
 -- an output to the others makes as many packets as they are
-pub count_of : (rs : List Process) (o : Output) → o.to ≡ Others → length (packets_of rs o) ≡ length rs
-count_of rs o e = ap (λ (t : Destination). length (packets_to rs o.message t)) e ∙ length-map rs (λ p. packet_to o.message (endpoint p))
+pub count_of : (rs : List Process) (o : FramedOutput) → o.to ≡ Others → length (frames_of rs o) ≡ length rs
+count_of rs o e = ap (λ (t : Destination). length (frames_to rs o.bytes t)) e ∙ length-map rs (λ p. frame_to o.bytes (endpoint p))
 
 -- the packets of one output more
-pub made_more : (rs : List Process) (os : List Output) (i : ℕ) (d : Output) → i < length os → made rs (drop i os) ≡ packets_of rs (get_or os i d) ++ made rs (drop (i + 1) os)
+pub made_more : (rs : List Process) (os : List FramedOutput) (i : ℕ) (d : FramedOutput) → i < length os → made rs (drop i os) ≡ frames_of rs (get_or os i d) ++ made rs (drop (i + 1) os)
 made_more rs os i d h = ap (made rs) (drop_more os i d h)
 
-made_append : (rs : List Process) (xs ys : List Output) → made rs (xs ++ ys) ≡ made rs xs ++ made rs ys
+made_append : (rs : List Process) (xs ys : List FramedOutput) → made rs (xs ++ ys) ≡ made rs xs ++ made rs ys
 made_append rs [] ys = refl
-made_append rs (x ∷ xs) ys = ap (λ l. packets_of rs x ++ l) (made_append rs xs ys) ∙ sym (Rattle.std.proofs.Common.append_assoc (packets_of rs x) (made rs xs) (made rs ys))
+made_append rs (x ∷ xs) ys = ap (λ l. frames_of rs x ++ l) (made_append rs xs ys) ∙ sym (Rattle.std.proofs.Common.append_assoc (frames_of rs x) (made rs xs) (made rs ys))
 
 nil_end : {A : Type 0} (xs : List A) → xs ++ [] ≡ xs
 nil_end [] = refl
 nil_end (x ∷ xs) = ap (λ l. x ∷ l) (nil_end xs)
 
-pub count_more : (rs : List Process) (os : List Output) (i : ℕ) (d : Output) → i < length os → length (made rs (take (i + 1) os)) ≡ length (made rs (take i os)) + length (packets_of rs (get_or os i d))
+pub count_more : (rs : List Process) (os : List FramedOutput) (i : ℕ) (d : FramedOutput) → i < length os → length (made rs (take (i + 1) os)) ≡ length (made rs (take i os)) + length (frames_of rs (get_or os i d))
 count_more rs os i d h =
     ap (λ l. length (made rs l)) (take_more os i d h)
-    ∙ ap length (made_append rs (take i os) (get_or os i d ∷ []) ∙ ap (λ l. made rs (take i os) ++ l) (nil_end (packets_of rs (get_or os i d))))
-    ∙ length-append (made rs (take i os)) (packets_of rs (get_or os i d))
+    ∙ ap length (made_append rs (take i os) (get_or os i d ∷ []) ∙ ap (λ l. made rs (take i os) ++ l) (nil_end (frames_of rs (get_or os i d))))
+    ∙ length-append (made rs (take i os)) (frames_of rs (get_or os i d))
 
 -- the packets to the others, by place
-pub to_others : (rs : List Process) (m : Message) (i : ℕ) → slice_get (packets_to rs m Others) i ≡ option_map (λ p. packet_to m (endpoint p)) (slice_get rs i)
-to_others rs m i = slice_get-map (λ p. packet_to m (endpoint p)) rs i
+pub to_others : (rs : List Process) (m : List ℕ) (i : ℕ) → slice_get (frames_to rs m Others) i ≡ option_map (λ p. frame_to m (endpoint p)) (slice_get rs i)
+to_others rs m i = slice_get-map (λ p. frame_to m (endpoint p)) rs i
 
-pub to_one : (rs : List Process) (m : Message) (e : List ℕ) (i : ℕ) → 0 < i → slice_get (packets_to rs m (To e)) i ≡ None
-to_one rs m e i h = slice_get_past (packet_to m e ∷ []) i (omega arith)
+pub to_one : (rs : List Process) (m : List ℕ) (e : List ℕ) (i : ℕ) → 0 < i → slice_get (frames_to rs m (To e)) i ≡ None
+to_one rs m e i h = slice_get_past (frame_to m e ∷ []) i (omega arith)
 
 -- a place that is not among the packets of an output
-pub passes : (rs : List Process) (os : List Output) (i : ℕ) (d : Output) (n : ℕ) → i < length os → length (packets_of rs (get_or os i d)) ≤ n →
-    slice_get (made rs (drop i os)) n ≡ slice_get (made rs (drop (i + 1) os)) (n - length (packets_of rs (get_or os i d)))
-passes rs os i d n h past = ap (λ l. slice_get l n) (made_more rs os i d h) ∙ get_right (packets_of rs (get_or os i d)) (made rs (drop (i + 1) os)) n past
+pub passes : (rs : List Process) (os : List FramedOutput) (i : ℕ) (d : FramedOutput) (n : ℕ) → i < length os → length (frames_of rs (get_or os i d)) ≤ n →
+    slice_get (made rs (drop i os)) n ≡ slice_get (made rs (drop (i + 1) os)) (n - length (frames_of rs (get_or os i d)))
+passes rs os i d n h past = ap (λ l. slice_get l n) (made_more rs os i d h) ∙ get_right (frames_of rs (get_or os i d)) (made rs (drop (i + 1) os)) n past
 
 -- one that is
-pub stops : (rs : List Process) (os : List Output) (i : ℕ) (d : Output) (n : ℕ) → i < length os → n < length (packets_of rs (get_or os i d)) →
-    slice_get (made rs (drop i os)) n ≡ slice_get (packets_of rs (get_or os i d)) n
-stops rs os i d n h within = ap (λ l. slice_get l n) (made_more rs os i d h) ∙ get_left (packets_of rs (get_or os i d)) (made rs (drop (i + 1) os)) n within
+pub stops : (rs : List Process) (os : List FramedOutput) (i : ℕ) (d : FramedOutput) (n : ℕ) → i < length os → n < length (frames_of rs (get_or os i d)) →
+    slice_get (made rs (drop i os)) n ≡ slice_get (frames_of rs (get_or os i d)) n
+stops rs os i d n h within = ap (λ l. slice_get l n) (made_more rs os i d h) ∙ get_left (frames_of rs (get_or os i d)) (made rs (drop (i + 1) os)) n within
 
 -- and none where no output is left
-pub none_left : (rs : List Process) (os : List Output) (i n : ℕ) → length os ≤ i → slice_get (made rs (drop i os)) n ≡ None
+pub none_left : (rs : List Process) (os : List FramedOutput) (i n : ℕ) → length os ≤ i → slice_get (made rs (drop i os)) n ≡ None
 none_left rs os i n h = ap (λ l. slice_get (made rs l) n) (drop_all i os h)

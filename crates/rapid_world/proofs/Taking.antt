@@ -1,6 +1,7 @@
 -- What becomes of a peer whose node takes an event.
 use Rattle.std.proofs.Common.{◌≡◌, ℕ, Bool, true, false, cond, List, [], ◌∷◌, length, refl, sym, ap, subst, ◌∙◌, Option, Some, None, arith}
-use Rattle.std.specs.Prelude.{nat_lt, is_some, flat_map}
+use Rattle.std.specs.Prelude.{nat_lt, is_some, flat_map, map, All}
+use Rattle.std.proofs.lemmas.List.Elements.{All-nil}
 use Rattle.rapid_model.specs.Process.{Process, identifier}
 use Rattle.rapid_model.specs.Configuration.{Configuration}
 use Rattle.rapid_model.specs.Monitors as monitors
@@ -9,17 +10,17 @@ use Rattle.rapid_model.specs.NodeStep.{node_step}
 use Rattle.rapid_model.specs.Packets.{other_members, packets_of}
 use Rattle.rapid_model.specs.World.{Peer}
 use Rattle.rapid_model.specs.WorldStep.{windows_in}
+use Rattle.rapid_node.specs.Quiet.{IsQuiet}
 use Rattle.rapid_node.specs.Steps.{HasOutcome, IsFault}
 use Rattle.rapid_node.specs.declared.fault.NodeFault.{NodeFault}
 use Rattle.rapid_node.specs.declared.fault.NodeFault.TheVariants as fault
 use Rattle.rapid_world.specs.declared.windows.Windows.{Windows}
 use Rattle.rapid_world.specs.declared.windows.Windows.TheVariants.{Fresh, Left, Kept}
-use Rattle.rapid_world.specs.Handed.{Handed, stopped, went_on, stepped, handed, Keeps, KeepsAt, wants_memory}
+use Rattle.rapid_world.specs.Framed.{FramedPacket, framed_packet, HasFrame}
+use Rattle.rapid_world.specs.Handed.{Handed, sent_by, stopped, went_on, stepped, handed, Keeps, KeepsAt, wants_memory}
 use Rattle.rapid_model.specs.Run.{WorldReport, ReportInstalled, ReportHalted}
 use Rattle.rapid_model.specs.NodeReports.{installed_report}
 use Rattle.rapid_world.specs.Windows.{windows_of, entered, left}
-use Rattle.rapid_world.specs.Ready.{IsReady}
-use Rattle.rapid_world.specs.declared.peer.Ready.{Ready}
 
 -- the peer of these parts
 abbrev pub peer_of : Node → Bool → Windows → Peer
@@ -107,12 +108,20 @@ ok_peer ws ws' n new k h p e sent v there keeps none w =
     ∙ sym (ap (λ (x : Handed). x.peer) (ap (handed (peer_of n k ws) e) none ∙ goes_on (peer_of n k ws) e t.0 t.1)) in
     subst (λ (q : Peer). peer_of new k ws' ≡ (handed q e h).peer) v done
 
-pub ok_packets : (n new : Node) (h : Bool) (p : Peer) (e : Event) (sent : List Output) (rs : List Process) (out : List Rattle.rapid_model.specs.World.Packet) → n ≡ p.node → There n e new sent → h ≡ false →
-    rs ≡ other_members (member_in p.node) p.node.me → out ≡ flat_map (packets_of rs) sent → out ≡ (handed p e h).packets
-ok_packets n new h p e sent rs out at there none to made =
+-- what is sent
+ok_packets : (n new : Node) (h : Bool) (p : Peer) (e : Event) (sent : List Output) → n ≡ p.node → There n e new sent → h ≡ false → sent_by p.node sent ≡ (handed p e h).packets
+ok_packets n new h p e sent at there none =
     let t = took p e n new sent at there in
-    made ∙ ap (λ l. flat_map (packets_of l) sent) to ∙ ap (flat_map (packets_of (other_members (member_in p.node) p.node.me))) t.3
-    ∙ sym (ap (λ (x : Handed). x.packets) (ap (handed p e) none ∙ goes_on p e t.0 t.1))
+    ap (sent_by p.node) t.3 ∙ sym (ap (λ (x : Handed). x.packets) (ap (handed p e) none ∙ goes_on p e t.0 t.1))
+
+pub ok_sending : (n new : Node) (h : Bool) (p : Peer) (e : Event) (sent : List Output) (out : List FramedPacket) → n ≡ p.node → There n e new sent → h ≡ false →
+    out ≡ map framed_packet (sent_by n sent) → out ≡ map framed_packet (handed p e h).packets
+ok_sending n new h p e sent out at there none made =
+    made ∙ ap (λ (x : Node). map framed_packet (sent_by x sent)) at ∙ ap (map framed_packet) (ok_packets n new h p e sent at there none)
+
+pub ok_framed : (n new : Node) (h : Bool) (p : Peer) (e : Event) (sent : List Output) → n ≡ p.node → There n e new sent → h ≡ false → All HasFrame (sent_by n sent) → All HasFrame (handed p e h).packets
+ok_framed n new h p e sent at there none framed =
+    subst (All HasFrame) (ap (λ (x : Node). sent_by x sent) at ∙ ok_packets n new h p e sent at there none) framed
 
 named : (a b : Node) (c : Option Configuration) → a.me ≡ b.me → installed_report a c ≡ installed_report b c
 named a b None same = refl
@@ -133,20 +142,6 @@ pub empty : {A : Type 0} (xs : List A) → length xs ≡ 0 → xs ≡ []
 empty [] e = refl
 empty (x ∷ xs) e = absurd (omega (arith, e))
 
--- what has to be there for a step is there for the next, unless it installed something
-pub still_ready : (p : Peer) (e : Event) (n new : Node) (sent : List Output) (r : Ready) → n ≡ p.node → There n e new sent → KeepsAt p.node e → nat_lt (length n.installed) (length new.installed) ≡ false →
-    IsReady p.node r → IsReady new r
-still_ready p e n new sent r at there keeps none ready =
-    let t = took p e n new sent at there in
-    let keep : Keeps p.node t.0.node = keeps t.0 t.1 in
-    let quiet : has_installed p.node t.0.node ≡ false = ap (λ (x : Node). has_installed x t.0.node) (sym at) ∙ ap (λ (x : Node). has_installed n x) (sym t.2) ∙ none in
-    subst (λ (x : Node). IsReady x r) (sym t.2)
-    (record {
-      recipients = ready.recipients ∙ sym (ap (λ c. other_members c p.node.me) (keep.member quiet)) ∙ sym (ap (other_members (member_in t.0.node)) keep.me);
-      halted = ready.halted ∙ sym (keep.halted quiet);
-      is_member = ready.is_member ∙ sym (ap is_some (keep.member quiet));
-    })
-
 pub stop_peer : (ws ws' : Windows) (n new : Node) (k h was : Bool) (p : Peer) (e : Event) → peer_of n k ws ≡ p → handed p e h ≡ stopped p → new ≡ halt p.node →
     was ≡ is_some (member_in p.node) → ws' ≡ left was ws → peer_of new k ws' ≡ (handed p e h).peer
 stop_peer ws ws' n new k h was p e v stops halts m w =
@@ -165,8 +160,41 @@ faulted p e n new f h at up stop is =
     let r = fault_stops p e new f up (subst (λ (x : Node). IsFault x e new f) at stop) in
     (ap (handed p e) is ∙ r.0, r.1)
 
-pub no_packets : (p : Peer) (e : Event) (h : Bool) (out : List Rattle.rapid_model.specs.World.Packet) → handed p e h ≡ stopped p → out ≡ [] → out ≡ (handed p e h).packets
-no_packets p e h out stops none = none ∙ sym (ap (λ (x : Handed). x.packets) stops)
+pub no_packets : (p : Peer) (e : Event) (h : Bool) → handed p e h ≡ stopped p → (handed p e h).packets ≡ []
+no_packets p e h stops = ap (λ (x : Handed). x.packets) stops
+
+pub no_sending : (p : Peer) (e : Event) (h : Bool) (out : List FramedPacket) → handed p e h ≡ stopped p → out ≡ [] → out ≡ map framed_packet (handed p e h).packets
+no_sending p e h out stops none = none ∙ sym (ap (map framed_packet) (no_packets p e h stops))
+
+pub none_framed : (p : Peer) (e : Event) (h : Bool) → handed p e h ≡ stopped p → All HasFrame (handed p e h).packets
+none_framed p e h stops = subst (All HasFrame) (sym (no_packets p e h stops)) (All-nil HasFrame)
 
 pub tells_halt : (p : Peer) (e : Event) (h : Bool) (id : List ℕ) (rep : List WorldReport) → handed p e h ≡ stopped p → id ≡ identifier p.node.me → rep ≡ ReportHalted id ∷ [] → rep ≡ (handed p e h).reports
 tells_halt p e h id rep stops is made = made ∙ ap (λ i. ReportHalted i ∷ []) is ∙ sym (ap (λ (x : Handed). x.reports) stops)
+
+-- ---- a step that says nothing
+
+-- nothing is sent or reported
+pub quiet_step : (p : Peer) (e : Event) (n new : Node) (sent : List Output) → n ≡ p.node → There n e new sent → IsQuiet p.node e → (sent ≡ []) × (has_installed n new ≡ false)
+quiet_step p e n new sent at there quiet =
+    let t = took p e n new sent at there in
+    let says = quiet t.0 t.1 in (
+      t.3 ∙ says.sends,
+      ap (λ (x : Node). has_installed x new) at ∙ ap (has_installed p.node) t.2 ∙ says.installs,
+    )
+
+pub quiet_packets : (n new : Node) (h : Bool) (p : Peer) (e : Event) (sent : List Output) → n ≡ p.node → There n e new sent → h ≡ false → IsQuiet p.node e → (handed p e h).packets ≡ []
+quiet_packets n new h p e sent at there none quiet =
+    sym (ok_packets n new h p e sent at there none) ∙ ap (sent_by p.node) (quiet_step p e n new sent at there quiet).0
+
+pub quiet_peer : (ws : Windows) (n new : Node) (k h : Bool) (p : Peer) (e : Event) (sent : List Output) → peer_of n k ws ≡ p → There n e new sent → KeepsAt p.node e → h ≡ false → IsQuiet p.node e →
+    peer_of new k ws ≡ (handed p e h).peer
+quiet_peer ws n new k h p e sent v there keeps none quiet =
+    let at : n ≡ p.node = ap (λ (q : Peer). q.node) v in
+    ok_peer ws ws n new k h p e sent v there keeps none (sym (ap (λ b. entered b ws) (quiet_step p e n new sent at there quiet).1))
+
+pub quiet_reports : (n new : Node) (h : Bool) (p : Peer) (e : Event) (sent : List Output) (rep : List WorldReport) → n ≡ p.node → There n e new sent → KeepsAt p.node e → h ≡ false → IsQuiet p.node e →
+    rep ≡ [] → rep ≡ (handed p e h).reports
+quiet_reports n new h p e sent rep at there keeps none quiet made =
+    ok_reports n new h p e sent (length n.installed) rep at there keeps none refl
+    (made ∙ sym (ap (λ b. cond b (installed_report new (configuration_of new)) []) (quiet_step p e n new sent at there quiet).1))

@@ -2,7 +2,7 @@
 use Rattle.std.specs.Prelude.{◌≡◌, ℕ, Bool, true, false, is_some, List, [], ◌∷◌, flat_map, slice_get, if◌then◌else◌, Option, Some, None}
 use Rattle.rapid_model.specs.Process.{identifier}
 use Rattle.rapid_model.specs.Monitors.{edge_at}
-use Rattle.rapid_model.specs.Node.{Node, Event, Outcome, outputs, configuration_of, member_in, has_installed, is_halted, halt}
+use Rattle.rapid_model.specs.Node.{Node, Event, Outcome, Output, outputs, configuration_of, member_in, has_installed, is_halted, halt}
 use Rattle.rapid_model.specs.NodeStep.{node_step}
 use Rattle.rapid_model.specs.Packets.{other_members, packets_of}
 use Rattle.rapid_model.specs.World.{Peer, Packet}
@@ -19,6 +19,10 @@ pub record Handed : Type 0 where
   pub packets : List Packet
   pub reports : List WorldReport
 
+-- The packets of what a node sends.
+abbrev pub sent_by : Node → List Output → List Packet
+sent_by n os = flat_map (packets_of (other_members (member_in n) n.me)) os
+
 -- Its node halts, and says nothing.
 abbrev pub stopped : Peer → Handed
 stopped p = record { peer = record p { node = halt p.node }; packets = []; reports = ReportHalted (identifier p.node.me) ∷ [] }
@@ -28,7 +32,7 @@ abbrev pub went_on : Peer → Outcome → Handed
 went_on p o =
     record {
       peer = record p { node = o.node; edges = edges_after p o.node };
-      packets = flat_map (packets_of (other_members (member_in p.node) p.node.me)) (outputs p.node.me o.effects);
+      packets = sent_by p.node (outputs p.node.me o.effects);
       reports = if has_installed p.node o.node then installed_report p.node (configuration_of o.node) else [];
     }
 

@@ -2,8 +2,8 @@ pub mod Codes
 pub mod Does
 pub mod Events
 pub mod Found
+pub mod Framed
 pub mod Handed
-pub mod Ready
 pub mod Recipients
 pub mod Sent
 pub mod Windows

@@ -1,15 +1,15 @@
 -- What was sent, by steps.
 use Rattle.std.specs.Prelude.{◌≡◌, ℕ, ◌+◌, ◌-◌, ◌==◌, List, [], ◌∷◌, length, flat_map, slice_get, if◌then◌else◌, Option, None}
-use Rattle.rapid_model.specs.World.{Packet}
+use Rattle.rapid_world.specs.Framed.{FramedPacket}
 
 -- What was sent in one step.
 pub record Sent : Type 0 where
   -- how many packets were sent before it
   pub first : ℕ
-  pub packets : List Packet
+  pub packets : List FramedPacket
 
 -- The packets of these steps, in order.
-abbrev pub all_packets : List Sent → List Packet
+abbrev pub all_packets : List Sent → List FramedPacket
 all_packets ss = flat_map (λ s. s.packets) ss
 
 -- After n packets these steps follow, each of which begins where the one before ends; so many were sent in the end.
@@ -19,9 +19,9 @@ AreNumbered n (s ∷ ss) total = (s.first ≡ n) × AreNumbered (n + length s.pa
 
 -- What a box of packets holds, and for how many further steps it has the room.
 pub record Mailbox : Type 0 where
-  pub packets : List Packet
+  pub packets : List FramedPacket
   pub room : ℕ
 
 -- The packet of a number, from 1.
-abbrev pub numbered_packet : List Packet → ℕ → Option Packet
+abbrev pub numbered_packet : List FramedPacket → ℕ → Option FramedPacket
 numbered_packet ps k = if k == 0 then None else slice_get ps (k - 1)

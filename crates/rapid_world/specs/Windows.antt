@@ -5,7 +5,7 @@ use Rattle.rapid_model.specs.Process.{Process}
 use Rattle.rapid_model.specs.Configuration.{Configuration, configuration_id}
 use Rattle.rapid_model.specs.Monitors as model
 use Rattle.rapid_model.specs.Node.{Node, configuration_of, member_in}
-use Rattle.rapid_model.specs.World.{Packet}
+use Rattle.rapid_world.specs.Framed.{FramedPacket}
 use Rattle.rapid_model.specs.WorldStep.{windows_in}
 use Rattle.rapid_monitor.specs.declared.edge.Verdict.{Verdict}
 use Rattle.rapid_monitor.specs.declared.edge.Verdict.TheVariants.{Up, Down}
@@ -30,7 +30,7 @@ left was_member (Left b) = Left b
 left was_member (Kept m) = Kept m
 
 -- The packets of what was sent, if anything was.
-abbrev pub packets_in : Option Sent → List Packet
+abbrev pub packets_in : Option Sent → List FramedPacket
 packets_in None = []
 packets_in (Some s) = s.packets
 

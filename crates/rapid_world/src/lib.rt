@@ -6,6 +6,7 @@
 mod error;
 mod event;
 mod founding;
+mod framed;
 mod handing;
 mod keys;
 mod lookups;

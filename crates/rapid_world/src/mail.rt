@@ -2,17 +2,16 @@
 
 ghost use Rattle.std.specs.Prelude.{◌≡◌, ◌<◌, ◌-◌, ◌++◌, length, OnOk, vec_len, vec_capacity, nat_lt, ℕ, ◌∷◌, []};
 ghost use Rattle.std.specs.Option.{option_map};
-ghost use Rattle.rapid_model.specs.Packets.{packet_to};
+ghost use Rattle.rapid_world.specs.Framed.{frame_to};
 ghost use Rattle.rapid_world.specs.Sent.{AreNumbered, all_packets, numbered_packet};
 
 use crate::sending::Sending;
 use rapid_endpoint::Endpoint;
-use rapid_message::Message;
 use std::alloc::{AllocError, Global};
 use std::marker::Model;
 
-/// All packets that were ever sent, by the steps in which they were. They are numbered from 1 in
-/// the order sent.
+/// All packets that were ever sent, by the steps in which they were, each an endpoint and a frame.
+/// They are numbered from 1 in the order sent.
 #[derive(Debug, Drop)]
 pub(crate) struct Mail {
     sendings: Vec<Sending>,
@@ -87,18 +86,18 @@ impl Mail {
         push_within(&mut self.sendings, sending);
     }
 
-    /// The packet with a number: where it goes, and its message.
-    pub(crate) fn packet(&self, number: u64) -> Option<(Endpoint, &Message)>
-        ensures { option_map (λ x. packet_to x.1.now x.0) result ≡ numbered_packet self.now.packets number }
+    /// The packet with a number: where it goes, and its frame.
+    pub(crate) fn packet(&self, number: u64) -> Option<(Endpoint, &[u8])>
+        ensures { option_map (λ x. frame_to x.1.now x.0) result ≡ numbered_packet self.now.packets number }
     {
         find_numbered(self.sendings.as_slice(), number)
     }
 }
 
 /// The packet with a number, in steps that are numbered from 1.
-fn find_numbered(sendings: &[Sending], number: u64) -> Option<(Endpoint, &Message)>
+fn find_numbered(sendings: &[Sending], number: u64) -> Option<(Endpoint, &[u8])>
     requires { (total : ℕ) × AreNumbered 0 sendings.now total }
-    ensures { option_map (λ x. packet_to x.1.now x.0) result ≡ numbered_packet (all_packets sendings.now) number }
+    ensures { option_map (λ x. frame_to x.1.now x.0) result ≡ numbered_packet (all_packets sendings.now) number }
 {
     let after = sendings.partition_point(|sending| is_before(sending, number));
     let Some(last) = after.checked_sub(1) else {

@@ -1,6 +1,6 @@
 // One node of a world, with its probe windows.
 
-ghost use Rattle.std.specs.Prelude.{◌≡◌, ◌<◌, ℕ, true, false, is_some, slice_set, IfOk, OnOk, IfSome, OnErr, Option, Some, None};
+ghost use Rattle.std.specs.Prelude.{◌≡◌, ◌<◌, [], All, map, ℕ, true, false, is_some, slice_set, IfOk, OnOk, IfSome, OnErr, Option, Some, None};
 ghost use Rattle.std.specs.Option.{option_map, option_to_list};
 ghost use Rattle.rapid_model.specs.Configuration.{is_member};
 ghost use Rattle.rapid_model.specs.Edge.{Edge, probed};
@@ -8,15 +8,17 @@ ghost use Rattle.rapid_model.specs.Monitors.{edge_at};
 ghost use Rattle.rapid_model.specs.Node as model;
 ghost use Rattle.rapid_model.specs.World as world;
 ghost use Rattle.rapid_model.specs.WorldStep as step;
+ghost use Rattle.rapid_node.specs.Quiet.{IsQuiet};
 ghost use Rattle.rapid_node.specs.Steps.{event_of};
 ghost use Rattle.rapid_world.specs.Events.{report_of};
+ghost use Rattle.rapid_world.specs.Framed.{framed_packet, HasFrame};
 ghost use Rattle.rapid_world.specs.Handed.{handed, KeepsAt, wants_memory};
-ghost use Rattle.rapid_world.specs.Ready.{IsReady};
 ghost use Rattle.rapid_world.specs.Windows.{packets_in, edge_of, says_down, windows_of};
 
-use crate::recipients::{Recipients, member_configuration};
-use crate::taken::Taken;
+use crate::recipients::member_configuration;
+use crate::taken::{Taken, Told};
 use crate::windows::Windows;
+use bytes::Bytes;
 use rapid_config::{ConfigId, Configuration};
 use rapid_endpoint::{Endpoint, Process};
 use rapid_monitor::{Monitors, Verdict};
@@ -31,8 +33,8 @@ pub(crate) struct Peer {
     node: Node,
     crashed: bool,
     windows: Windows,
-    // what has to be there before its next step, if it was not used up
-    ready: Option<Box<Ready>>,
+    // the frame that it sent last: who is late is told the same again and again
+    last: Option<Bytes>,
 }
 
 impl Model for Peer {
@@ -46,46 +48,6 @@ impl Model for Peer {
     ghost use Rattle.rapid_world.specs.Windows.{windows_of};
 
     ghost view = { λ p. record { node = p.node; crashed = p.crashed; edges = windows_of p.windows p.node } };
-
-    ghost use Rattle.std.specs.Prelude.{IfSome};
-    ghost use Rattle.rapid_world.specs.Ready.{IsReady};
-
-    ghost invariant = { λ p. IfSome p.ready (λ r. IsReady p.node r.value) };
-}
-
-/// What has to be there before a node takes an event, so that nothing is wanting afterwards. It
-/// serves for all steps until one sends something or installs.
-#[derive(Drop)]
-pub(crate) struct Ready {
-    // to whom its words go that are for the others
-    recipients: Recipients,
-    // the node as it is if it halts
-    halted: Node,
-    is_member: bool,
-}
-
-impl Ready {
-    /// What has to be there before this node takes an event.
-    fn of(alloc: Global, node: &Node) -> Result<Ready, AllocError>
-        ensures { IfOk result (IsReady node.now) }
-    {
-        let recipients = Recipients::of(alloc, node)?;
-        let halted = halted_copy(node)?;
-        Ok(Ready {
-            recipients,
-            halted,
-            is_member: is_in_a_configuration(node),
-        })
-    }
-}
-
-/// The node as it is if it halts.
-fn halted_copy(node: &Node) -> Result<Node, AllocError>
-    ensures { IfOk result (λ halted. halted ≡ model.halt node.now) }
-{
-    let mut copy = node.try_copy()?;
-    copy.halt();
-    Ok(copy)
 }
 
 /// Whether a node is a member.
@@ -93,6 +55,20 @@ fn is_in_a_configuration(node: &Node) -> bool
     ensures { result ≡ is_some (model.member_in node.now) }
 {
     matches!(node.phase(), Phase::Member)
+}
+
+/// Whether a node installed a configuration between two states.
+fn has_entered(old: &Node, new: &Node) -> bool
+    ensures { result ≡ model.has_installed old.now new.now }
+{
+    old.installed().len() < new.installed().len()
+}
+
+/// Keeps the frame that was sent last, if any was.
+fn keep_last(last: &mut Option<Bytes>, sent: Option<Bytes>) {
+    if sent.is_some() {
+        *last = sent;
+    }
 }
 
 /// Whether a node halted for want of memory.
@@ -118,7 +94,7 @@ impl Peer {
             node,
             crashed: false,
             windows: Windows::Fresh,
-            ready: None,
+            last: None,
         })
     }
 
@@ -135,7 +111,7 @@ impl Peer {
             node,
             crashed: false,
             windows: Windows::Fresh,
-            ready: None,
+            last: None,
         })
     }
 
@@ -160,73 +136,66 @@ impl Peer {
         self.crashed = true;
     }
 
-    /// What has to be there before its node takes an event.
-    pub(crate) fn ready(&mut self, alloc: Global) -> Result<Box<Ready>, AllocError>
-        ensures ready { IfOk result (λ ready. IsReady self.old.node ready.value) }
-        ensures unchanged { self.new ≡ self.old }
+    /// Its node takes an event by which it says nothing, by views that nodes share. It takes no
+    /// memory but the node's own.
+    pub(crate) fn take_quietly(&mut self, views: &mut Views, event: &Event) -> Told
+        requires runs { model.is_halted self.old.node ≡ false }
+        requires keeps { KeepsAt self.old.node (event_of event.now) }
+        requires quiet { IsQuiet self.old.node (event_of event.now) }
+        ensures peer { self.new ≡ (handed self.old (event_of event.now) result.halts).peer }
+        ensures packets { (handed self.old (event_of event.now) result.halts).packets ≡ [] }
+        ensures report { option_to_list (option_map report_of result.report) ≡ (handed self.old (event_of event.now) result.halts).reports }
     {
-        match self.ready.take() {
-            Some(ready) => Ok(ready),
-            None => Ok(Box::new(alloc, Ready::of(alloc, &self.node)?)?),
+        let id = self.node.process().id();
+        let was_member = is_in_a_configuration(&self.node);
+        match self.node.step_in(views, event) {
+            Ok(outputs) => {
+                mem::drop(outputs);
+                Told::nothing()
+            }
+            Err(fault) => {
+                self.windows.leave(was_member);
+                Told::halted(id, is_want_of_memory(fault))
+            }
         }
     }
 
-    /// Keeps for its next step what was not used up.
-    pub(crate) fn keep(&mut self, ready: Box<Ready>)
-        requires { IsReady self.old.node ready.value }
-        ensures { self.new ≡ self.old }
-    {
-        self.ready = Some(ready);
-    }
-
-    /// Its node takes an event, after so many packets were sent, by views that nodes share.
+    /// Its node takes an event, after so many packets were sent, by views that nodes share. A copy
+    /// makes the step, and takes the node's place once the frames of what it sends are there: want
+    /// of memory for these changes nothing.
     pub(crate) fn take(
         &mut self,
         alloc: Global,
         views: &mut Views,
         event: &Event,
         first: u64,
-        ready: Box<Ready>,
-    ) -> Taken
-        requires ready { IsReady self.old.node ready.value }
+    ) -> Result<Taken, AllocError>
         requires runs { model.is_halted self.old.node ≡ false }
         requires keeps { KeepsAt self.old.node (event_of event.now) }
-        ensures peer { self.new ≡ (handed self.old (event_of event.now) result.halts).peer }
-        ensures sending { packets_in result.sending ≡ (handed self.old (event_of event.now) result.halts).packets }
-        ensures report { option_to_list (option_map report_of result.report) ≡ (handed self.old (event_of event.now) result.halts).reports }
-        ensures first { IfSome result.sending (λ s. s.first ≡ first) }
+        ensures peer { IfOk result (λ taken. self.new ≡ (handed self.old (event_of event.now) taken.told.halts).peer) }
+        ensures sending { IfOk result (λ taken. packets_in taken.sending ≡ map framed_packet (handed self.old (event_of event.now) taken.told.halts).packets) }
+        ensures framed { IfOk result (λ taken. All HasFrame (handed self.old (event_of event.now) taken.told.halts).packets) }
+        ensures report { IfOk result (λ taken. option_to_list (option_map report_of taken.told.report) ≡ (handed self.old (event_of event.now) taken.told.halts).reports) }
+        ensures first { IfOk result (λ taken. IfSome taken.sending (λ s. s.first ≡ first)) }
+        ensures unchanged { OnErr result (self.new ≡ self.old) }
     {
-        self.ready = None;
-        let id = self.node.process().id();
-        let before = self.node.installed().len();
-        match self.node.step_in(views, event) {
+        let mut node = self.node.try_copy()?;
+        match node.step_in(views, event) {
             Ok(outputs) => {
-                let has_entered = before < self.node.installed().len();
-                if !has_entered && outputs.is_empty() {
-                    self.ready = Some(ready);
-                    return Taken::nothing();
-                }
-                let Ready {
-                    recipients,
-                    halted,
-                    is_member,
-                } = Box::into_inner(ready);
-                match Taken::of(alloc, &self.node, before, first, recipients, outputs) {
-                    Ok(taken) => {
-                        self.windows.enter(has_entered);
-                        taken
-                    }
-                    Err(AllocError) => {
-                        self.node = halted;
-                        self.windows.leave(is_member);
-                        Taken::halted(id, true)
-                    }
-                }
+                let last = self.last.as_ref();
+                let taken = Taken::of(alloc, &self.node, &node, first, outputs.as_slice(), last)?;
+                let sent = taken.last_frame()?;
+                keep_last(&mut self.last, sent);
+                self.windows.enter(has_entered(&self.node, &node));
+                self.node = node;
+                Ok(taken)
             }
             Err(fault) => {
-                self.windows.leave(ready.is_member);
-                mem::drop(ready);
-                Taken::halted(id, is_want_of_memory(fault))
+                let id = self.node.process().id();
+                let was_member = is_in_a_configuration(&self.node);
+                self.windows.leave(was_member);
+                self.node = node;
+                Ok(Taken::halted(id, is_want_of_memory(fault)))
             }
         }
     }

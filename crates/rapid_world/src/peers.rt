@@ -1,6 +1,6 @@
 // All that ever started.
 
-ghost use Rattle.std.specs.Prelude.{◌≡◌, ◌<◌, ◌++◌, ◌&&◌, ◌∷◌, [], false, true, position, length, slice_get, slice_set, IfOk, OnOk, OnErr, Some};
+ghost use Rattle.std.specs.Prelude.{◌≡◌, ◌<◌, ◌++◌, ◌&&◌, ◌∷◌, [], All, map, false, true, position, length, slice_get, slice_set, IfOk, OnOk, OnErr, Some};
 ghost use Rattle.std.specs.List.{list_any, find};
 ghost use Rattle.std.specs.Option.{option_map, option_to_list};
 ghost use Rattle.rapid_model.specs.Configuration.{is_member};
@@ -11,13 +11,15 @@ ghost use Rattle.rapid_model.specs.WorldStep.{added, edge_on};
 ghost use Rattle.rapid_node.specs.Steps.{event_of};
 ghost use Rattle.rapid_world.specs.Events.{report_of};
 ghost use Rattle.rapid_world.specs.Found.{IsNew};
+ghost use Rattle.rapid_world.specs.Framed.{framed_packet, HasFrame};
 ghost use Rattle.rapid_world.specs.Handed.{handed, told, TakesAt, ProbesAt};
 
-use crate::handing::{Told, hand, probe};
+use crate::handing::{hand, probe};
 use crate::lookups::{find_under, is_used, place_at, place_under};
 use crate::mail::{Mail, push_within};
 use crate::peer::Peer;
 use crate::places::{PlacesByEndpoint, PlacesById};
+use crate::taken::Told;
 use rapid_config::{ConfigId, Configuration};
 use rapid_endpoint::{Endpoint, Process, ProcessId};
 use rapid_node::{Event, Node, Views};
@@ -147,7 +149,8 @@ impl Peers {
     ) -> Result<Told, AllocError>
         requires { TakesAt self.old place (event_of event.now) }
         ensures peers { (p : ModelPeer) → slice_get self.old place ≡ Some p → IfOk result (λ told. self.new ≡ slice_set self.old place (handed p (event_of event.now) told.halts).peer) }
-        ensures packets { (p : ModelPeer) → slice_get self.old place ≡ Some p → IfOk result (λ told. mail.new.packets ≡ mail.old.packets ++ (handed p (event_of event.now) told.halts).packets) }
+        ensures packets { (p : ModelPeer) → slice_get self.old place ≡ Some p → IfOk result (λ told. mail.new.packets ≡ mail.old.packets ++ map framed_packet (handed p (event_of event.now) told.halts).packets) }
+        ensures framed { (p : ModelPeer) → slice_get self.old place ≡ Some p → IfOk result (λ told. All HasFrame (handed p (event_of event.now) told.halts).packets) }
         ensures reports { (p : ModelPeer) → slice_get self.old place ≡ Some p → IfOk result (λ told. option_to_list (option_map report_of told.report) ≡ (handed p (event_of event.now) told.halts).reports) }
         ensures unchanged { OnErr result (self.new ≡ self.old) }
         ensures mail_unchanged { OnErr result (mail.new.packets ≡ mail.old.packets) }
@@ -167,7 +170,6 @@ impl Peers {
     pub(crate) fn probe(
         &mut self,
         place: usize,
-        mail: &mut Mail,
         ring: u8,
         ok: bool,
         config: ConfigId,
@@ -175,17 +177,15 @@ impl Peers {
     ) -> Result<Told, AllocError>
         requires { ProbesAt self.old place ring ok (EdgeDown config ring subject) }
         ensures peers { (p : ModelPeer) → slice_get self.old place ≡ Some p → IfOk result (λ news. self.new ≡ slice_set self.old place (told p ring ok (EdgeDown config ring subject) news.halts).peer) }
-        ensures packets { (p : ModelPeer) → slice_get self.old place ≡ Some p → IfOk result (λ news. mail.new.packets ≡ mail.old.packets ++ (told p ring ok (EdgeDown config ring subject) news.halts).packets) }
+        ensures packets { (p : ModelPeer) → slice_get self.old place ≡ Some p → IfOk result (λ news. (told p ring ok (EdgeDown config ring subject) news.halts).packets ≡ []) }
         ensures reports { (p : ModelPeer) → slice_get self.old place ≡ Some p → IfOk result (λ news. option_to_list (option_map report_of news.report) ≡ (told p ring ok (EdgeDown config ring subject) news.halts).reports) }
         ensures quiet { (p : ModelPeer) → slice_get self.old place ≡ Some p → IfOk result (λ news. (probed (edge_on p.edges ring) ok).is_down ≡ false → news.halts ≡ false) }
         ensures unchanged { OnErr result (self.new ≡ self.old) }
-        ensures mail_unchanged { OnErr result (mail.new.packets ≡ mail.old.packets) }
     {
         let told = probe(
             self.alloc,
             &mut self.views,
             &mut self.peers[place],
-            mail,
             ring,
             ok,
             config,

@@ -2,14 +2,18 @@
 
 ghost use Rattle.std.specs.Prelude.{◌≡◌, ℕ, flat_map, length, slice_get, ◌+◌, IfSome};
 ghost use Rattle.std.specs.Option.{option_map};
-ghost use Rattle.rapid_model.specs.Packets.{packets_of, packet_to};
+ghost use Rattle.rapid_world.specs.Framed.{frames_of, frame_to};
 
+use crate::framed::FramedOutput;
 use crate::recipients::Recipients;
+use bytes::Bytes;
 use rapid_endpoint::Endpoint;
-use rapid_message::{Destination, Message, Output, Outputs};
+use rapid_message::Destination;
+use std::alloc::AllocError;
 use std::marker::Model;
 
-/// What a node sent in one step, as the step gave it out: a message to many is kept once.
+/// What a node sent in one step, as the step gave it out: the frame of a message to many is kept
+/// once.
 #[derive(Debug, Drop)]
 pub(crate) struct Sending {
     // how many packets were sent before
@@ -17,25 +21,25 @@ pub(crate) struct Sending {
     // how many these are
     count: u64,
     recipients: Recipients,
-    outputs: Outputs,
+    outputs: Vec<FramedOutput>,
 }
 
 impl Model for Sending {
     ghost use Rattle.std.specs.Prelude.{◌≡◌, ◌+◌, ◌<◌, ◌^◌, flat_map, length};
-    ghost use Rattle.rapid_model.specs.Packets.{packets_of};
+    ghost use Rattle.rapid_world.specs.Framed.{frames_of};
     ghost use Rattle.rapid_world.specs.Sent.{Sent};
 
     ghost Value = { Sent };
 
-    ghost view = { λ s. record { first = s.first; packets = flat_map (packets_of s.recipients) s.outputs.items } };
+    ghost view = { λ s. record { first = s.first; packets = flat_map (frames_of s.recipients) s.outputs.items } };
 
-    ghost invariant = { λ s. (s.count ≡ length (flat_map (packets_of s.recipients) s.outputs.items)) × (s.first + s.count < 2 ^ 64) };
+    ghost invariant = { λ s. (s.count ≡ length (flat_map (frames_of s.recipients) s.outputs.items)) × (s.first + s.count < 2 ^ 64) };
 }
 
 /// How many packets an output makes.
 #[tactic(auto, using(crate::proofs::Packets::count_of))]
-fn count_of(output: &Output, recipients: &Recipients) -> u64
-    ensures { result ≡ length (packets_of recipients.now output.now) }
+fn count_of(output: &FramedOutput, recipients: &Recipients) -> u64
+    ensures { result ≡ length (frames_of recipients.now output.now) }
 {
     match output.to() {
         Destination::To(_) => 1,
@@ -45,8 +49,8 @@ fn count_of(output: &Output, recipients: &Recipients) -> u64
 
 /// How many packets these outputs make; none where they are too many for a number.
 #[tactic(auto, using(crate::proofs::Packets::count_more))]
-fn count_all(outputs: &[Output], recipients: &Recipients) -> Option<u64>
-    ensures { IfSome result (λ count. count ≡ length (flat_map (packets_of recipients.now) outputs.now)) }
+fn count_all(outputs: &[FramedOutput], recipients: &Recipients) -> Option<u64>
+    ensures { IfSome result (λ count. count ≡ length (flat_map (frames_of recipients.now) outputs.now)) }
 {
     let mut count: u64 = 0;
     for output in outputs {
@@ -55,20 +59,20 @@ fn count_all(outputs: &[Output], recipients: &Recipients) -> Option<u64>
     Some(count)
 }
 
-/// The packet of an output at a place among those that it makes: where it goes, and its message.
+/// The packet of an output at a place among those that it makes: where it goes, and its frame.
 #[tactic(auto, using(crate::proofs::Packets::to_others, crate::proofs::Packets::to_one))]
 fn packet_at<'a>(
-    output: &'a Output,
+    output: &'a FramedOutput,
     recipients: &Recipients,
     place: u64,
-) -> Option<(Endpoint, &'a Message)>
-    ensures { option_map (λ x. packet_to x.1.now x.0) result ≡ slice_get (packets_of recipients.now output.now) place }
+) -> Option<(Endpoint, &'a [u8])>
+    ensures { option_map (λ x. frame_to x.1.now x.0) result ≡ slice_get (frames_of recipients.now output.now) place }
 {
     match output.to() {
-        Destination::To(endpoint) if place == 0 => Some((endpoint, output.message())),
+        Destination::To(endpoint) if place == 0 => Some((endpoint, output.frame())),
         Destination::To(_) => None,
         Destination::Others => match recipients.get(place as usize) {
-            Some(recipient) => Some((recipient.endpoint(), output.message())),
+            Some(recipient) => Some((recipient.endpoint(), output.frame())),
             None => None,
         },
     }
@@ -77,11 +81,11 @@ fn packet_at<'a>(
 /// The packet at a place among those that these outputs make.
 #[tactic(auto, using(crate::proofs::Packets::passes, crate::proofs::Packets::stops, crate::proofs::Packets::none_left))]
 fn find_packet<'a>(
-    outputs: &'a [Output],
+    outputs: &'a [FramedOutput],
     recipients: &Recipients,
     place: u64,
-) -> Option<(Endpoint, &'a Message)>
-    ensures { option_map (λ x. packet_to x.1.now x.0) result ≡ slice_get (flat_map (packets_of recipients.now) outputs.now) place }
+) -> Option<(Endpoint, &'a [u8])>
+    ensures { option_map (λ x. frame_to x.1.now x.0) result ≡ slice_get (flat_map (frames_of recipients.now) outputs.now) place }
 {
     let mut rest = place;
     for output in outputs {
@@ -96,8 +100,12 @@ fn find_packet<'a>(
 
 impl Sending {
     /// What was sent in a step, after so many packets; none where there are too many for a number.
-    pub(crate) fn new(first: u64, recipients: Recipients, outputs: Outputs) -> Option<Sending>
-        ensures { IfSome result (λ s. s ≡ record { first = first; packets = flat_map (packets_of recipients) outputs.items }) }
+    pub(crate) fn new(
+        first: u64,
+        recipients: Recipients,
+        outputs: Vec<FramedOutput>,
+    ) -> Option<Sending>
+        ensures { IfSome result (λ s. s ≡ record { first = first; packets = flat_map (frames_of recipients) outputs.items }) }
     {
         let count = count_all(outputs.as_slice(), &recipients)?;
         first.checked_add(count)?;
@@ -123,10 +131,18 @@ impl Sending {
         self.first + self.count
     }
 
-    /// The packet at a place among these: where it goes, and its message.
-    pub(crate) fn packet(&self, place: u64) -> Option<(Endpoint, &Message)>
-        ensures { option_map (λ x. packet_to x.1.now x.0) result ≡ slice_get self.now.packets place }
+    /// The packet at a place among these: where it goes, and its frame.
+    pub(crate) fn packet(&self, place: u64) -> Option<(Endpoint, &[u8])>
+        ensures { option_map (λ x. frame_to x.1.now x.0) result ≡ slice_get self.now.packets place }
     {
         find_packet(self.outputs.as_slice(), &self.recipients, place)
+    }
+
+    /// The frame that was sent last, shared, if any was.
+    pub(crate) fn last_frame(&self) -> Result<Option<Bytes>, AllocError> {
+        match self.outputs.last() {
+            Some(output) => Ok(Some(output.share()?)),
+            None => Ok(None),
+        }
     }
 }

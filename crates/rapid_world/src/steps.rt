@@ -4,7 +4,6 @@ ghost use Rattle.std.specs.Prelude.{◌≡◌, ◌++◌, ◌∷◌, [], ℕ, suc
 ghost use Rattle.std.specs.Option.{option_map};
 ghost use Rattle.rapid_model.specs.Agreement.{NoCollision};
 ghost use Rattle.rapid_model.specs.Node.{EdgeDown, Receive};
-ghost use Rattle.rapid_model.specs.Packets.{packet_to};
 ghost use Rattle.rapid_model.specs.RunHolds.{RunHolds};
 ghost use Rattle.rapid_model.specs.StoredWorld.{StoredWorld, StoresEvent, RunsTo, world_of, accepted, event_refusal};
 ghost use Rattle.rapid_model.specs.World as model;
@@ -19,6 +18,7 @@ use rapid_config::ConfigId;
 use rapid_endpoint::{Endpoint, Process, ProcessId};
 use rapid_message::Message;
 use rapid_node::Event;
+use rapid_wire::read_frame;
 use std::alloc::AllocError;
 
 /// How many events a world accepts at most.
@@ -71,24 +71,17 @@ impl World {
         }
     }
 
-    /// The packet with a number: where it goes, and its message.
-    pub(crate) fn letter(&self, number: u64) -> Option<(Endpoint, &Message)>
-        ensures { option_map (λ x. packet_to x.1.now x.0) result ≡ model.packet (world_of self.now) number }
-    {
-        self.mail().packet(number)
-    }
-
-    /// The place of the node to which a packet comes, and its message.
+    /// The place of the node to which a packet comes, and the message of its frame.
     fn arrival(&self, number: u64) -> Result<(usize, Message), WorldError>
         requires { nat_lt (accepted self.now) 1000000 ≡ true }
         ensures hands { IfOk result (λ x. Hands self.now (model.Deliver number) x.0 (Receive x.1)) }
         ensures refused { IfErr result (Refuses (event_refusal self.now (model.Deliver number))) }
     {
         self.tell();
-        match self.letter(number) {
-            Some(letter) => match self.running_at(letter.0) {
-                Some(place) => match letter.1.try_copy(self.alloc()) {
-                    Ok(copy) => Ok((place, copy)),
+        match self.frame(number) {
+            Some(packet) => match self.running_at(packet.0) {
+                Some(place) => match read_frame(self.alloc(), packet.1) {
+                    Ok(message) => Ok((place, message)),
                     Err(AllocError) => Err(WorldError::OutOfMemory),
                 },
                 None => Err(WorldError::NoSuchNode),
@@ -199,7 +192,8 @@ impl World {
     /// the endpoint. `NoSuchNode` where none runs under the identifier, or at the endpoint of the
     /// packet; before the latter `NoSuchPacket` where none with the number was sent. `NotObserved`
     /// where the node observes nobody on the ring. `OutOfMemory` where the world itself has no
-    /// memory for the event, or to see whom the node observes. Each leaves the world as it was.
+    /// memory for the event, to read the frame of a packet or to write those that its node sends,
+    /// or to see whom the node observes. Each leaves the world as it was.
     pub fn step(&mut self, event: &WorldEvent) -> Result<Vec<Report>, WorldError>
         ensures stored { IfOk result (λ reports. StoresEvent self.old self.new (event_of event.now) (map report_of reports.items)) }
         ensures refused { IfErr result (Refuses (event_refusal self.old (event_of event.now))) }

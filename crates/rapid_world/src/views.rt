@@ -6,11 +6,12 @@ ghost use Rattle.std.specs.Option.{option_map};
 ghost use Rattle.rapid_model.specs.StoredWorld.{world_of};
 ghost use Rattle.rapid_model.specs.World as model;
 ghost use Rattle.rapid_world.specs.Events.{marked_of};
+ghost use Rattle.rapid_world.specs.Framed.{IsFrameOf};
 ghost use Rattle.rapid_world.specs.Worlds.{observed_by};
 
 use crate::lookups::running_ids;
 use crate::{World, WorldEvent};
-use rapid_endpoint::{Process, ProcessId};
+use rapid_endpoint::{Endpoint, Process, ProcessId};
 use rapid_node::Node;
 use std::alloc::AllocError;
 
@@ -45,12 +46,21 @@ impl World {
         self.mail().sent()
     }
 
+    /// The packet with this number, from 1: the endpoint to which it goes, and its frame, the one
+    /// spelling of its message; none where no packet with the number was sent.
+    #[tactic(auto, using(crate::proofs::Framing::frame_of_packet))]
+    pub fn frame(&self, packet: u64) -> Option<(Endpoint, &[u8])>
+        ensures { IsFrameOf (model.packet (world_of self.now) packet) (option_map (λ x. (x.0, x.1.now)) result) }
+    {
+        self.mail().packet(packet)
+    }
+
     /// Whether the packet with this number, from 1, was sent, and a node runs at its endpoint.
     pub fn can_deliver(&self, packet: u64) -> bool
         ensures { result ≡ model.can_deliver (world_of self.now) packet }
     {
-        match self.letter(packet) {
-            Some(letter) => self.running_at(letter.0).is_some(),
+        match self.frame(packet) {
+            Some(frame) => self.running_at(frame.0).is_some(),
             None => false,
         }
     }

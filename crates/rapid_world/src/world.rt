@@ -1,6 +1,6 @@
 // A world of many nodes.
 
-ghost use Rattle.std.specs.Prelude.{◌≡◌, ◌≤◌, ◌<◌, ◌++◌, [], ℕ, vec_len, vec_capacity, true, false, is_some, nat_lt, length, map, slice_get, IfOk, IfErr, IfSome, OnErr, List, Bool, Option, Some, None};
+ghost use Rattle.std.specs.Prelude.{◌≡◌, ◌≤◌, ◌<◌, ◌++◌, [], All, ℕ, vec_len, vec_capacity, true, false, is_some, nat_lt, length, map, slice_get, IfOk, IfErr, IfSome, OnErr, List, Bool, Option, Some, None};
 ghost use Rattle.std.specs.List.{list_any};
 ghost use Rattle.std.specs.Option.{option_map, option_to_list};
 ghost use Rattle.rapid_model.specs.Agreement.{NoCollision};
@@ -15,6 +15,7 @@ ghost use Rattle.rapid_node.specs.Steps.{event_of as taken_of};
 ghost use Rattle.rapid_model.specs.Node.{EdgeDown};
 ghost use Rattle.rapid_model.specs.World.{Peer as ModelPeer};
 ghost use Rattle.rapid_world.specs.Does.{Does, Hands, Probes};
+ghost use Rattle.rapid_world.specs.Framed.{framed_packet, HasFrame};
 ghost use Rattle.rapid_world.specs.Handed.{crash_of};
 ghost use Rattle.rapid_world.specs.Worlds.{IsRunOf};
 
@@ -26,7 +27,6 @@ use crate::report::Report;
 use crate::{WorldError, WorldEvent};
 use rapid_config::{ConfigId, Configuration};
 use rapid_endpoint::{Endpoint, Process, ProcessId};
-use rapid_message::Message;
 use rapid_node::Event;
 use rapid_safety::runs_hold;
 use std::alloc::{AllocError, Global};
@@ -100,9 +100,10 @@ impl World {
         &self.peers
     }
 
-    /// All packets.
+    /// All packets, each with the frame of its message.
     pub(crate) fn mail(&self) -> &Mail
-        ensures { result.now.packets ≡ (world_of self.now).packets }
+        ensures packets { result.now.packets ≡ map framed_packet (world_of self.now).packets }
+        ensures framed { All HasFrame (world_of self.now).packets }
     {
         &self.mail
     }
@@ -206,9 +207,7 @@ impl World {
     {
         self.events.reserve(1)?;
         let reports = Vec::with_capacity(self.alloc, 1)?;
-        let told = self
-            .peers
-            .probe(place, &mut self.mail, ring, ok, config, subject)?;
+        let told = self.peers.probe(place, ring, ok, config, subject)?;
         push_within(&mut self.events, (event, told.halts));
         Ok(with_report(reports, told.report))
     }

@@ -1,5 +1,6 @@
 // Tests of whole worlds.
 
+mod frames;
 mod joins;
 mod refusals;
 mod worlds;

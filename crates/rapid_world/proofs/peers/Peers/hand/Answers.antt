@@ -1,11 +1,12 @@
 use Rattle.std.proofs.Common.{◌++◌, List, ap, sym, subst, ◌∙◌, arith}
-use Rattle.std.specs.Prelude.{slice_set}
+use Rattle.std.specs.Prelude.{slice_set, map, All}
 use Rattle.std.proofs.lemmas.Option.{slice_get_within}
 use Rattle.std.proofs.lemmas.Result.{err_from_is_err_and}
 use Rattle.rapid_model.specs.Node as node
 use Rattle.rapid_model.specs.World.{Peer}
 use Rattle.rapid_node.specs.Steps.{event_of}
 use Rattle.rapid_world.specs.Found.{AreFound}
+use Rattle.rapid_world.specs.Framed.{framed_packet, HasFrame}
 use Rattle.rapid_world.specs.Handed.{handed, KeepsAt}
 use Rattle.rapid_world.proofs.Finding.{read_at, at_inside, put_back, handed_found}
 use Rattle.rapid_world.proofs.peers.Peers.hand.Goals as goal
@@ -40,7 +41,12 @@ returns-clause-peers c = λ p at.
 pub returns-clause-packets : goal.returns-clause-packets
 returns-clause-packets c = λ p at.
     let is = read_at _ _ _ _ _ c.self.view_is at c.index_mut.ensures.value in
-    c.in_ok-told.ensures.packets ∙ ap (λ (q : Peer). c.args.mail.now.packets ++ (handed q (event_of c.args.event.now) c.in_ok-told.told.halts).packets) is
+    c.in_ok-told.ensures.packets ∙ ap (λ (q : Peer). c.args.mail.now.packets ++ map framed_packet (handed q (event_of c.args.event.now) c.in_ok-told.told.halts).packets) is
+
+pub returns-clause-framed : goal.returns-clause-framed
+returns-clause-framed c = λ p at.
+    let is = read_at _ _ _ _ _ c.self.view_is at c.index_mut.ensures.value in
+    subst (λ (q : Peer). All HasFrame (handed q (event_of c.args.event.now) c.in_ok-told.told.halts).packets) is c.in_ok-told.ensures.framed
 
 pub returns-clause-reports : goal.returns-clause-reports
 returns-clause-reports c = λ p at.

@@ -53,7 +53,7 @@ returns-clause-peers c = λ p at.
 pub returns-clause-packets : goal.returns-clause-packets
 returns-clause-packets c = λ p at.
     let is = read_at _ _ _ _ _ c.self.view_is at c.index_mut.ensures.value in
-    c.in_ok-told.ensures.packets ∙ ap (λ (q : Peer). c.args.mail.now.packets ++ (told q c.args.ring c.args.ok (EdgeDown c.args.config c.args.ring c.args.subject) c.in_ok-told.told.halts).packets) is
+    sym (ap (λ (q : Peer). (told q c.args.ring c.args.ok (EdgeDown c.args.config c.args.ring c.args.subject) c.in_ok-told.told.halts).packets) is) ∙ c.in_ok-told.ensures.packets
 
 pub returns-clause-reports : goal.returns-clause-reports
 returns-clause-reports c = λ p at.

@@ -1,24 +1,32 @@
-use Rattle.std.proofs.Common.{inl, sym, subst}
+use Rattle.std.proofs.Common.{inl, ap, sym, subst, ◌∙◌}
 use Rattle.rapid_model.specs.Message.{Message}
 use Rattle.rapid_model.specs.Node.{Receive}
-use Rattle.rapid_model.specs.Packets.{packet_to}
+use Rattle.rapid_model.specs.StoredWorld.{world_of}
 use Rattle.rapid_model.specs.World as model
 use Rattle.rapid_world.specs.Does.{Hands}
 use Rattle.rapid_world.proofs.Cases.{deliver_hands, deliver_refused, receiver_refused}
+use Rattle.rapid_world.proofs.Framing.{packet_there, packet_not_there}
 use Rattle.rapid_world.proofs.world.World.arrival.Goals as goal
+
+pub read_frame-requires : goal.read_frame-requires
+read_frame-requires c = let t = packet_there _ _ _ c.in-Some.ensures in (t.0.message, t.3)
 
 pub returns-in-Ok-clause-hands : goal.returns-in-Ok-clause-hands
 returns-in-Ok-clause-hands c =
-    subst (λ (m : Message). Hands c.args.self.now (model.Deliver c.args.number) c.in-Some-running_at.place (Receive m)) (sym c.in-Ok.ensures)
-    (deliver_hands c.args.self.now c.args.number (packet_to c.in-Some.letter.1.now c.in-Some.letter.0) c.in-Some-running_at.place c.tell.ensures.members c.requires (sym c.in-Some.ensures) (sym c.in-Some-running_at.ensures))
+    let t = packet_there _ _ _ c.in-Some.ensures in
+    subst (λ (m : Message). Hands c.args.self.now (model.Deliver c.args.number) c.in-Some-running_at.place (Receive m)) (sym (c.in-Ok.ensures t.0.message t.3))
+    (deliver_hands c.args.self.now c.args.number t.0 c.in-Some-running_at.place c.tell.ensures.members c.requires t.1 (ap (model.running_at (world_of c.args.self.now)) (sym t.2) ∙ sym c.in-Some-running_at.ensures))
 
 pub returns-in-Err-clause-refused : goal.returns-in-Err-clause-refused
 returns-in-Err-clause-refused c =
-    inl (deliver_hands c.args.self.now c.args.number (packet_to c.in-Some.letter.1.now c.in-Some.letter.0) c.in-Some-running_at.place c.tell.ensures.members c.requires (sym c.in-Some.ensures) (sym c.in-Some-running_at.ensures)).does.not_refused
+    let t = packet_there _ _ _ c.in-Some.ensures in
+    inl
+    (deliver_hands c.args.self.now c.args.number t.0 c.in-Some-running_at.place c.tell.ensures.members c.requires t.1 (ap (model.running_at (world_of c.args.self.now)) (sym t.2) ∙ sym c.in-Some-running_at.ensures)).does.not_refused
 
 pub returns-in-None-running_at-clause-refused : goal.returns-in-None-running_at-clause-refused
 returns-in-None-running_at-clause-refused c =
-    receiver_refused c.args.self.now c.args.number (packet_to c.in-Some.letter.1.now c.in-Some.letter.0) c.requires (sym c.in-Some.ensures) (sym c.in-None-running_at.ensures)
+    let t = packet_there _ _ _ c.in-Some.ensures in
+    receiver_refused c.args.self.now c.args.number t.0 c.requires t.1 (ap (model.running_at (world_of c.args.self.now)) (sym t.2) ∙ sym c.in-None-running_at.ensures)
 
 pub returns-in-None-clause-refused : goal.returns-in-None-clause-refused
-returns-in-None-clause-refused c = deliver_refused c.args.self.now c.args.number c.requires (sym c.in-None.ensures)
+returns-in-None-clause-refused c = deliver_refused c.args.self.now c.args.number c.requires (packet_not_there _ c.in-None.ensures)

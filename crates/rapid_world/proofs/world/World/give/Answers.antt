@@ -1,9 +1,11 @@
-use Rattle.std.proofs.Common.{◌≡◌, ◌&&◌, ◌++◌, List, get_or, slice_set, is_some, ap, sym, ◌∙◌}
+use Rattle.std.proofs.Common.{◌≡◌, ◌&&◌, ◌++◌, List, map, get_or, slice_set, is_some, ap, subst, sym, ◌∙◌}
+use Rattle.std.specs.Prelude.{All}
 use Rattle.std.proofs.lemmas.Result.{err_from_is_err_and}
 use Rattle.rapid_model.specs.Node.{Node, is_halted}
 use Rattle.rapid_model.specs.NodeStep.{node_step}
 use Rattle.rapid_model.specs.World.{Peer}
 use Rattle.rapid_node.specs.Steps.{event_of as taken_of}
+use Rattle.rapid_world.specs.Framed.{framed_packet, HasFrame}
 use Rattle.rapid_world.specs.Handed.{Handed, handed}
 use Rattle.rapid_world.proofs.Doing.{handed_marks}
 use Rattle.rapid_world.proofs.Going.{same_mark, mark_needed}
@@ -54,7 +56,8 @@ invariant_of-self-2 c =
     given_run c.args.self.now _ _ _ _ (c.args.event, c.is_marked-mark.result) _ _ _ _ _ _ (handed c.requires.peer (taken_of c.args.taken.now))
     c.self.view_is c.reserve.ensures.items c.push_within.ensures c.self.invariant c.requires.does
     (c.in_ok-told.ensures.peers c.requires.peer at ∙ ap (λ (d : Handed). slice_set c.self.inside.peers c.args.place d.peer) same)
-    (c.in_ok-told.ensures.packets c.requires.peer at ∙ ap (λ (d : Handed). c.self.inside.mail.packets ++ d.packets) same)
+    (c.in_ok-told.ensures.packets c.requires.peer at ∙ ap (λ (d : Handed). c.self.inside.mail.packets ++ map framed_packet d.packets) same)
+    (subst (λ (d : Handed). All HasFrame d.packets) same (c.in_ok-told.ensures.framed c.requires.peer at))
 
 pub returns-clause-stored : goal.returns-clause-stored
 returns-clause-stored c =

@@ -1,9 +1,9 @@
-use Rattle.std.proofs.Common.{ap, ◌∙◌}
+use Rattle.std.proofs.Common.{refl, ap, ◌∙◌}
 use Rattle.std.proofs.lemmas.Result.{err_from_is_err_and}
 use Rattle.rapid_model.specs.Node.{EdgeDown}
 use Rattle.rapid_world.specs.Handed.{told}
 use Rattle.rapid_world.proofs.Doing.{told_marks, told_needed}
-use Rattle.rapid_world.proofs.Giving.{stored_of, same_room, at_place, kept_run, given_run, given_stored, one_report}
+use Rattle.rapid_world.proofs.Giving.{stored_of, same_room, at_place, kept_run, given_run, given_stored, one_report, none_more, none_framed}
 use Rattle.rapid_world.proofs.world.World.probe_at.Goals as goal
 
 pub invariant_of-self : goal.invariant_of-self
@@ -38,7 +38,7 @@ invariant_of-self-2 c =
     let at = at_place _ _ _ _ _ _ c.self.invariant c.self.view_is c.requires.1.does.at in
     given_run c.args.self.now _ _ _ _ (c.args.event, c.in_ok-told.told.halts) _ _ _ _ _ _ (told c.requires.0 c.args.ring c.args.ok (EdgeDown c.args.config c.args.ring c.args.subject))
     c.self.view_is c.reserve.ensures.items c.push_within.ensures c.self.invariant c.requires.1.does
-    (c.in_ok-told.ensures.peers c.requires.0 at) (c.in_ok-told.ensures.packets c.requires.0 at)
+    (c.in_ok-told.ensures.peers c.requires.0 at) (none_more _ _ (c.in_ok-told.ensures.packets c.requires.0 at)) (none_framed _ (c.in_ok-told.ensures.packets c.requires.0 at))
 
 pub returns-clause-stored : goal.returns-clause-stored
 returns-clause-stored c =
@@ -51,7 +51,7 @@ returns-clause-stored c =
 
 pub invariant_of-self-in_err-told : goal.invariant_of-self-in_err-told
 invariant_of-self-in_err-told c =
-    kept_run _ _ _ _ _ _ c.self.invariant (ap (stored_of c.self.inside.founding) c.reserve.ensures.items) c.in_err-told.ensures.unchanged c.in_err-told.ensures.mail_unchanged
+    kept_run _ _ _ _ _ _ c.self.invariant (ap (stored_of c.self.inside.founding) c.reserve.ensures.items) c.in_err-told.ensures.unchanged refl
 
 pub returns-in_err-told-clause-unchanged : goal.returns-in_err-told-clause-unchanged
 returns-in_err-told-clause-unchanged c =
