@@ -1,3 +1,4 @@
+-- Clauses of public calls cite this file.
 -- What the words of the program ask for, as its grammar has them.
 use Rattle.std.specs.Prelude.{◌≡◌, ℕ, List, ◌∷◌, codes, if◌then◌else◌, Option, Some, None, option_map, option_and_then}
 use Rattle.std.specs.Str.{bytes_eq}

@@ -1,3 +1,4 @@
+-- Clauses of public calls cite this file.
 -- The grammar of the command line: the commands, and the options of each.
 use Rattle.std.specs.Prelude.{ℤ, true, List, [], ◌∷◌, codes, Some, pos}
 use Rattle.clap.specs.Simple.{App, Shape, new_app, new_rule, with_rule, with_subcommand}

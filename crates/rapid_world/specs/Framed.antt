@@ -1,3 +1,4 @@
+-- Clauses of public calls cite this file.
 -- Packets and outputs with the frames of their messages, as a world keeps them.
 use Rattle.std.specs.Prelude.{◌≡◌, ℕ, List, [], ◌∷◌, map, Option, Some, None}
 use Rattle.rapid_model.specs.Bytes.{Endpoint}
