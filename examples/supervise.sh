@@ -40,7 +40,7 @@ watch_views() {
     done
 }
 
-# passes faults on; after one the node waits for a line of its input
+# passes notes and faults on; a node ends after a fault, and is told to if it does not
 watch_faults() {
     while IFS= read -r line; do
         echo "$line" >&2
