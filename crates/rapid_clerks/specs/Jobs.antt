@@ -1,4 +1,3 @@
--- Clauses of public calls cite this file.
 -- Jobs that were done in order.
 use Rattle.std.specs.Prelude.{List, [], ◌∷◌, ◌++◌}
 use Rattle.rapid_model.specs.Run.{WorldReport}

@@ -1,4 +1,3 @@
-pub mod Driving
 pub mod Founding
 pub mod Noting
 pub mod Reports

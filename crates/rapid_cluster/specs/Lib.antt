@@ -1,4 +1,3 @@
 pub mod ClusterText
-pub mod Driven
 pub mod Noting
 pub mod Written

@@ -1,5 +1,5 @@
 -- What was written, as what a command prints.
-use Rattle.std.proofs.Common.{◌≡◌, ◌*◌, ℕ, List, [], refl, sym, subst, Option, Some, None, IfSome, Result, Ok, Err, IfErr, OnErr}
+use Rattle.std.proofs.Common.{◌≡◌, ℕ, List, [], refl, sym, subst, Option, Some, None, IfSome, Result, Ok, Err, IfErr, OnErr}
 use Rattle.std.specs.Io.KnownBytes.{Appends}
 use Rattle.std.proofs.KnownBytes.{Appends-nil}
 use Rattle.rapid_model.specs.DetectText.{detect_text}
@@ -21,7 +21,7 @@ detect_front (Ok x) job known a b is h = tt
 detect_front (Err e) job known a b is h = subst (λ j. WroteFront j known a b) (sym is) (detect_known known a b h)
 
 -- After a fault of `cluster`.
-pub cluster_front : {T : Type 0} (r : Result T RunFault) (job : Job) (s : Setting) (known a b : Option (List ℕ)) → job ≡ Cluster s → IfErr r (Ended s.params s.nodes (s.workers * s.turns) a b) → OnErr r (WroteFront job known a b)
+pub cluster_front : {T : Type 0} (r : Result T RunFault) (job : Job) (s : Setting) (known a b : Option (List ℕ)) → job ≡ Cluster s → IfErr r (Ended s.nodes a b) → OnErr r (WroteFront job known a b)
 cluster_front (Ok x) job s known a b is h = tt
 cluster_front (Err e) job s known a b is h = subst (λ j. WroteFront j known a b) (sym is) (e, h)
 
