@@ -5,7 +5,7 @@ use Rattle.rapid_model.specs.World.{WorldEvent, MarkedEvent}
 use Rattle.rapid_model.specs.Run.{WorldReport}
 use Rattle.rapid_model.specs.StoredWorld.{StoredWorld, StoresEvent, wants_of}
 use Rattle.rapid_model.specs.Refusal as faults
-use Rattle.rapid_model.specs.SimText.{Simulation, SimState, Underway, Asked, Nothing, Command, after, printed, refused, reports_text, settling, least_unsettled, can_reach}
+use Rattle.rapid_model.specs.SimText.{Simulation, SimState, Underway, Asked, Nothing, Command, answer, after, printed, refused, reports_text, settling, least_unsettled, can_reach}
 use Rattle.rapid_model.specs.SimLine.{SimLine}
 use Rattle.rapid_world.specs.Events.{Refuses, error_wants}
 use Rattle.rapid_world.specs.declared.error.WorldError.{WorldError}
@@ -239,6 +239,6 @@ answered_as old new a c before after met now e h =
 
 -- A line that is passed over.
 pub answered_nothing : (s : SimState) (a : Asked) (before : List ℕ) (met : ℕ) → a ≡ Nothing → IsAnswered s s a before before met met
-unfolding after printed
+unfolding answer
 answered_nothing s a before met is =
     subst (λ x. IsAnswered s s x before before met met) (sym is) (answered_exactly s s Nothing before before met met (record { appended = sym (append-nil before); goes_to = refl }) refl)
