@@ -10,6 +10,4 @@ mod history;
 #[cfg(test)]
 mod numbered;
 #[cfg(test)]
-mod simulated;
-#[cfg(test)]
 mod worlds;
