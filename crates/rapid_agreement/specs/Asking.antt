@@ -15,8 +15,8 @@ abbrev pub after_promises : Coordinator → Ballot → List Report → Coordinat
 after_promises c b [] = c
 after_promises c b (x ∷ xs) = after_promises (after_report c x.0 b x.1) b xs
 
--- The members, each at its place, gave these promises of the ballot; each value reported at the fast ballot was
--- proposed, and at any other ballot one value at most is reported.
+-- The members, each at its place, gave these promises of the ballot. Each value reported at the fast ballot was
+-- proposed. At any other ballot one value at most is reported.
 pub record AreGiven {X : Type 0} (members : List X) (place : X → ℕ) (said : Said X Cut) (b : Ballot) (promises : List Report) : Type 0 where
   pub within : (x : Report) → Contains promises x → x.0 < length members
   pub promised : (a : X) (vote : Option (Vote Cut)) → Contains members a → Contains promises (place a, vote) → said.promised a b vote
