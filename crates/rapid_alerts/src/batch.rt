@@ -15,8 +15,8 @@ use std::sync::ArcSlice;
 
 /// A batch: 1 to 2,048 alerts of one observer and one configuration. Copies share one list.
 ///
-/// The alerts are kept whole, 78 bytes each, though all name the same observer and configuration: a
-/// detector takes a slice of alerts, and would have to make them anew each time.
+/// The alerts are kept whole, 78 bytes each, though all name the same observer and configuration. A
+/// detector takes a slice of alerts, which would else have to be made at each call.
 #[derive(Debug, Drop)]
 pub struct Batch {
     alerts: ArcSlice<Alert>,
