@@ -13,7 +13,7 @@ pub fn found(alloc: Global, count: u16) -> Result<World> {
         bail!("there are no founders");
     }
     let params = Params::new(10, 9, 3)?;
-    // that there is such a configuration is what a world wants of its founders
+    // a world requires of its founders that there is such a configuration
     let _founding = Configuration::seed(alloc, params, founders.as_slice())?;
     Ok(World::new(alloc, params, founders.as_slice())?)
 }

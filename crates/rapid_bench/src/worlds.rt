@@ -34,7 +34,8 @@ fn push_failed(observer: &ProcessId, ring: u8, events: &mut Vec<WorldEvent>) -> 
     Ok(())
 }
 
-/// Adds the four probes by which an observer loses whom it observes on a ring, if that crashed.
+/// Adds the four failed probes after which an observer holds its subject on a ring to be down, if
+/// that crashed.
 fn push_probes(
     world: &World,
     observer: &ProcessId,
