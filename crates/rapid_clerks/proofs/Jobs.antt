@@ -68,7 +68,7 @@ event_not_full s e room h = not_full (world_of s) e (sym (rw room refl) ∙ h)
 open_refusal : (c : ClusterState) → nat_lt (accepted c.world) 1000000 ≡ true → turn_refusal c ≡ refusal_of_turn c.world (next_turn (world_of c.world) c.pointer)
 open_refusal c room = rw room refl
 
--- Where further events are accepted a turn is not refused since the world is full.
+-- If further events are accepted, a turn is not refused because the world is full.
 pub turn_not_full : (c : ClusterState) → nat_lt (accepted c.world) 1000000 ≡ true → turn_refusal c ≢ Some refusal.EventsFull
 turn_not_full c room = λ h. by (next_turn (world_of c.world) c.pointer) (sym (open_refusal c room) ∙ h)
   where
@@ -93,17 +93,17 @@ turn_refused c t error room is refuses = by error refuses
     by EventsFull r = same ∙ r
     by OutOfMemory r = turn_not_full c room
 
--- There is no turn where no node runs.
+-- There is no turn if no node runs.
 pub no_turn : (c : ClusterState) → nat_lt (accepted c.world) 1000000 ≡ true → next_turn (world_of c.world) c.pointer ≡ None → turn_refusal c ≡ Some refusal.NoSuchNode
 no_turn c room is = open_refusal c room ∙ ap (refusal_of_turn c.world) is
 
--- There is none where no further event is accepted.
+-- There is none if no further event is accepted.
 pub turn_full : (c : ClusterState) → nat_lt (accepted c.world) 1000000 ≡ false → turn_refusal c ≡ Some refusal.EventsFull
 turn_full c full = rw full refl
 
 -- ---- answers
 
--- A job that is an event was done where that is stored.
+-- A job that is an event was done if that event is stored.
 pub event_is_done : {T E : Type 0} (r : Result T E) (reports : T → List WorldReport) (j : Job) (e : WorldEvent) (old new : ClusterState) → j ≡ job.Event e
     → IfOk r (λ x. StoresEvent old.world new.world (event_of e) (reports x)) → new.pointer ≡ old.pointer → IfOk r (λ x. DoesJob j old new (reports x))
 event_is_done (Ok x) reports j e old new is stores same = subst (λ k. DoesJob k old new (reports x)) (sym is) (event_done e old new (reports x) stores same)

@@ -26,7 +26,7 @@ pub record ClusterState : Type 0 where
 abbrev pub new_cluster : Params → List Process → ClusterState
 new_cluster params founders = record { world = new_world (founding params founders); pointer = first_turn }
 
--- The event that a job is, and what turns remember after it; a turn is none where no node runs.
+-- The event of a job, and what turns remember after it. A turn has none if no node runs.
 abbrev pub job_turn : Job → ClusterState → Option Turn
 job_turn (job.Event e) c = Some (record { event = event_of e; pointer = c.pointer })
 job_turn job.Turn c = next_turn (world_of c.world) c.pointer
@@ -38,18 +38,18 @@ pub record DoesJob (j : Job) (old new : ClusterState) (reports : List WorldRepor
   pub stores : StoresEvent old.world new.world turn.event reports
   pub pointer : new.pointer ≡ turn.pointer
 
--- Why a turn is refused, where it is this one.
+-- Why a turn is refused, if its event is this one.
 abbrev pub refusal_of_turn : StoredWorld → Option Turn → Option WorldRefusal
 refusal_of_turn s None = Some refusal.NoSuchNode
 refusal_of_turn s (Some t) = event_refusal s t.event
 
--- Why a turn is refused, if it is: first of all where no further event is accepted.
+-- Why a turn is refused, if it is. That no further event is accepted comes first.
 abbrev pub turn_refusal : ClusterState → Option WorldRefusal
 turn_refusal c =
     if nat_lt (accepted c.world) 1000000 then refusal_of_turn c.world (next_turn (world_of c.world) c.pointer) else Some refusal.EventsFull
 
--- The error says exactly why a turn is refused. To see who runs takes memory, so want of it may be answered in place of all but a
--- world that is full.
+-- The error says exactly why a turn is refused. To see who runs takes memory, so out of memory may be answered in place
+-- of anything but a full world.
 abbrev pub RefusesTurn : Option WorldRefusal → WorldError → Type 0
 RefusesTurn r OutOfMemory = r ≢ Some refusal.EventsFull
 RefusesTurn r IdentifierUsed = Refuses r IdentifierUsed

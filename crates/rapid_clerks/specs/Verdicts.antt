@@ -5,7 +5,7 @@ use Rattle.rapid_clerks.specs.declared.verdict.Ended.TheVariants as ended
 use Rattle.rapid_clerks.specs.declared.verdict.Verdict.{Verdict}
 use Rattle.rapid_clerks.specs.declared.verdict.Verdict.TheVariants.{Passed, Ends}
 
--- A clerk ends at a world that is full and at want of memory, and passes over a job that is refused for another reason.
+-- A clerk ends if the world is full or out of memory, and skips a job that is refused for another reason.
 abbrev pub verdict_on : WorldError → Verdict
 verdict_on IdentifierUsed = Passed
 verdict_on EndpointBusy = Passed

@@ -42,9 +42,9 @@ impl<L: Ledger> Model for ClusterBook<L> {
 
 impl<L: Ledger> ClusterBook<L> {
     /// A world of these founders in the configuration of height 0 with these parameters, and a
-    /// share of its ledger that has every part. The caller sees that they can be founders: at least
-    /// one, at most 1,024, with ascending identifiers and no endpoint twice; and that the ledger
-    /// has at least 33 parts.
+    /// share of its ledger that has every part. The caller ensures that they can be founders: at
+    /// least one, at most 1,024, with ascending identifiers and no endpoint twice. It also ensures
+    /// that the ledger has at least 33 parts.
     pub fn new(
         alloc: Global,
         params: Params,
@@ -73,9 +73,9 @@ impl<L: Ledger> ClusterBook<L> {
     ///
     /// # Errors
     ///
-    /// Those of [`World::step`] for the job's event. Of a turn `EventsFull` where 1,000,000 events
-    /// were accepted, which is tested first, and `NoSuchNode` where no node runs. Each leaves the
-    /// book and the share as they were.
+    /// Those of [`World::step`] for the job's event. Of a turn `EventsFull` if 1,000,000 events
+    /// were accepted, which is tested first, and `NoSuchNode` if no node runs. Each leaves the book
+    /// and the share as they were.
     pub fn step(&mut self, share: &mut Share<L>, job: &Job) -> Result<Vec<Report>, WorldError>
         requires { 0 < share.old.parts }
         ensures done { IfOk result (λ reports. DoesJob job.now self.old self.new (map report_of reports.items)) }

@@ -1,4 +1,4 @@
-// One who does jobs.
+// A clerk.
 
 ghost use Rattle.std.specs.Prelude.{◌≡◌, ◌≢◌, ◌+◌, ◌<◌, ◌≤◌, length};
 ghost use Rattle.rapid_clerks.specs.declared.verdict.Ended.TheVariants as ended;
@@ -8,15 +8,15 @@ use crate::{DoJob, Ended, Gate};
 use std::sync::ledger::{Ledger, Share};
 use std::sync::{Mutex, Wait};
 
-/// One who does jobs, with a share of the ledger that counts them, and what became of those that it
-/// was given last.
+/// A clerk: it does jobs, with a share of the ledger that counts them. It also keeps what became of
+/// the jobs that it was given last.
 #[derive(Drop)]
 pub struct Clerk<L: Ledger> {
     /// The number by which the gate knows it.
     pub worker: usize,
     /// Its share: each event that it stores raises the amount by one.
     pub share: Share<L>,
-    /// How many jobs were refused and passed over.
+    /// How many jobs were refused and skipped.
     pub passed: u64,
     /// Why it ended.
     pub ended: Ended,
@@ -36,11 +36,11 @@ impl<L: Ledger> Clerk<L> {
         }
     }
 
-    /// Does these jobs in order, each under the lock, and says how many were done. A job that is
-    /// refused counts as none; where no further event is accepted, or there is no memory, the clerk
-    /// stops. Before each job and after it the clerk calls the gate, while it holds no lock, and
-    /// where that does not let it in it stops. Afterwards `passed` and `ended` say what became of
-    /// the jobs that were not done.
+    /// Does these jobs in order, each under the lock, and says how many were done. A refused job is
+    /// not counted. The clerk stops if no further event is accepted, or if out of memory. Before
+    /// each job and after it the clerk calls the gate, while it holds no lock, and stops if the
+    /// gate does not let it in. Afterwards `passed` and `ended` say what became of the jobs that
+    /// were not done.
     pub fn run<J, B: DoJob<L, J>, G: Gate, R: Wait>(
         &mut self,
         rt: &R,

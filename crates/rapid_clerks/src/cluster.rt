@@ -23,7 +23,7 @@ const MOST_EVENTS: usize = 1_000_000;
 #[derive(Drop)]
 pub(crate) struct Cluster {
     world: World,
-    // all packets up to this number were delivered or passed over by turns
+    // all packets up to this number were delivered or skipped by turns
     passed: u64,
     // the node that a turn ticked last, if any
     ticked: Option<ProcessId>,
@@ -58,7 +58,7 @@ impl Cluster {
         &self.world
     }
 
-    /// The next turn; none where no node runs.
+    /// The next turn; none if no node runs.
     #[tactic(auto, unfolding(rapid_model::specs::Turn::next_turn))]
     fn next_turn(&self) -> Result<Option<Turn>, AllocError>
         ensures { IfOk result (λ turn. option_map turn_of turn ≡ model.next_turn (world_of self.now.world) self.now.pointer) }

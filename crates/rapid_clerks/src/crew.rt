@@ -10,8 +10,8 @@ use std::sync::{Mutex, Wait};
 use std::thread;
 use std::thread::Threads;
 
-/// How many jobs each clerk is given. It is known only where clerks are started, so a type stands
-/// for it in the types of what threads hand back.
+/// How many jobs each clerk is given. The number is known only when clerks are started, but the
+/// type of what a thread returns has to name it. So a type stands for it.
 trait Given {
     ghost given: { ℕ };
 }
@@ -44,7 +44,7 @@ impl<L: Ledger, N: Given> Place<L, N> {
         }
     }
 
-    /// Does the jobs, where none was done yet.
+    /// Does the jobs, if none was done yet.
     fn work<B: DoJob<L, TurnJob>, G: Gate, R: Wait>(
         &mut self,
         rt: &R,
@@ -74,7 +74,7 @@ fn work<L: Ledger, N: Given, B: DoJob<L, TurnJob>, G: Gate, R: Wait>(
     place.lock(rt).work(rt, book, gate, jobs);
 }
 
-/// Starts a thread for each place, and returns once all have ended. Where a thread is not to be had
+/// Starts a thread for each place, and returns once all have ended. If a thread cannot be started,
 /// nothing is done at its place.
 fn start_all<
     L: Ledger + Send + Sync,
@@ -102,7 +102,7 @@ fn start_all<
     );
 }
 
-/// Starts clerks that take so many turns each, where a type stands for that number.
+/// Starts clerks, each of which takes the number of turns for which the type stands.
 fn run_given<
     L: Ledger + Send + Sync,
     N: Given + Send + Sync,
@@ -149,15 +149,16 @@ fn run_given<
     Ok(counts)
 }
 
-/// Starts so many clerks, numbered from 0, each in a thread of its own with so many turns to take,
-/// and says how many each took: 0 where its thread was not to be had. All that it needs memory for
-/// is made before the first one starts. The caller sees that the share is one of the book's ledger,
-/// and has every part of it and more parts than there are workers. It has every part again
-/// afterwards, and its amount is raised by the turns that were taken: so many events were stored.
+/// Starts this many clerks, numbered from 0, each in a thread of its own with this many turns to
+/// take. The result is how many turns each took: 0 if its thread could not be started. All memory
+/// is allocated before the first one starts. The caller ensures that the share is one of the book's
+/// ledger, and that it has every part of it and more parts than there are workers. It has every
+/// part again afterwards, and its amount is raised by the number of turns that were taken, which is
+/// the number of events that were stored.
 ///
 /// # Errors
 ///
-/// Want of memory, where no clerk was started and the share is as it was.
+/// `OutOfMemory`: no clerk was started, and the share is as it was.
 pub fn run_clerks<
     L: Ledger + Send + Sync,
     B: DoJob<L, TurnJob> + Send,

@@ -1,8 +1,8 @@
-// What says when clerks go on.
+// The gate of clerks.
 
 /// Says when clerks go on. Clerks call it while they hold no lock.
 pub trait Gate {
-    /// A clerk is about to do its job with this number, from 1. Where the answer is false the clerk
+    /// A clerk is about to do its job with this number, from 1. If the answer is false the clerk
     /// stops.
     fn enter(&self, worker: usize, turn: u64) -> bool;
 

@@ -10,10 +10,9 @@ use std::sync::ledger::{Ledger, Share};
 pub enum Job {
     /// This event of the world.
     Event(WorldEvent),
-    /// A turn: the least packet is delivered whose number is above all that turns have delivered or
-    /// passed over, and at whose endpoint a node runs; those below it are passed over, for good.
-    /// Where there is none, the clock ticks of the next node that runs, by identifier, going round
-    /// from the least.
+    /// A turn. It delivers the least packet above all that earlier turns have delivered or skipped,
+    /// at whose endpoint a node runs; those below it are skipped for good. If there is none, it is
+    /// a tick of the next running node, by identifier, going round from the least.
     Turn,
 }
 

@@ -1,5 +1,5 @@
-//! A world under a lock that many threads drive: each event that they store is counted by a ledger,
-//! so nothing of what they did is lost, and what the world is, is the run of the stored events.
+//! A world under a lock that many threads drive: a ledger counts each event that they store. So
+//! nothing of what they did is lost, and the world is the run of the stored events.
 #![tactic(auto)]
 
 mod book;

@@ -15,7 +15,7 @@ use rapid_world::{World, WorldEvent};
 #[derive(Clone, Copy, Debug)]
 pub(crate) struct Turn {
     pub(crate) event: WorldEvent,
-    /// All packets up to this number were delivered or passed over.
+    /// All packets up to this number were delivered or skipped.
     pub(crate) passed: u64,
     /// The node ticked last, if any.
     pub(crate) ticked: Option<ProcessId>,
