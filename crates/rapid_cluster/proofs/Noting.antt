@@ -58,7 +58,7 @@ differ_alike s k t h = by (s.height == k.height) (same_bytes s.id k.id) refl ref
     by true false e f g = cc
     by false c e f g = cc
 
--- Where one like it is among these, a stamp tells no more.
+-- If an equal stamp is among these, a stamp adds nothing.
 covered : (kept : List Stamp) (s t : Stamp) → list_any (same s) kept ≡ true → (list_any (differ t) kept || differ t s) ≡ list_any (differ t) kept
 covered [] s t h = cc
 covered (k ∷ ks) s t h = by (same s k) refl h (covered ks s t)
@@ -79,7 +79,7 @@ covered (k ∷ ks) s t h = by (same s k) refl h (covered ks s t)
 any_more : (f : Stamp → Bool) (xs : List Stamp) (s : Stamp) → list_any f (xs ++ s ∷ []) ≡ (list_any f xs || f s)
 any_more f xs s = list_any-append f xs (s ∷ []) ∙ ap (λ b. list_any f xs || b) (or_false (f s))
 
--- Some two differ of these and one more where some two of these do, or it differs from one of them.
+-- Two of these and one more differ exactly if two of these do, or the one differs from one of them.
 split_more : (xs : List Stamp) (s : Stamp) → is_split (xs ++ s ∷ []) ≡ (is_split xs || list_any (differ s) xs)
 split_more xs s =
     any_more (λ a. list_any (differ a) (xs ++ s ∷ [])) xs s

@@ -8,7 +8,7 @@ use Rattle.rapid_node.specs.Phases.{name_of}
 use Rattle.rapid_node.specs.declared.phase.Phase as phase
 use Rattle.rapid_cluster.specs.ClusterText.{phase_line}
 
--- A member shows its view.
+-- The line of a member is its view.
 pub member_line : (id : List ℕ) (p : Phase) (c : Configuration) → name_of p ≡ phase.TheVariants.Member → shown_in p ≡ Some c →
     node_text id ++ codes " height " ++ decimal c.height ++ codes " members" ++ numbers_text c.members ++ line_feed ∷ [] ≡ phase_line id p
 member_line id (Joining j) c is shown = cc
@@ -16,7 +16,7 @@ member_line id (Member s) c is shown = let same : s.config ≡ c = cc in rw same
 member_line id (Removed r) c is shown = cc
 member_line id (Halted h) c is shown = cc
 
--- A member shows some view.
+-- The line of a member is some view.
 pub member_shows : (p : Phase) → name_of p ≡ phase.TheVariants.Member → shown_in p ≡ None → ⊥
 member_shows (Joining j) is shown = cc
 member_shows (Member s) is shown = cc

@@ -16,7 +16,7 @@ use Rattle.rapid_model.specs.SimText.{node_text, numbers_text}
 
 -- ---- views
 
--- The line of a node in this phase: a member shows its view, a joiner that it has none, and the others have no line.
+-- The line of a node in this phase: of a member its view, of a joiner that it has none; the others have no line.
 abbrev pub phase_line : Identifier → Phase → Text
 phase_line id (Joining j) = node_text id ++ codes " joining" ++ line_feed ∷ []
 phase_line id (Member s) =
@@ -69,8 +69,8 @@ cluster_text n s =
     ++ nodes_text (world_of s) n
     ++ agree_line (is_split (all_installed (world_of s) n))
 
--- The text is what is printed of a world with the nodes 1 to n that is the run of its stored events; where no two different
--- configurations that nodes installed share an identifier, all that holds of runs holds of it.
+-- The text is what is printed of a world with the nodes 1 to n, which is the run of its stored events. If no two
+-- different configurations that nodes installed share an identifier, all that holds of runs holds of it.
 pub record IsReport (n : ℕ) (text : Text) : Type 0 where
   pub world : StoredWorld
   pub printed : text ≡ cluster_text n world

@@ -53,8 +53,7 @@ fn start_others<L: Ledger>(
     Ok(())
 }
 
-/// Lets so many clerks take so many turns each in a cluster of so many nodes, and says what is
-/// printed of it.
+/// Lets clerks take turns in a cluster of nodes; the result is what is printed of it.
 #[tactic(auto, using(crate::proofs::Founding::one_founder))]
 fn drive<L: Ledger + Send + Sync, R: Threads + Wait + Sync>(
     rt: &R,
@@ -80,17 +79,17 @@ fn drive<L: Ledger + Send + Sync, R: Threads + Wait + Sync>(
     report(alloc, book.world(), nodes)
 }
 
-/// Starts a cluster of so many nodes, of which process 1 is the founder and the others ask it to
-/// let them in, lets so many clerks in threads of their own take so many turns each in it, and
-/// writes what it is then: how many events are stored, the view of each member, and whether two
-/// nodes hold different identifiers at one height. The world is the run of the stored events, so
-/// where no two different configurations share an identifier all that holds of runs holds of it.
-/// The caller sees that there are at most 32 clerks.
+/// Starts a cluster of `nodes` nodes, of which process 1 is the founder and the others ask it to
+/// let them in. Each of `workers` clerks takes `turns` turns in it, in a thread of its own. Then
+/// writes how many events are stored, the view of each member, and whether two nodes hold different
+/// identifiers at one height. The world is the run of the stored events, so if no two different
+/// configurations share an identifier, all that holds of runs holds of it. The caller ensures that
+/// there are at most 32 clerks.
 ///
 /// # Errors
 ///
-/// `Write` where the output could not be written; a beginning of the report was. `OutOfMemory`
-/// where there was no memory to begin with, or for the report; nothing was written.
+/// `Write` if the output could not be written; a beginning of the report was. `OutOfMemory` if
+/// there was no memory to start, or for the report; nothing was written.
 pub fn run_cluster<R: Threads + Wait + Sync, W: Write>(
     rt: &R,
     alloc: Global,

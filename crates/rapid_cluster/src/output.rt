@@ -8,7 +8,7 @@ ghost use Rattle.rapid_text.specs.declared.fault.RunFault.TheVariants as fault;
 use rapid_text::RunFault;
 use std::io::{ErrorKind, Write};
 
-/// Writes some of the bytes; none where a signal interrupts it.
+/// Writes some of the bytes; none if a signal interrupts it.
 fn write_some<W: Write>(writer: &mut W, bytes: &[u8]) -> Result<usize, RunFault>
     ensures bound { IfOk result (λ count. count ≤ length bytes.now) }
     ensures ok { IfOk result (λ count. Appends (W.contents writer.old) (W.contents writer.new) (take count bytes.now)) }

@@ -127,7 +127,7 @@ fn write_events(world: &World, output: &mut Vec<u8>) -> Result<(), AllocError>
     Ok(())
 }
 
-/// The line that tells whether nodes agree.
+/// The line that says whether nodes agree.
 fn agree_line(split: bool) -> &'static [u8]
     ensures { result.now ≡ model.agree_line split }
 {
