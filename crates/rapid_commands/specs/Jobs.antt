@@ -17,8 +17,8 @@ CanRun Detect = Unit {0}
 CanRun Sim = Unit {0}
 CanRun (Cluster s) = s.workers ≤ 32
 
--- What a command may print for an input: `detect` one text, `sim` one for each way in which want of memory may be met, and where it
--- is never met one text. `cluster` reads no input, and prints a report.
+-- What a command may print for an input. `detect` prints one text. `sim` prints one text for each way in which it can
+-- run out of memory, and one if it never does. `cluster` reads no input, and prints a report.
 abbrev pub JobPrints : Job → List ℕ → List ℕ → Type 0
 JobPrints Detect input text = text ≡ detect_text input
 JobPrints Sim input text = (met : ℕ) × SimPrints input text met

@@ -33,7 +33,7 @@ struct Wanted {
     range: Option<(i64, i64)>,
 }
 
-/// A wanted number.
+/// A number that is wanted.
 fn number(least: i64, most: i64, text: &'static str) -> Option<Wanted> {
     Some(Wanted {
         kind: "NUMBER",
@@ -42,7 +42,7 @@ fn number(least: i64, most: i64, text: &'static str) -> Option<Wanted> {
     })
 }
 
-/// A wanted text.
+/// A text that is wanted.
 fn text(kind: &'static str, text: &'static str) -> Option<Wanted> {
     Some(Wanted {
         kind,
@@ -93,7 +93,7 @@ impl Given<'_> {
         }
     }
 
-    /// Tells why it is refused.
+    /// Says why it is refused.
     fn tell<E: Write>(&self, err: &mut E) {
         let Given { name, wanted, .. } = self;
         let Wanted { kind, text, .. } = wanted;
@@ -132,7 +132,7 @@ fn value_behind<'a, S: AsStr>(words: &'a [S], at: usize) -> Option<&'a str> {
     }
 }
 
-/// Tells of the first option among the words whose value the grammar refuses. The answer is whether
+/// Explains the first option among the words whose value the grammar refuses. The answer is whether
 /// there is one.
 pub(crate) fn tell_refused<S: AsStr, E: Write>(words: &[S], err: &mut E) -> bool {
     let Some(command) = words.get(1) else {
@@ -150,7 +150,7 @@ pub(crate) fn tell_refused<S: AsStr, E: Write>(words: &[S], err: &mut E) -> bool
     false
 }
 
-/// Tells where the help of a command is.
+/// Says how to get the help of a command.
 fn tell_help<E: Write>(command: &str, err: &mut E) {
     let _ = writeln!(
         err,
@@ -158,7 +158,7 @@ fn tell_help<E: Write>(command: &str, err: &mut E) {
     );
 }
 
-/// Tells that `--listen` is missing.
+/// Says that `--listen` is missing.
 pub(crate) fn tell_missing<E: Write>(err: &mut E) {
     let _ = writeln!(err, "error: '--listen <ENDPOINT>' is missing: {ENDPOINT}");
     tell_help(NODE, err);
@@ -186,7 +186,7 @@ fn disorder(k: u8, h: u8, l: u8) -> &'static str {
     }
 }
 
-/// Tells that K, H and L of a command are not in order.
+/// Says that K, H and L of a command are not in order.
 pub(crate) fn tell_params<E: Write>(command: &str, words: &ArgMatches, err: &mut E) {
     let (Some(k), Some(h), Some(l)) = (
         words.get_one::<u8>("k"),
@@ -230,7 +230,7 @@ fn endpoint_fault(text: &str) -> Option<&'static str> {
     }
 }
 
-/// Tells of an endpoint that cannot be taken. The answer is whether it is such a one.
+/// Explains why an endpoint is refused. The answer is whether it is.
 fn tell_endpoint<E: Write>(option: &str, text: &str, err: &mut E) -> bool {
     match endpoint_fault(text) {
         Some(fault) => {
@@ -244,7 +244,7 @@ fn tell_endpoint<E: Write>(option: &str, text: &str, err: &mut E) -> bool {
     }
 }
 
-/// Tells of an identifier that cannot be read.
+/// Explains that an identifier cannot be read.
 fn tell_identifier<E: Write>(text: &str, err: &mut E) {
     if ProcessId::parse(text).is_err() {
         let _ = writeln!(
@@ -254,7 +254,7 @@ fn tell_identifier<E: Write>(text: &str, err: &mut E) {
     }
 }
 
-/// Tells of the first of the texts behind `--listen`, `--join` and `--id` that cannot be taken.
+/// Explains the first of the values of `--listen`, `--join` and `--id` that is refused.
 pub(crate) fn tell_texts<E: Write>(words: &NodeWords, err: &mut E) {
     let mut told = tell_endpoint("listen", words.listen, err);
     if let Some(seed) = words.join
@@ -296,7 +296,7 @@ pub(crate) fn note_no_ticks<E: Write>(options: &NodeOptions, err: &mut E) {
     }
 }
 
-/// Tells which port was not to be had, and why, as another try shows it.
+/// Says which port could not be bound, and why, by trying once more.
 pub(crate) fn tell_port<R, E: Write>(rt: &R, at: Endpoint, err: &mut E)
 where
     R: Net<Listener = TcpListener, Stream = TcpStream>,

@@ -104,7 +104,7 @@ pub(crate) fn node_matches<'m, 'a>(matches: &'m ArgMatches<'a>) -> Option<&'m Ar
     matches.subcommand_matches(NODE)
 }
 
-/// What the words behind `node` ask for. A fault is told.
+/// What the words behind `node` ask for. A fault is reported.
 fn options_of<E: Write>(matches: &ArgMatches, err: &mut E) -> Option<NodeOptions> {
     let words = words_of(matches)?;
     match judge(words) {
@@ -124,8 +124,8 @@ fn options_of<E: Write>(matches: &ArgMatches, err: &mut E) -> Option<NodeOptions
     }
 }
 
-/// Runs a node as its words ask, which tells of a fault, and answers the status. Where its words
-/// are refused nothing was written.
+/// Runs a node as its words ask; it reports its fault itself. The answer is the status. If its
+/// words are refused, nothing was written.
 pub(crate) fn run_as_node<T, R, O, E>(
     rt: &T,
     alloc: Global,

@@ -197,8 +197,8 @@ fn run_job<T: Threads + Wait + Sync, R: Read, O: Write>(
     }
 }
 
-/// Runs a command over the input, and tells of a fault. Where the status is 0, what the input
-/// prints was written, and nothing else; else a beginning of that was.
+/// Runs a command over the input, and reports a fault. If the status is 0, what the input prints
+/// was written, and nothing else; otherwise a beginning of that was.
 fn run<T: Threads + Wait + Sync, R: Read, O: Write, E: Write>(
     rt: &T,
     alloc: Global,
@@ -220,8 +220,8 @@ fn run<T: Threads + Wait + Sync, R: Read, O: Write, E: Write>(
     status_of(ran)
 }
 
-/// Tells of a fault of the words. What is missing or out of range is named with what is wanted, all
-/// else is told as `clap` has it.
+/// Reports a fault of the words. What is missing or out of range is named with what is wanted; all
+/// else is as `clap` says it.
 fn tell_fault<S: AsStr, E: Write>(error: &Error, words: &[S], err: &mut E) {
     let told = match error.kind() {
         ErrorKind::ValueValidation | ErrorKind::InvalidValue | ErrorKind::UnknownArgument => {
@@ -238,7 +238,7 @@ fn tell_fault<S: AsStr, E: Write>(error: &Error, words: &[S], err: &mut E) {
     }
 }
 
-/// Tells why there is nothing to run: help, the version, or a fault of the words.
+/// Says why there is nothing to run: help, the version, or a fault of the words.
 fn tell<S: AsStr, O: Write, E: Write>(error: &Error, words: &[S], out: &mut O, err: &mut E) -> u8
     ensures memory { kind_of error.now ≡ ErrorKind.OutOfMemory → result ≡ 3 }
     ensures refused { kind_of error.now ≢ ErrorKind.OutOfMemory → kind_of error.now ≢ ErrorKind.DisplayHelp
@@ -262,8 +262,7 @@ fn tell<S: AsStr, O: Write, E: Write>(error: &Error, words: &[S], out: &mut O, e
     }
 }
 
-/// The status where the words that the program was given could not be had: 3 for want of memory,
-/// else 2.
+/// The status if the arguments of the program could not be read: 3 if out of memory, else 2.
 pub fn without_words<E: Write>(error: &io::Error, err: &mut E) -> u8
     ensures memory { error_kind error.now ≡ OutOfMemory → result ≡ 3 }
     ensures other { error_kind error.now ≢ OutOfMemory → result ≡ 2 }
@@ -280,17 +279,17 @@ fn matches_of<'a, S: AsStr>(alloc: Global, words: &'a [S]) -> Result<ArgMatches<
     grammar(alloc)?.try_get_matches_from(words)
 }
 
-/// The number behind an option, where it is a byte.
+/// The number behind an option, if it is a byte.
 fn byte_behind(words: &ArgMatches, option: &str) -> Option<u8> {
     words.get_one::<u8>(option)
 }
 
-/// The number behind an option, where it has at most 16 bits.
+/// The number behind an option, if it has at most 16 bits.
 fn number_behind(words: &ArgMatches, option: &str) -> Option<u16> {
     words.get_one::<u16>(option)
 }
 
-/// The setting of a cluster, where K, H and L are in order.
+/// The setting of a cluster, if K, H and L are in order.
 fn setting_of(words: &ArgMatches) -> Option<Setting>
     ensures runs { IfSome result (λ setting. setting.workers ≤ 32) }
 {
@@ -312,7 +311,7 @@ fn setting_of(words: &ArgMatches) -> Option<Setting>
     })
 }
 
-/// The command that the words name, where K, H and L are in order.
+/// The command that the words name, if K, H and L are in order.
 fn job_of(words: &ArgMatches) -> Option<Job>
     ensures runs { IfSome result CanRun }
 {
@@ -326,7 +325,7 @@ fn job_of(words: &ArgMatches) -> Option<Job>
     Some(Job::Cluster(setting))
 }
 
-/// Tells that K, H and L are refused.
+/// Says that K, H and L are refused.
 fn refuse<E: Write>(words: &ArgMatches, err: &mut E) -> u8
     ensures { result ≡ 2 }
 {
@@ -368,12 +367,12 @@ where
     }
 }
 
-/// Does what the words ask for, of which the first is the program's name, and answers the status.
-/// Where that is 0, the words name a command and what the input prints by it was written, and
-/// nothing else, or they ask for help or the version, and the input was not read. Where it is 1, a
-/// beginning of that was written, or help or the version could not be written. Where it is 2
-/// nothing was written, and where it is 3 a beginning of what the input prints by the command that
-/// the words name, or nothing. Of what `node` writes nothing is said, unless it is refused.
+/// Does what the words ask for, of which the first is the program's name. The answer is the status.
+/// If it is 0, the words name a command, and what the input prints by it was written and nothing
+/// else; or they ask for help or the version, and the input was not read. If it is 1, a beginning
+/// of that was written, or help or the version could not be written. If it is 2, nothing was
+/// written. If it is 3, a beginning of what the input prints by the command was written, or
+/// nothing. What `node` writes is not promised, unless its words are refused.
 pub fn run_words<T, S, R, O, E>(
     rt: &T,
     alloc: Global,
