@@ -54,7 +54,7 @@ pub active_same : (t : Observers) (old new : Reports) (before : List Process) �
 active_same t old new before obs b e =
     b ∙ same_sorted process_cmp processes_total processes_exact _ _ (sorted_active t old) (sorted_active t new) (λ q. sym (low_active t old q obs) ∙ sym (e q) ∙ low_active t new q obs)
 
--- where nobody came to L reports, those that had as many still have, and no others
+-- if no process came to L reports, those that had L still have, and no others
 pub none_grown : (t : Observers) (old new : Reports) (grown : List Process) → grown ≡ [] → HaveGrown t old new grown → AreAlike t new old
 none_grown t old new grown e g s = g.low s ∙ ap (λ l. reaches_low t old (Some s) || is_in l s) e ∙ or_false (reaches_low t old (Some s))
   where

@@ -81,7 +81,7 @@ no_fault (p ∷ ps) some few up =
     below : (n : ℕ) → n ≤ 1536 → nat_lt 1536 n ≡ false
     below n h = grind arith
 
--- of a filter of the subjects that is not empty no cut is refused but for want of memory
+-- a cut of a filter of the subjects that is not empty is refused only if out of memory
 pub refused_for_memory : (t : Observers) (r : Reports) (p : Process → Bool) (found : List Process) (e : ConfigError) → AreObservers t → IsWithinLimits t r → found ≡ filter p (subjects r) → (length found ≡ 0 → ⊥) → Refuses (cut_fault found) e → e ≡ OutOfMemory
 refused_for_memory t r p found e obs w is some h =
     let few : length found ≤ 1536 = (let a = few_subjects t r obs w in let b = fewer p (subjects r) in let c = ap length is in omega (arith, a, b, c)) in
@@ -121,7 +121,7 @@ unstable_of t direct all ss d e =
 
 -- ---- whether there is a cut
 
--- one passes where a filter keeps some
+-- one passes if a filter keeps some
 pub some_kept : (p : Process → Bool) (xs : List Process) → list_any p xs ≡ true → length (filter p xs) ≡ 0 → ⊥
 some_kept p [] h = cc
 some_kept p (x ∷ xs) h =

@@ -48,7 +48,7 @@ on_these (q ∷ ss) s k h l =
       | inr later ↦ inr (on_these ss s k later l)
     ])
 
--- a key is there exactly where it is found
+-- a key is there exactly if it is found
 pub found_in : (es : List (Process × ℕ)) (s : Process) → is_in (keys_of es) s ≡ is_some (lookup (is_at (process_cmp s)) es)
 found_in [] s = refl
 found_in (e ∷ es) s =
@@ -94,7 +94,7 @@ among mask k (suc n) a low high h =
       | inr other ↦ or_right _ _ (among mask k n (a + 1) (omega (arith, other)) (omega arith) h)
     ]
 
--- a process is reported on where its mask has a ring
+-- a process is reported on if its mask has a ring
 pub on_any : (r : Reports) (q : Process) (mask : ℕ) → ((k : ℕ) → set.contains r (q, k) ≡ has_ring mask k) → list_any (has_ring mask) (range_with_len 0 16) ≡ is_in (subjects r) q
 on_any r q mask at =
     both_ways _ _

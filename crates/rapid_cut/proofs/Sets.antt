@@ -67,7 +67,7 @@ or_right : (a b : Bool) → b ≡ true → (a || b) ≡ true
 or_right true b h = refl
 or_right false b h = h
 
--- a process is among the subjects exactly where some report is on it
+-- a process is among the subjects exactly if some report is on it
 pub on_one : (xs : List Report) (x : Report) → list_any (eq_by_cmp report_cmp x) xs ≡ true → is_in (on_of xs) x.0 ≡ true
 on_one [] x h = h
 on_one (y ∷ ys) x h =
@@ -99,7 +99,7 @@ all_subjects ks found h =
     same_sorted process_cmp processes_total processes_exact found _ h.sorted (sorted_in_order process_cmp processes_total (on_of (set.items (set.from_list {R = report_cmp} ks)))) (λ q.
     sym (or_false (is_in found q)) ∙ h.alike q ∙ sym (in_keys ks q) ∙ sym (any_in_order process_cmp processes_total (on_of (set.items (set.from_list {R = report_cmp} ks))) q))
 
--- a process is among the subjects of a set exactly where the set has a report on it
+-- a process is among the subjects of a set exactly if the set has a report on it
 pub subject_of : (r : Reports) (x : Report) → set.contains r x ≡ true → is_in (subjects r) x.0 ≡ true
 unfolding subjects
 subject_of r x h = any_in_order process_cmp processes_total _ x.0 ∙ on_one (set.items r) x (sym (set.contains-items r x) ∙ h)

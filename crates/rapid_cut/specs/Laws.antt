@@ -39,7 +39,7 @@ pub record AreAllStable (t : Observers) (direct : Reports) (v : Cut) : Type 0 wh
 abbrev pub NoneIsReady : Observers → Reports → Type 0
 NoneIsReady t direct = ((s : Process) → HasHigh t direct s → ⊥) ⊎ ((s : Process) × IsBetweenMarks t direct s)
 
--- A process is listed as stable or unstable exactly if it has so many reports.
+-- A process is listed as stable or unstable exactly if its number of reports says so.
 abbrev pub ListsAreExact : Type 0
 ListsAreExact = (t : Observers) (direct : Reports) → AreObservers t → AreListed t direct
 
@@ -51,8 +51,8 @@ CutIsExact = (t : Observers) (direct : Reports) (v : Cut) → AreObservers t →
 abbrev pub NoCutIsExact : Type 0
 NoCutIsExact = (t : Observers) (direct : Reports) → AreObservers t → (cut_of t direct ≡ None) ↔ NoneIsReady t direct
 
--- Two lists of the same alerts make one set of reports: neither their order nor repeats matter to it, and so to nothing that is
--- said of it, as the reports that it implies, a tally, who is stable or unstable, and the cut.
+-- Two lists of the same alerts make one set of reports: neither order nor repeats matter. So they also agree on the
+-- implied reports, each tally, who is stable or unstable, and the cut.
 abbrev pub OrderAndRepeatsChangeNothing : Type 0
 OrderAndRepeatsChangeNothing =
     (r : Reports) (xs ys : List Alert) → ((a : Alert) → Contains xs a ↔ Contains ys a) → with_alerts r xs ≡ with_alerts r ys
@@ -75,7 +75,7 @@ after_batches t d (xs ∷ batches) = after_batches t (after_batch t d xs) batche
 abbrev pub AllTakenAreKept : Type 0
 AllTakenAreKept = (t : Observers) (d : Detector) (batches : List (List Alert)) → (after_batches t d batches).direct ≡ with_alerts d.direct (taken_in_turn t d batches)
 
--- Implied reports go only to processes that have L direct ones already, so one pass finds them all: the reports are the direct
--- ones, and each whose subject and observer both have at least L direct reports.
+-- Implied reports go only to processes that have L direct ones already, so one pass finds them all. The reports are the
+-- direct ones, and each whose subject and observer both have at least L direct reports.
 abbrev pub OnePassIsEnough : Type 0
 OnePassIsEnough = (t : Observers) (direct : Reports) (x : Report) → AreObservers t → set.contains (reports t direct) x ≡ (set.contains direct x || is_implied t direct x)

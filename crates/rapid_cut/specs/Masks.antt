@@ -13,7 +13,7 @@ use Rattle.rapid_model.specs.Reports.{Report, Reports}
 abbrev pub has_ring : ℕ → ℕ → Bool
 has_ring mask k = nat_lt k 16 && bit_at mask k == 1
 
--- The mask of a process, 0 where there is none.
+-- The mask of a process, 0 if it has none.
 abbrev pub mask_of : List (Process × ℕ) → Process → ℕ
 mask_of es s = unwrap_or (lookup (is_at (process_cmp s)) es) 0
 

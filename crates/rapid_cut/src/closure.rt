@@ -81,7 +81,7 @@ fn is_observer_low<T: ObserverTable>(
     }
 }
 
-/// The mask, with the ring where it is to be added.
+/// The mask, with the ring added if it is to be.
 fn with_ring(mask: u16, ring: u8, is_added: bool) -> u16
     requires { ring < 16 }
     ensures { (k : ℕ) → has_ring result k ≡ (has_ring mask k || (is_added && k == ring)) }
@@ -138,8 +138,9 @@ fn add_implied<T: ObserverTable>(
     Ok(())
 }
 
-/// Adds all that the direct reports imply to what is known with some of it: one pass over those
-/// with at least L direct reports, since what is implied goes to no other process.
+/// Adds all that the direct reports imply to what is known, which may have some of it already. One
+/// pass over the processes with at least L direct reports suffices: an implied report goes to no
+/// other process.
 pub fn close<T: ObserverTable>(
     table: &T,
     kept: &KeptObservers,

@@ -79,7 +79,7 @@ fn is_any_unstable<T: ObserverTable>(
         .any(|subject| is_unstable(table, reports, subject))
 }
 
-/// The want of memory that is the only error of a list that is a cut.
+/// Out of memory: the only error that a list which is a cut can meet.
 fn want_of_memory(error: ConfigError) -> AllocError
     requires { error ≡ ConfigError.OutOfMemory }
 {
@@ -122,7 +122,8 @@ struct Advance {
     count: usize,
 }
 
-/// Closes the reports where these processes came to L, and lists them; the cut then.
+/// Adds the implied reports after these processes came to L, and lists them; the result is the cut
+/// then.
 fn settle<T: ObserverTable>(
     alloc: Global,
     table: &T,
@@ -145,6 +146,7 @@ fn settle<T: ObserverTable>(
     ensures active { OnErr result (active.new.items ≡ active.old.items) }
     ensures before { before known.new ≡ before known.old }
 {
+    // who has L reports is as before, so nothing more is implied
     if grown.is_empty() {
         return cut_of(alloc, table, &known.reports, active);
     }
@@ -194,10 +196,10 @@ fn take_batch<T: ObserverTable>(
 /// The cut detector over a table of observers (Rapid, USENIX ATC 2018).
 ///
 /// It takes batches of alerts until they have a cut. The reports are the pairs of subject and ring
-/// of the well-formed alerts that it took, and further each pair where the subject and its observer
-/// on that ring both have at least L reports. A process is stable with at least H reports and
-/// unstable with L to H - 1. There is a cut where some process is stable and none is unstable: all
-/// that are stable. Of joiners at most 512 are taken; alerts on others are skipped.
+/// of the well-formed alerts that it took, and also each pair whose subject and whose observer on
+/// that ring both have at least L reports. A process is stable with at least H reports and unstable
+/// with L to H - 1. There is a cut if some process is stable and none is unstable: all that are
+/// stable. Of joiners at most 512 are taken; alerts on others are skipped.
 #[derive(Debug, Drop)]
 pub struct Detector<T: ObserverTable> {
     table: T,
@@ -246,8 +248,8 @@ impl<T: ObserverTable> Detector<T> {
     }
 
     /// Takes a batch of alerts; the cut of all that were taken, at the first batch that has one.
-    /// After that the detector is closed: it answers `None` and takes nothing. Where there is no
-    /// memory the detector is as it was.
+    /// After that the detector is closed: it answers `None` and takes nothing. If out of memory the
+    /// detector is as it was.
     #[tactic(auto, unfolding(rapid_model::specs::Detector::after_batch, rapid_model::specs::Detector::batch_cut))]
     pub fn batch(&mut self, alerts: &[Alert]) -> Result<Option<Cut>, AllocError>
         ensures taken { OnOk result (self.new.detector ≡ after_batch (T.observers self.old.table) self.old.detector (map alert_of alerts.now)) }

@@ -13,8 +13,8 @@ use rapid_rings::ObserverTable;
 use std::alloc::{AllocError, Global};
 use std::collections::HashMap;
 
-/// The observers of joiners, by ring. A joiner is on no ring, so that a table has to compute where
-/// it would stand each time that it is asked for one.
+/// The observers of joiners, by ring. A joiner is on no ring, so a table has to compute its
+/// observer anew at each call.
 #[derive(Debug, Drop)]
 pub struct KeptObservers {
     // where the observers of each joiner begin
@@ -134,7 +134,7 @@ impl KeptObservers {
     }
 }
 
-/// The same places. Where there are none, a new map costs less than a copy of an empty one.
+/// The same places. If there are none, a new map costs less than a copy of an empty one.
 fn copied(
     alloc: Global,
     places: &HashMap<SubjectKey, usize>,

@@ -82,7 +82,7 @@ impl KnownReports {
     }
 }
 
-/// The same masks. Where there are none, a new map costs less than a copy of an empty one.
+/// The same masks. If there are none, a new map costs less than a copy of an empty one.
 fn copied(
     alloc: Global,
     masks: &HashMap<SubjectKey, Masks>,

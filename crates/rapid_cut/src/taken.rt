@@ -26,8 +26,9 @@ use std::alloc::{AllocError, Global};
 /// The most joiners that are reported on.
 const JOINERS: usize = 512;
 
-/// Whether the alert's ring exists, its observer is that ring's, its configuration is the table's
-/// and its kind is Remove exactly where the subject is a member; and whether the subject is one.
+/// Whether the alert is well-formed: its ring exists, its observer is that ring's, its
+/// configuration is the table's, and its kind is Remove exactly if the subject is a member. Also
+/// whether the subject is a member.
 fn check<T: ObserverTable>(table: &T, kept: &KeptObservers, alert: &Alert) -> (bool, bool)
     requires { AreKept (T.observers table.now) kept.now.places.entries kept.now.observers.items }
     ensures value { result.0 ≡ model.is_well_formed (T.observers table.now) (alert_of alert.now) }
@@ -46,8 +47,8 @@ fn check<T: ObserverTable>(table: &T, kept: &KeptObservers, alert: &Alert) -> (b
     (well_formed, member)
 }
 
-/// Whether one report more on the process leaves as many joiners reported on: it is a member, or
-/// there is a direct report on it, whose direct reports are for these rings.
+/// Whether one report more on the process adds no joiner to those reported on: it is a member, or
+/// there is a direct report on it already. `mask` has the rings of its direct reports.
 fn is_counted<T: ObserverTable>(
     table: &T,
     reports: &KnownReports,
@@ -121,8 +122,8 @@ fn list(grown: &mut Vec<Process>, comes_to_low: bool, subject: Process) -> Resul
     Ok(())
 }
 
-/// Adds a direct report on a process whose rings so far are these, and lists the process where it
-/// comes to L direct reports by it.
+/// Adds a direct report on a process whose rings so far are these, and lists the process if this
+/// brings it to L direct reports.
 fn put<T: ObserverTable>(
     table: &T,
     known: &mut GrowingReports,
