@@ -1,4 +1,4 @@
--- What subscribers are told of, beside what is published.
+-- What subscribers hear, compared with what is published.
 use Rattle.std.proofs.Common.{◌≡◌, ◌≢◌, ℕ, zero, suc, ◌+◌, ◌<◌, Bool, true, false, cond, Option, Some, None, List, [], ◌∷◌, ◌++◌, length, get_or, set, refl, sym, ap, ◌∙◌, subst, inl, inr, arith}
 use Rattle.std.specs.Prelude.{MatchOption, IfSome, IsSomeAnd, slice_get}
 use Rattle.std.specs.List.{AllZip}

@@ -29,7 +29,7 @@ starts h g published published1 e k t some entry full journal node grown =
     well_at (state_with h published) e _ _ (by_parts g g.entry h.next g.journal g.full published1 refl refl refl node)
     (begins h.entry h.node h.next g.entry h.journal g.journal h.full g.full published published1 e k t.0 full t.1 t.2 some entry journal grown)
 
--- the node could not show what it installed
+-- the desk could not publish what the node installed
 pub lost : (h g : HeldValue) (published : List Stamp) (e : Event) → Keeps (state_with h published) → Tried h e → has_installed h.node h.next ≡ true → g.entry ≡ h.entry → g.journal ≡ h.journal → g.full ≡ h.full → g.node ≡ halt h.next
     → ((x : Node) × Installs h.node e x × (state_with g published ≡ record (state_with h published) { node = halt x })) × Keeps (state_with g published)
 lost h g published e k t some entry journal full node =

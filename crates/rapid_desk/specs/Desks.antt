@@ -42,7 +42,7 @@ pub record DeskValue : Type 0 where
   -- the subscriptions that it serves, by age
   pub subscriptions : List Served
 
--- What subscribers get of a step: the view of what the node shows if it installed something, else nothing.
+-- What subscribers get of a step: the node's view if it installed something, else nothing.
 abbrev pub Announced : Bool → Option Configuration → List Served → List Served → Type 0
 Announced true (Some c) old new = AllZip (Offered c) old new
 Announced true None old new = new ≡ old
@@ -156,12 +156,12 @@ Installs old event new = Follows old event new × (model.has_installed old new �
 abbrev pub Tried : HeldValue → model.Event → Type 0
 Tried held event = (is_refused held.full held.journal event ≡ false) × (model.is_halted held.node ≡ false) × Follows held.node event held.next
 
--- What a node shows, if anything, is published after what was.
+-- The node's view, if it has one, is published after what was.
 abbrev pub Grown : Option Configuration → List Stamp → List Stamp → Type 0
 Grown None old new = ⊥
 Grown (Some c) old new = (new ≡ old ++ stamp c ∷ []) × IsNextShown old c.height
 
--- What is published after a step: what was, and what the node shows if it installed something.
+-- What is published after a step: what was, and the node's view if it installed something.
 abbrev pub Shown : Bool → Option Configuration → List Stamp → List Stamp → Type 0
 Shown true shown old new = Grown shown old new
 Shown false shown old new = new ≡ old

@@ -1,4 +1,4 @@
-// Where a desk publishes its views.
+// The cell to which a desk publishes its views.
 
 ghost use Rattle.std.specs.Prelude.{◌≡◌, ◌≤◌, ◌<◌, ◌||◌, [], ◌∷◌, ◌++◌, true, false, All, vec_len, is_some, IfOk, IfErr, IfSome, OnOk};
 ghost use Rattle.atomic_table.specs.Seated.{TableId};

@@ -60,7 +60,7 @@ impl<R: Wait + Copy + Drop> Model for Desk<R> {
     ghost invariant = { λ d. Keeps (state_with d.held d.board.published) × Follow (shown_height d.board.published) d.outlets.items };
 }
 
-/// Publishes what the node shows.
+/// Publishes the node's view.
 fn publish_shown<R: Wait + Copy + Drop>(
     board: &mut Board<R>,
     alloc: Global,
@@ -141,7 +141,7 @@ fn offer_all<R: Wait>(
     }
 }
 
-/// Puts what the node shows for each subscriber, if something was installed.
+/// Puts the node's view for each subscriber, if something was installed.
 fn announce<R: Wait>(outlets: &mut Vec<Outlet>, rt: &R, alloc: Global, node: &Node, installed: bool)
     requires { installed ≡ true → IfSome (configuration_of node.now) (λ c. Await c.height outlets.old.items) }
     ensures { Announced installed (configuration_of node.now) outlets.old.items outlets.new.items }
@@ -173,7 +173,8 @@ fn drop_marked(outlets: &mut Vec<Outlet>)
 
 impl<R: Wait + Copy + Drop> Desk<R> {
     /// The desk of a founder: a member of this configuration, which has the height 0 and is
-    /// published at once. The caller sees that the process is a member, and asks for 1 to 64 seats.
+    /// published at once. The caller ensures that the process is a member, and asks for 1 to 64
+    /// seats.
     ///
     /// # Errors
     ///
@@ -257,8 +258,8 @@ impl<R: Wait + Copy + Drop> Desk<R> {
     }
 
     /// Begins the journal anew: its entry becomes a copy of the node, and it has no record. The
-    /// node, what is published and who is subscribed stay. A desk of which this is asked now and
-    /// then never meets `JournalFull`, also if its configuration stays for long.
+    /// node, what is published and who is subscribed stay. A desk that is asked for a checkpoint
+    /// often enough never answers `JournalFull`, even if its configuration stays for long.
     ///
     /// # Errors
     ///
@@ -344,7 +345,7 @@ impl<R: Wait + Copy + Drop> Desk<R> {
         if self.outlets.len() >= MOST_SUBSCRIBERS {
             return Err(DeskError::TooManySubscribers);
         }
-        // what is published, not what the node shows: they differ after `Unpublished`
+        // what is published, not the node's view: they differ after `Unpublished`
         let since = self.board.height();
         let (outlet, subscription) = subscribe(self.alloc, capacity, since)?;
         match self.outlets.push(outlet) {

@@ -14,9 +14,9 @@ use std::alloc::{AllocError, Global};
 use std::marker::Model;
 use std::sync::Wait;
 
-/// The desk's end of a subscription. Contracts see its queue, the height of the view that was
-/// published last when it was made, how many changes may wait, what was put, and what is known to
-/// be taken of that.
+/// The desk's end of a subscription. Contracts see its queue, how many changes may wait, what was
+/// put, and what is known to be taken of that. They also see the height of the view that was
+/// published last when it was made.
 #[derive(Drop)]
 pub struct Outlet {
     sink: Sink<Notice, Successive>,
