@@ -32,14 +32,14 @@ pub enum Command {
     Edge(Place),
     /// An alert for the next batch.
     Report(Kind, Place),
-    /// That the batch is handed to the detector.
+    /// The batch is given to the detector.
     Batch,
 }
 
 /// What a line asks for.
 #[derive(Clone, Copy, Debug)]
 pub enum Asked {
-    /// Nothing: it is passed over.
+    /// Nothing: the line is skipped.
     Nothing,
     /// Nothing that is known.
     Unknown,

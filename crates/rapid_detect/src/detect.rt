@@ -173,7 +173,7 @@ impl DetectRun {
         Ok(Reply::Silent)
     }
 
-    /// Hands the batch to the detector.
+    /// Gives the batch to the detector.
     fn batch(&mut self) -> Result<Reply, AllocError>
         ensures { IfOk result (Obeys self.old self.new (model.Command line.Batch)) }
     {
@@ -239,8 +239,8 @@ impl Engine for DetectRun {
 }
 
 /// Reads lines and writes what they print, and nothing else. After a fault a beginning of that is
-/// written: `Read` if the input could not be read, `Write` if the output could not be written,
-/// `OutOfMemory` if there was no memory.
+/// written. The fault is `Read` if the input could not be read, `Write` if the output could not be
+/// written, `OutOfMemory` if out of memory.
 pub fn run_detect<R: Read, W: Write>(
     alloc: Global,
     reader: &mut R,
