@@ -16,7 +16,7 @@ impl Endpoint {
     ///
     /// Errors, in this order: `NotFourParts` if the host has not exactly four parts between dots,
     /// `PartRange` if a part is no number from 0 to 255, `BadPort` if there is no colon or what
-    /// follows it is no number from 0 to 65,535. Numbers have no needless zero in front.
+    /// follows it is no number from 0 to 65,535. Numbers have no leading zeros.
     pub fn parse(text: &str) -> Result<Endpoint, ParseError>
         ensures { result ≡ endpoint_from text.now }
     {

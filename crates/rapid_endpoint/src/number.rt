@@ -4,8 +4,8 @@ ghost use Rattle.std.specs.Prelude.{◌≡◌, ◌≤◌, not, length, if◌then
 ghost use Rattle.std.specs.List.{list_all};
 ghost use Rattle.rapid_model.specs.EndpointText.{is_digit, is_number, has_no_needless_zero, value_of};
 
-/// The number that a text spells: at most this many digits, at most this limit, and no needless
-/// zero in front.
+/// The number that a text spells: at most this many digits, at most this limit, and no leading
+/// zeros.
 pub(crate) fn number(text: &[u8], digits: usize, limit: u32) -> Option<u32>
     requires { digits ≤ 5 }
     ensures value { result ≡ (if is_number digits limit text.now then Some (value_of text.now) else None) }

@@ -11,10 +11,10 @@ pub enum ParseError {
     /// The host has not exactly four parts between dots.
     #[error("the host has not four parts")]
     NotFourParts,
-    /// A part is no number from 0 to 255, without a needless zero in front.
+    /// A part is no number from 0 to 255, without leading zeros.
     #[error("a part of the host is no number from 0 to 255")]
     PartRange,
-    /// There is no port, or it is no number from 0 to 65,535, without a needless zero in front.
+    /// There is no port, or it is no number from 0 to 65,535, without leading zeros.
     #[error("the port is no number from 0 to 65535")]
     BadPort,
     /// The text is no UUID.
