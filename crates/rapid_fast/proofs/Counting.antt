@@ -24,7 +24,7 @@ module _ (xs : List (Cut × ℕ)) (sorted : T (is_sorted cut_cmp xs)) (v : Cut) 
   pub count_of-missing : (i : ℕ) → i ≤ length xs → AllWithin (λ e. cut_cmp e.0 v ≡ Less) xs 0 i → AllWithin (λ e. cut_cmp e.0 v ≡ Greater) xs i (length xs) → count_of (map.from_sorted xs) v ≡ 0
   count_of-missing i h low high = ap (λ o. unwrap_or o 0) (map.get-from_sorted cut_cmp xs v sorted ∙ find_missing cuts_total v xs i h low high)
 
-  -- the counters after an edit that puts a count in its place
+  -- the counters after a change that puts a count in its place
   sorted_put : (n : ℕ) (ys : List (Cut × ℕ)) → ys ≡ put cut_cmp v n xs → T (is_sorted cut_cmp ys)
   sorted_put n ys e = subst (λ l. T (is_sorted cut_cmp l)) (sym e) (is_sorted-put cut_cmp cuts_total v n xs sorted)
 
@@ -62,7 +62,7 @@ counted-one_more m s p v new few w =
     one_at_most true = omega arith
     one_at_most false = omega arith
 
--- the same, in the words of the calls: the counters xs as the slice zs shows them, and the value m that they stand for
+-- the same, in the terms of the calls: the counters xs as the slice zs has them, and the value m that they represent
 module _ (m : Counts) (xs zs : List (Cut × ℕ)) (v : Cut) (sorted : T (is_sorted cut_cmp xs)) (view : map.from_sorted xs ≡ m) (same : zs ≡ xs) where
   split_at : (i : ℕ) → (IsNonDecreasingBy (λ e. ordering_index (cut_cmp e.0 v)) zs → IsPartitionPoint (λ e. cut_cmp e.0 v ≡ Less) (λ e. cut_cmp e.0 v ≡ Greater) zs i) → IsPartitionPoint (λ e. cut_cmp e.0 v ≡ Less) (λ e. cut_cmp e.0 v ≡ Greater) xs i
   split_at i place =

@@ -21,7 +21,7 @@ decision-new f p v h b e = rw h (ap (λ t. cond t (Some v) None) (sym e))
 pub after_vote-known : (r : OwnRound) (p : ℕ) (v : Cut) → set.contains r.round.heard p ≡ true → r ≡ after_vote r p v
 after_vote-known r p v h = λ i. record { position = r.position; round = sym (hear_vote-heard r.round p v h) i }
 
--- where fewer have voted than one less than a fast quorum, no next vote decides
+-- if fewer have voted than one less than a fast quorum, no next vote decides
 pub decides_not : (r : OwnRound) → IsRound r → set.len r.round.heard + 1 < fast_size r.round.size → (p : ℕ) (v : Cut) → fast_decision r.round p v ≡ None
 decides_not r is few p v = by (set.contains r.round.heard p) refl
   where

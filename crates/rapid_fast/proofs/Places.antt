@@ -1,4 +1,4 @@
--- Entries that ascend by their keys: where a key stands, and what a search and an edit at its place give.
+-- Entries that ascend by their keys: where a key stands, and what a search and a change at its place give.
 use Rattle.std.proofs.Common.{◌≡◌, ℕ, zero, suc, ◌≤◌, ◌<◌, Bool, true, false, cond, T, ◌&&◌, List, [], ◌∷◌, length, set, get_or, refl, sym, ap, subst, ◌∙◌, arith, inl, inr, ◌⊎◌, Some, None}
 use Rattle.std.specs.declared.cmp.Ordering.{Ordering}
 use Rattle.std.specs.declared.cmp.Ordering.TheVariants.{Less, Equal, Greater}
@@ -61,7 +61,7 @@ module _ {K X : Type 0} {R : K → K → Ordering} (o : IsTotalOrder R) where
       by (inr other) = index_rises o (get_or es i d).0 (get_or es j d).0 k (sorted_at es i j d s (omega (arith, other)) l)
 
   module _ (k : K) where
-    -- what comes before the place of a key that ties is passed over
+    -- what comes before the place of a key that ties is skipped
     pub put_found : (es : List (K × X)) (i : ℕ) (v : X) (d : K × X) → T (is_sorted R es) → i < length es → R (get_or es i d).0 k ≡ Equal → put R k v es ≡ set es i ((get_or es i d).0, v)
     put_found [] i v d s h t = absurd (omega arith)
     put_found (e ∷ es) zero v d s h t = ap (λ r. by_order r ((k, v) ∷ e ∷ es) ((e.0, v) ∷ es) (e ∷ put R k v es)) (tied_back o e.0 k t)

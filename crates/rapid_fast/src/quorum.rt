@@ -6,5 +6,6 @@ ghost use Rattle.rapid_model.specs.Quorum as model;
 pub fn fast_size(n: usize) -> usize
     ensures { result ≡ model.fast_size n }
 {
+    // floor(3n / 4) + 1, computed so that no product overflows
     n / 4 * 3 + n % 4 * 3 / 4 + 1
 }

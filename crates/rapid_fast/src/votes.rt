@@ -60,6 +60,8 @@ impl VoteCounts {
                 if first.0 != *cut {
                     return self.others.add_up_to(cut, enough);
                 }
+                // equal, not at least: the cut is answered once, at the vote that reaches the
+                // threshold; copied first, so that a refused copy counts nothing
                 let reached = copy_if(first.1 + 1 == enough, self.alloc, cut)?;
                 first.1 += 1;
                 Ok(reached)
