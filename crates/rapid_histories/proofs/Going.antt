@@ -119,7 +119,7 @@ last_of total (y ∷ ys) o = let rest = last_of total ys o in last_more total o 
 
 -- ---- the nearest going round upwards to j
 
--- whether x is met before j from where the ring begins
+-- whether x is met before j from the beginning of the ring
 abbrev near : ℕ → Process → Process → ℕ
 near k j x = cond (is_before k x j) 1 0
 

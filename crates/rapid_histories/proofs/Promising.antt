@@ -155,7 +155,7 @@ module _ (n : ℕ) (b : Ballot) (c : Coordinator) (said : List Report) (k : Coun
       by true h = counted_known h
       by false h = counted_new h
 
--- a promise of another ballot is passed over
+-- a promise of another ballot is ignored
 passed_over : (c : Coordinator) (p : ℕ) (b at : Ballot) (vote : Option (Vote Cut)) → c.ballot ≡ Some b → same_ballot b at ≡ false → after_report c p at vote ≡ c
 unfolding after_report
 passed_over c p b at vote mine other =

@@ -35,8 +35,8 @@ GiversCount =
     (n : ℕ) (notices : List Notice) (b : Ballot) (v : Cut) → AreOfMembers n notices →
     notice_count (learner_after n notices).notices b v ≡ size (positions n) (givers notices b v)
 
--- A notice teaches exactly the cut that it is of, if it completes a classic quorum for its ballot and cut, and none was
--- complete for any ballot and cut before.
+-- A notice teaches exactly its own cut. It does so if it completes a classic quorum for its ballot and cut, and none
+-- was complete for any ballot and cut before.
 abbrev pub NoticesComplete : Type 0
 NoticesComplete =
     (n : ℕ) (notices : List Notice) (p : ℕ) (b : Ballot) (v w : Cut) → AreOfMembers n notices → p < n →

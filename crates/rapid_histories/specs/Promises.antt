@@ -42,8 +42,8 @@ reporters b given t v = firsts (is_vote_for t v) (promised_at b given)
 abbrev pub Reported : Ballot → List Given → ℕ → Vote Cut → Type 0
 Reported b given p u = first (promised_at b given) p ≡ Some (Some u)
 
--- No vote is reported, and none is counted; or t is the highest ballot of a vote that is reported, and each cut's
--- count is the number of positions that reported a vote for it there.
+-- No vote is reported, and none is counted. Or t is the highest ballot of a vote that is reported, and each cut's count
+-- is the number of positions that reported a vote for it there.
 abbrev pub TopIsOf : ℕ → Ballot → List Given → Option Ballot → Counts → Type 0
 TopIsOf n b given None counts = ((p : ℕ) (u : Vote Cut) → Reported b given p u → ⊥) × (counts ≡ map.empty)
 TopIsOf n b given (Some t) counts =

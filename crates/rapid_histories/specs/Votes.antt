@@ -1,5 +1,5 @@
 -- Clauses of public calls cite this file.
--- A fast round over all votes that it was told.
+-- A fast round over all votes that it heard.
 use Rattle.std.specs.Prelude.{◌≡◌, ℕ, ◌<◌, ◌↔◌, Bool, List, [], ◌∷◌, ◌++◌, Some, None}
 use Rattle.rapid_model.specs.Cut.{Cut, same_cut}
 use Rattle.rapid_model.specs.Quorum.{size, IsFast}

@@ -1,5 +1,5 @@
-//! Laws of the parts of a member over all that they were told: who observes whom, votes, promises
-//! and notices.
+//! Laws of the parts of a member over all that they heard: who observes whom, votes, promises and
+//! notices.
 //!
 //! No function does any work: each contract is a law over the definitions that the parts meet, call
 //! by call.
