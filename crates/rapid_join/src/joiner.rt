@@ -82,7 +82,10 @@ impl Joiner {
             Reply::Safe(id, observers) => {
                 Ok(JoinerAnswer::Requests(requests(alloc, *id, observers)?))
             }
+            // it has other observers now, which the seed knows
             Reply::ConfigurationChanged => Ok(JoinerAnswer::PreJoin(self.seed)),
+            // it asks again at its tenth tick: a member with its endpoint may leave, and joiners
+            // are let in
             Reply::EndpointInUse | Reply::TooManyJoiners => Ok(JoinerAnswer::Nothing),
         }
     }
