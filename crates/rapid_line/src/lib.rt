@@ -1,5 +1,5 @@
-//! A bounded queue with one end that puts and one that takes: what was taken is a beginning of what
-//! was put, in order, each item once, and each item may follow those before it.
+//! A bounded queue with one end that puts and one that takes. What was taken is a beginning of what
+//! was put, in order, each item once. Each item may follow those before it.
 #![tactic(auto)]
 
 mod ends;
