@@ -1,4 +1,4 @@
--- Which work of a member says nothing.
+-- Which work of a member sends nothing.
 use Rattle.std.proofs.Common.{◌≡◌, ℕ, ◌%◌, Bool, true, false, cond, ◌==◌, List, [], refl, sym, ap, subst, ◌∙◌, Option, Some, None}
 use Rattle.rapid_model.proofs.Orders.{same_bytes_decides}
 use Rattle.rapid_model.specs.Limits.{resend_period}

@@ -87,7 +87,7 @@ impl Decisions {
         Some(&found.1)
     }
 
-    /// Answers a message about a configuration that was left. If out of memory it says nothing.
+    /// Answers a message about a configuration that was left. If out of memory it sends nothing.
     pub fn catch_up(
         &self,
         alloc: Global,

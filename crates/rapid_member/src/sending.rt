@@ -9,7 +9,7 @@ use rapid_endpoint::{Endpoint, Process};
 use rapid_message::{Body, Destination, Message, Output};
 use std::alloc::AllocError;
 
-/// Says something to the other members. If out of memory it says nothing.
+/// Sends something to the other members. If out of memory it sends nothing.
 pub(crate) fn say(out: &mut Vec<Output>, me: Process, body: Body) -> Result<(), AllocError>
     requires { CanSay me body }
     ensures said { OnOk result (out.new.items ≡ out.old.items ++ outputs me (Says ModelOthers (body_of body) ∷ [])) }
@@ -19,7 +19,7 @@ pub(crate) fn say(out: &mut Vec<Output>, me: Process, body: Body) -> Result<(), 
     Ok(())
 }
 
-/// Says something to an endpoint. If out of memory it says nothing.
+/// Sends something to an endpoint. If out of memory it sends nothing.
 pub(crate) fn say_to(
     out: &mut Vec<Output>,
     me: Process,
@@ -34,7 +34,7 @@ pub(crate) fn say_to(
     Ok(())
 }
 
-/// Says something to the endpoint of a process. If out of memory it says nothing.
+/// Sends something to the endpoint of a process. If out of memory it sends nothing.
 pub(crate) fn answer(
     out: &mut Vec<Output>,
     me: Process,

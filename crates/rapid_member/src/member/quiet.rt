@@ -1,4 +1,4 @@
-// Which work of a member certainly says nothing.
+// Which work of a member certainly sends nothing.
 
 ghost use Rattle.std.specs.Prelude.{◌≡◌, ◌%◌, ◌==◌, [], true, false};
 ghost use Rattle.rapid_model.specs.Node.{Decisions};
@@ -37,7 +37,7 @@ impl MemberState {
         }
     }
 
-    /// Whether the next tick certainly says nothing and decides nothing: no alert waits, neither a
+    /// Whether the next tick certainly sends nothing and decides nothing: no alert waits, neither a
     /// repeat nor a ballot is due, and no process is unstable. False says nothing of it.
     #[tactic(auto, using(crate::proofs::Quiet::tick_says_nothing))]
     pub fn has_quiet_tick(&self) -> bool
@@ -49,7 +49,7 @@ impl MemberState {
             && self.is_steady()
     }
 
-    /// Whether the message certainly makes the member say nothing and decide nothing: a fast vote
+    /// Whether the message certainly makes the member send nothing and decide nothing: a fast vote
     /// of its configuration that cannot complete a quorum. False says nothing of it.
     #[tactic(auto, using(crate::proofs::Quiet::message_says_nothing))]
     pub fn is_quiet_at(&self, message: &Message) -> bool

@@ -129,6 +129,7 @@ impl MemberState {
         ensures state { OnOk result (self.new ≡ record self.old { ages = tick.next_ages self.old.ages unstable.now }) }
         ensures same { IsSameMember self.old self.new }
     {
+        // as at nearly every tick: no map is made then
         if unstable.is_empty() && self.is_calm() {
             return Ok(());
         }
@@ -234,6 +235,8 @@ impl MemberState {
     pub(super) fn is_due_at(&self, at: u64) -> bool
         ensures { result ≡ tick.is_due (record self.now { tick = at }) self.now.first_vote }
     {
+        // a later place waits longer, so that mostly one member begins a ballot and none overtakes
+        // it
         let patience = FIRST_RECOVERY + RECOVERY_STEP * self.place() as u64;
         match self.first_vote {
             Some(first) => first < at && (at - first) % patience == 0,
@@ -293,8 +296,8 @@ impl MemberState {
         self.send_batch(out)
     }
 
-    /// A tick: votes and alerts go out again where they are due, then the batch, and last a ballot
-    /// is begun where one is due. The result is the cut that was decided, if any.
+    /// A tick: votes and alerts go out again if they are due, then the batch, and last a ballot is
+    /// begun if one is due. The result is the cut that was decided, if any.
     ///
     /// On an error a part of this may be done, so no clause says more than who the member is and
     /// where. It is of no further use, and nothing that was added to the outputs is to be sent:
