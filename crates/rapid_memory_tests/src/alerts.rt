@@ -30,14 +30,14 @@ fn flushed(outbox: &mut Outbox<Table>) -> Result<usize, AllocError> {
 /// A call of an outbox, and what it answers.
 #[derive(Clone, Copy, Debug)]
 enum Call {
-    /// An alert of a kind, on a ring, of an observer, on a subject. It is raised, again if no memory
-    /// was to be had.
+    /// An alert of a kind, on a ring, of an observer, on a subject. It is raised, and once more if
+    /// out of memory.
     RaiseAgain(Kind, u8, u16, u16),
-    /// A batch of this many alerts, asked for again if no memory was to be had.
+    /// A batch of this many alerts, asked for again if out of memory.
     FlushAgain(usize),
 }
 
-/// An alert, raised again if no memory was to be had: the outbox is then as it was.
+/// An alert, raised again if out of memory: the outbox is then as it was.
 fn raised_again(outbox: &mut Outbox<Table>, alert: &Alert) -> Result<Raising, RaiseError> {
     match outbox.raise(*alert) {
         Err(RaiseError::OutOfMemory) => outbox.raise(*alert),
@@ -45,7 +45,7 @@ fn raised_again(outbox: &mut Outbox<Table>, alert: &Alert) -> Result<Raising, Ra
     }
 }
 
-/// How many alerts the next batch has, asked for again if no memory was to be had.
+/// How many alerts the next batch has, asked for again if out of memory.
 fn flushed_again(outbox: &mut Outbox<Table>) -> Result<usize, AllocError> {
     match flushed(outbox) {
         Err(_refused) => flushed(outbox),

@@ -14,7 +14,7 @@ use std::test::Fail;
 #[derive(Clone, Copy, Debug)]
 enum Call<'a> {
     /// A batch that removes, the numbers of its cut, none if it has no cut, and how many alerts are
-    /// skipped. It is handed in again if no memory was to be had.
+    /// skipped. It is given again if out of memory.
     RemoveAgain(&'a [Edge], &'a [u16], usize),
     /// How many reports there are on a process.
     Tally(u16, usize),
@@ -79,8 +79,8 @@ fn cuts(
     has_cut(detector, alerts.as_slice(), cut, skipped)
 }
 
-/// Whether a batch that removes has this cut and skips this many alerts, handed in again if no
-/// memory was to be had: the detector is then as it was.
+/// Whether a batch that removes has this cut and skips this many alerts, given again if out of
+/// memory: the detector is then as it was.
 fn cuts_again(
     alloc: Global,
     detector: &mut Detector<Table>,
@@ -128,7 +128,7 @@ const BRINGS: [Call; 3] = [
     Call::Tally(5, 3),
 ];
 
-/// After a refused growth the detector is as it was, so that batches handed in again bring the same
+/// After a refused growth the detector is as it was, so that batches given again bring the same
 /// cut.
 #[test]
 fn out_of_memory_leaves_the_detector_as_it_was(rt: HostRuntime) -> Result<(), Fail> {

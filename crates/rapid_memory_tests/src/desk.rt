@@ -62,7 +62,7 @@ pub(crate) fn step<R: Wait>(desk: &mut Desk<&R>, event: Event) -> Result<(), Des
     Ok(())
 }
 
-/// Hands an event to the desk. A desk that was out of memory takes the event again. If the node
+/// Gives an event to the desk. A desk that was out of memory takes the event again. If the node
 /// halted in the step, or its view was not published, the node has halted.
 fn hand_over<R: Wait + Abort>(
     rt: &R,
@@ -110,7 +110,7 @@ fn is_told_in_order<R: Wait>(rt: &R, subscription: &mut Subscription) -> bool {
     false
 }
 
-/// Hands the decisions to let in three guests to the desk, whose seat sees each published view.
+/// Gives the decisions to let in three guests to the desk, whose seat sees each published view.
 fn let_three_in<R: Wait + Abort>(
     rt: &R,
     alloc: Global,

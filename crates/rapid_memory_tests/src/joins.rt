@@ -36,7 +36,7 @@ fn copy_answers(host: &Host, cases: &[Question]) -> Result<bool, AllocError> {
     answers_first(&copy, cases)
 }
 
-/// The number of the answer to a request, made again if no memory was to be had.
+/// The number of the answer to a request, made again if out of memory.
 fn asked(host: &mut Host, joiner: u16, id: ConfigId) -> Result<u8, AllocError> {
     let answer = match host.join_request(&process(joiner), id, 0) {
         Err(_refused) => host.join_request(&process(joiner), id, 0)?,
@@ -45,7 +45,7 @@ fn asked(host: &mut Host, joiner: u16, id: ConfigId) -> Result<u8, AllocError> {
     Ok(number(&answer))
 }
 
-/// How many waited for the change, asked again if no memory was to be had.
+/// How many waited for the change, asked again if out of memory.
 fn confirmed(host: &mut Host, next: &Configuration) -> Result<usize, AllocError> {
     match host.confirms(next) {
         Err(_refused) => Ok(host.confirms(next)?.len()),
@@ -72,8 +72,8 @@ fn three_wait_for(alloc: Global, host: &mut Host, names: &[Name]) -> Result<bool
 /// A call of a host, and what it answers.
 #[derive(Clone, Copy, Debug)]
 enum Call<'a> {
-    /// Three ask for ring 0 and wait until a change to these members. Each asks again if no memory
-    /// was to be had.
+    /// Three ask for ring 0 and wait until a change to these members. Each asks again if out of
+    /// memory.
     ThreeWait(&'a [Name]),
     /// First questions at a copy.
     CopyQuestions(&'a [Question]),

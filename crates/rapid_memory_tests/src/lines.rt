@@ -132,7 +132,7 @@ fn has_halted_node(world: &World) -> bool {
     false
 }
 
-/// Checks that the nodes with these numbers show the last configuration of a line.
+/// Checks that the nodes with these numbers have the last configuration of a line.
 fn assert_at_the_end(rt: &impl Abort, world: &World, line: &Line, numbers: &[u16]) {
     let [_, last] = line;
     for number in numbers {

@@ -1,4 +1,5 @@
-// Steps of a node: if memory runs out in one the node halts, sends nothing and shows what it showed.
+// Steps of a node: if memory runs out in one, the node halts, sends nothing and keeps its
+// configuration.
 
 use crate::numbered::{Marks, cut, process};
 use rapid_alerts::{Alert, Batch, Kind};
@@ -33,7 +34,7 @@ enum To {
     Others,
 }
 
-/// What a node hears, in the configuration that it shows.
+/// What a node hears, in its configuration.
 #[derive(Clone, Copy)]
 enum Word {
     /// A tick.
@@ -48,7 +49,7 @@ enum Word {
     Joining,
 }
 
-/// What a node shows after a step that has memory.
+/// The configuration of a node after a step that has memory.
 #[derive(Clone, Copy)]
 struct Outcome<'a> {
     /// What it sent: to whom, and what.
@@ -136,7 +137,7 @@ fn member(
     Ok(Box::new(alloc, node)?)
 }
 
-/// The identifier of the configuration that a node shows.
+/// The identifier of a node's configuration.
 fn shown(rt: &impl Abort, node: &Node) -> ConfigId {
     node.configuration().expect(rt, "a configuration").id()
 }
@@ -214,8 +215,8 @@ fn assert_last(rt: &impl Abort, node: &Node, id: ConfigId, height: u64, members:
     assert!(rt; last.id() == id);
 }
 
-/// Checks that a node shows the configuration of this height and these members, and that it
-/// installed that last.
+/// Checks that a node's configuration has this height and these members, and that it installed that
+/// last.
 fn assert_shows(rt: &impl Abort, node: &Node, height: u64, members: &[u16]) {
     let shown = node.configuration().expect(rt, "a configuration");
     assert_eq!(rt; shown.height(), height);
@@ -261,7 +262,7 @@ fn hears(rt: &impl Abort, node: &mut Node, event: Event) -> Result<(), Fail> {
 }
 
 /// Checks the step of a founder among this many founders at an event: it has the outcome, or, out
-/// of memory, the node has halted and shows the founding configuration alone.
+/// of memory, the node has halted and keeps the founding configuration.
 fn tries(rt: &impl Abort, node: &mut Node, event: Event, founders: &[u16], outcome: Outcome) {
     match told(node, event) {
         Ok(outputs) => {
@@ -349,8 +350,8 @@ fn out_of_memory_at_a_batch_with_a_vote(rt: HostRuntime) -> Result<(), Fail> {
     lives(&rt, rt.alloc(), (1, 1, 1), &[1, 2], &BATCH)
 }
 
-/// A founder alone, of whom the third process asks to let it in, hears that this is decided: the
-/// joiner is let in and confirmed.
+/// A founder alone, whom the third process asks to join, hears the decision: the joiner is let in
+/// and confirmed.
 const DECISION: [Step; 2] = [
     Step::Hears(Word::JoinRequest),
     Step::Tries(

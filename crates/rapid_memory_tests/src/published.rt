@@ -1,5 +1,5 @@
-// A desk out of memory at a decision: what is published stays, and a halted node shows no more than what
-// its subscriber and its readers were told, or one view more that could not be published.
+// A desk out of memory at a decision. What is published stays. A halted node has no view beyond
+// what its subscriber and its readers saw, or one more that could not be published.
 
 use crate::desk::{alone, decision, step};
 use rapid_desk::{Desk, DeskError, Subscription, Taken};
@@ -18,8 +18,8 @@ enum Answer {
     Halted,
 }
 
-/// Hands the decision to let in a process to a desk, and checks that it published the next view, or has
-/// changed nothing, or has halted and published nothing.
+/// Gives the decision to let in a process to a desk, and checks that it published the next view, or
+/// has changed nothing, or has halted and published nothing.
 fn decide<R: Wait + Abort>(
     rt: &R,
     alloc: Global,
@@ -61,8 +61,8 @@ fn let_three_in<R: Wait + Abort>(
     Ok(())
 }
 
-/// Checks that a subscriber with room for two is told the views of this many heights in order, or at the
-/// latest after two that it lagged, and nothing behind that.
+/// Checks that a subscriber with room for two hears the views of this many heights in order, or
+/// after two at the latest that it lagged, and nothing behind that.
 fn assert_told<R: Wait + Abort>(rt: &R, subscription: &mut Subscription, heights: u64) {
     let mut last = 0u64;
     for height in 1..heights.saturating_add(1) {
@@ -79,7 +79,7 @@ fn assert_told<R: Wait + Abort>(rt: &R, subscription: &mut Subscription, heights
     assert_eq!(rt; lagged, last < heights);
 }
 
-/// Checks that a halted desk refuses what comes, and shows what it showed.
+/// Checks that a halted desk refuses what comes, and keeps its view.
 fn assert_refuses<R: Wait + Abort>(rt: &R, desk: &mut Desk<&R>, seat: &mut ViewSeat) {
     let shown = seat.stamp().height();
     let answer = step(desk, Event::Tick);

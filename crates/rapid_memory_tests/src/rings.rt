@@ -1,5 +1,5 @@
-// Rings, tables of explicit edges, and the probe windows of a member: each call says by its error that
-// memory ran out and changes nothing, or makes what it makes with memory.
+// Rings, tables of explicit edges, and the probe windows of a member. Each call says by its error
+// that memory ran out and changes nothing, or makes what it makes with memory.
 
 use crate::numbered::{Marks, Name, THREE, founded, process};
 use rapid_config::{ConfigError, Configuration, Params};
@@ -23,7 +23,7 @@ fn rings_of(alloc: Global, marks: Marks, names: &[Name]) -> Result<Rings, Config
     Ok(Rings::new(alloc, &configuration)?)
 }
 
-/// A ring, an observer and a subject; 0 stands for nobody.
+/// A ring, an observer and a subject; 0 stands for no process.
 type Edge = (u8, u16, u16);
 
 /// Whether each one observes the other on the ring.
@@ -36,7 +36,7 @@ fn are_edges(rings: &Rings, edges: &[Edge]) -> bool {
     true
 }
 
-/// Whether rings of three tell their configuration, in which there is no process 6.
+/// Whether rings of three answer their configuration, in which there is no process 6.
 fn tell(rings: &Rings, configuration: &Configuration) -> bool {
     rings.params().k() == 3
         && rings.id() == configuration.id()
@@ -45,7 +45,7 @@ fn tell(rings: &Rings, configuration: &Configuration) -> bool {
 }
 
 /// Whether on the next rings each one observes the other, process 1 has three subjects, and they
-/// tell of their configuration.
+/// answer their configuration.
 fn are_next(
     alloc: Global,
     before: &Rings,
@@ -99,15 +99,15 @@ fn out_of_memory_in_rings(rt: HostRuntime) -> Result<(), Fail> {
 /// A call of a table, and what it answers.
 #[derive(Clone, Copy, Debug)]
 enum Call {
-    /// The observer on a ring of a subject; 0 stands for nobody.
+    /// The observer on a ring of a subject; 0 stands for no process.
     Observer(u8, u16, u16),
-    /// An edge from process 1 to process 5 on a ring, put again if no memory was to be had.
+    /// An edge from process 1 to process 5 on a ring, put once more if out of memory.
     PutAgain(u8),
-    /// Process 9 is made a joiner, again if no memory was to be had.
+    /// Process 9 is made a joiner, once more if out of memory.
     JoinAgain,
 }
 
-/// Puts an edge from process 1 to process 5 on a ring, again if no memory was to be had.
+/// Puts an edge from process 1 to process 5 on a ring, once more if out of memory.
 fn put(table: &mut Table, ring: u8) -> Result<(), TableError> {
     match table.add(ring, process(1), process(5)) {
         Err(TableError::OutOfMemory) => table.add(ring, process(1), process(5)),
@@ -115,7 +115,7 @@ fn put(table: &mut Table, ring: u8) -> Result<(), TableError> {
     }
 }
 
-/// Whether process 9 is made a joiner, again if no memory was to be had.
+/// Whether process 9 is made a joiner, once more if out of memory.
 fn join(table: &mut Table) -> bool {
     match table.joiner(process(9)) {
         Err(_refused) => table.is_member(&process(9)) && table.joiner(process(9)).is_ok(),
@@ -201,7 +201,7 @@ fn steps(alloc: Global, monitors: &mut Monitors, step: &Step) -> bool {
     }
 }
 
-/// The monitors of a process, made again if no memory was to be had.
+/// The monitors of a process, made once more if out of memory.
 fn made(alloc: Global, rings: &Rings, me: u16) -> Result<Monitors, AllocError> {
     match Monitors::new(alloc, rings, &process(me)) {
         Err(_refused) => Monitors::new(alloc, rings, &process(me)),
@@ -209,7 +209,7 @@ fn made(alloc: Global, rings: &Rings, me: u16) -> Result<Monitors, AllocError> {
     }
 }
 
-/// The monitors of a process among two members, made again if no memory was to be had.
+/// The monitors of a process among two members, made once more if out of memory.
 fn monitors_of(alloc: Global, me: u16) -> Result<Monitors, ConfigError> {
     let rings = rings_of(alloc, THREE, &TWO)?;
     Ok(made(alloc, &rings, me)?)

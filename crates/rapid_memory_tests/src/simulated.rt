@@ -1,6 +1,6 @@
-// `sim` out of memory: it writes what it writes otherwise up to a line that says that an event was
-// refused for it or that a node halted, and after that no view that it does not write otherwise; or it
-// ends by name, and has written a beginning.
+// `sim` out of memory. Up to a line that says that an event was refused for it, or that a node
+// halted, it writes what it writes otherwise. After that it writes no view that it does not write
+// otherwise. Or it ends with that fault, and has written a beginning.
 
 use crate::text::Fixed;
 use rapid_sim::run_sim;

@@ -17,7 +17,7 @@ fn cut(alloc: Global, number: u8) -> Result<Cut, ConfigError> {
     Cut::new(Vec::from_array(alloc, [process(u16::from(number))])?)
 }
 
-/// Whether it is the cut of the process with this number, or none as is wanted.
+/// Whether it is the cut of the process with this number, or none, as expected.
 fn is_cut(found: Option<&Cut>, number: Option<u8>) -> bool {
     match (found, number) {
         (Some(found), Some(number)) => match found.processes() {
@@ -29,7 +29,7 @@ fn is_cut(found: Option<&Cut>, number: Option<u8>) -> bool {
     }
 }
 
-/// A vote, given again if no memory was to be had.
+/// A vote, given again if out of memory.
 fn heard(round: &mut FastRound, position: usize, cut: &Cut) -> Result<Option<Cut>, HearError> {
     match round.hear(position, cut) {
         Err(HearError::OutOfMemory) => round.hear(position, cut),
@@ -82,7 +82,7 @@ fn promise(alloc: Global, ballot: Ballot, vote: Option<u8>) -> Result<Promise, F
     Ok(Promise { ballot, vote })
 }
 
-/// Whether it is a request for the cut of the process with this number, or none as is wanted.
+/// Whether it is a request for the cut of the process with this number, or none, as expected.
 fn is_accept(found: &Option<Accept>, number: Option<u8>) -> bool {
     match found {
         Some(accept) => is_cut(Some(&accept.cut), number),
@@ -105,7 +105,7 @@ fn asks(
     Ok(is_accept(&accept, wanted))
 }
 
-/// The same, heard again if no memory was to be had.
+/// The same, heard again if out of memory.
 fn asks_again(
     coordinator: &mut Coordinator,
     position: usize,
@@ -154,7 +154,7 @@ fn learns(
     Ok(is_cut(learnt.as_ref(), wanted))
 }
 
-/// Whether a learner learns as it has to; a notice is heard again if no memory was to be had.
+/// Whether a learner learns as it has to; a notice is heard again if out of memory.
 fn learns_again(
     learner: &mut Learner,
     position: usize,
@@ -188,7 +188,7 @@ fn classic(round: u8, position: usize) -> Ballot {
     }
 }
 
-/// Whether an acceptor votes in the fast round, asked again if no memory was to be had.
+/// Whether an acceptor votes in the fast round, asked again if out of memory.
 fn votes_again(acceptor: &mut Acceptor, cut: &Cut) -> bool {
     match acceptor.fast_vote(cut) {
         Err(AcceptError::OutOfMemory) => {
@@ -198,7 +198,7 @@ fn votes_again(acceptor: &mut Acceptor, cut: &Cut) -> bool {
     }
 }
 
-/// The promise of a ballot, asked for again if no memory was to be had.
+/// The promise of a ballot, asked for again if out of memory.
 fn promised_again(acceptor: &mut Acceptor, ballot: Ballot) -> Result<Promise, PromiseError> {
     match acceptor.promise(ballot) {
         Err(PromiseError::OutOfMemory) => acceptor.promise(ballot),

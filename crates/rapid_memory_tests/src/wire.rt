@@ -56,7 +56,7 @@ fn writes(alloc: Global, message: &Message, frame: &[u8]) -> Result<bool, AllocE
     Ok(written.as_slice() == frame)
 }
 
-/// The next message of a stream after a piece, fed and asked for again if no memory was to be had.
+/// The next message of a stream after a piece, fed and asked for again if out of memory.
 fn fed_again(feed: &mut Feed, piece: &[u8]) -> Result<Option<Message>, WireFault> {
     if feed.feed(piece).is_err() {
         feed.feed(piece)?;
