@@ -33,8 +33,8 @@ body_of (ProbeAck id) = model.ProbeAck id
 abbrev pub IsFrom : Process → ConfigurationId → Alert → Type 0
 IsFrom observer id a = (a.observer ≡ observer) × (a.config ≡ id)
 
--- The process can say this: a batch has its own alerts for the configuration that it names, and what is asked, promised
--- or accepted after a Prepare is at a classic ballot.
+-- The process can say this. A batch has its own alerts, for the configuration that it names. What is asked, promised or
+-- accepted after a Prepare is at a classic ballot.
 abbrev pub CanSay : Process → Body → Type 0
 CanSay sender (Batch id xs) = All (IsFrom sender id) xs
 CanSay sender (FastVote id v) = Unit {0}
@@ -50,8 +50,8 @@ CanSay sender (Confirm c) = Unit {0}
 CanSay sender (Probe id) = Unit {0}
 CanSay sender (ProbeAck id) = Unit {0}
 
--- Why the process cannot say this: not all alerts of a batch are its own, or else not all are for the configuration that
--- the batch names; it asks, promises or accepts at the fast ballot; a reply Safe names no observer.
+-- Why the process cannot say this. Not all alerts of a batch are its own, or else not all are for the configuration
+-- that the batch names. It asks, promises or accepts at the fast ballot. A reply Safe names no observer.
 abbrev pub CannotSay : Process → Body → MessageError → Type 0
 CannotSay sender (Batch id xs) OtherObserver = All (λ a. a.observer ≡ sender) xs → ⊥
 CannotSay sender (Batch id xs) OtherConfiguration = All (λ a. a.observer ≡ sender) xs × (All (λ a. a.config ≡ id) xs → ⊥)

@@ -1,5 +1,5 @@
-//! What the nodes of the membership service (Rapid, USENIX ATC 2018) say to each other, and where
-//! it goes.
+//! The messages of the nodes of the membership service (Rapid, USENIX ATC 2018), and their
+//! destinations.
 #![tactic(auto)]
 
 mod error;

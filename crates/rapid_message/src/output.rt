@@ -8,7 +8,7 @@ use rapid_endpoint::{Endpoint, Process};
 use std::alloc::{AllocError, Global};
 use std::marker::Model;
 
-/// Where a message goes.
+/// The destination of a message.
 #[derive(Clone, Copy, Debug, PartialEq, Eq)]
 pub enum Destination {
     /// To one endpoint.
@@ -19,7 +19,7 @@ pub enum Destination {
     Others,
 }
 
-/// A message that goes out, and where it goes.
+/// A message that goes out, and its destination.
 #[derive(Debug, Drop)]
 pub struct Output {
     to: Destination,
@@ -46,7 +46,7 @@ impl Output {
         Output { to, message }
     }
 
-    /// Where the message goes.
+    /// The destination of the message.
     pub fn to(&self) -> Destination
         ensures { destination_of result ≡ self.now.to }
     {
