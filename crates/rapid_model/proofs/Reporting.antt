@@ -174,7 +174,7 @@ put_reports w i p q at = ap (peer_reports (Some p)) (set_there w.peers i p q at)
 still_tells : (w : World) (i : ℕ) (p : Peer) → slice_get w.peers i ≡ Some p → Tells w i p w
 still_tells w i p at = ap reports_of (whole w.log) ∙ sym (same_quiet p.node) ∙ sym (ap (peer_reports (Some p)) at)
 
--- an act that reports nothing, where the node stays
+-- an act that reports nothing, if the node stays
 quiet_tells : (w : World) (i : ℕ) (p : Peer) (a : Act) (q : Peer) → slice_get w.peers i ≡ Some p → q.node ≡ p.node → report_of_act p.node.me a ≡ [] →
     Tells w i p (record w { peers = slice_set w.peers i q; log = w.log ++ entry p.node a ∷ [] })
 quiet_tells w i p a q at same quiet =

@@ -27,7 +27,7 @@ batch_fault (a ∷ xs) =
     else if not (list_all (is_alike a) xs) then Some MixedAlerts
     else None
 
--- The batch of alerts, where there are any.
+-- The batch of alerts, if there are any.
 abbrev pub batch_of : List Alert → Option Batch
 batch_of [] = None
 batch_of (a ∷ xs) = Some (a ∷ xs)

@@ -42,7 +42,7 @@ pub data DetectRefusal : Type 0 where
   RingRange : DetectRefusal
   EdgeTwice : DetectRefusal
 
--- What a line asks for: nothing where it is passed over, and nothing that is known where it is not in the grammar.
+-- What a line asks for: nothing if it is skipped, and an unknown command if it is not in the grammar.
 pub data Asked : Type 0 where
   Nothing : Asked
   Unknown : Asked
@@ -133,7 +133,7 @@ taking None (Watermarks params) = Some (marked params)
 taking None _ = None
 taking (Some d) c = Some (later d c)
 
--- The state after a line: one that is refused or passed over leaves it.
+-- The state after a line: one that is refused or skipped leaves it.
 unfoldable pub after : Run → Asked → Run
 after s Nothing = s
 after s Unknown = s
@@ -160,7 +160,7 @@ abbrev pub cut_text : Option Cut → Text
 cut_text None = codes "none"
 cut_text (Some v) = codes "cut" ++ flat_map (λ p. space ∷ decimal (number_of p)) v
 
--- How many alerts were skipped, where some were.
+-- How many alerts were skipped, if some were.
 abbrev pub skipped_text : ℕ → Text
 skipped_text n = if n == 0 then [] else codes " skipped " ++ decimal n
 

@@ -46,10 +46,10 @@ longest_frame = 65536
 abbrev pub longest_line : ℕ
 longest_line = 256
 
--- After so many ticks, again and again, the vote and the alerts are sent once more.
+-- Every this many ticks the vote and the alerts are sent once more.
 abbrev pub resend_period : ℕ
 resend_period = 20
 
--- After so many ticks at which it was unstable, a process is echoed.
+-- After this many ticks at which it was unstable, a process is echoed.
 abbrev pub echo_age : ℕ
 echo_age = 40

@@ -47,7 +47,7 @@ abbrev pub pieces : Line → List Word
 pieces [] = [] ∷ []
 pieces (x ∷ xs) = if x == space then [] ∷ pieces xs else in_front x (pieces xs)
 
--- A piece is a word where it has a byte.
+-- A piece is a word if it has a byte.
 abbrev pub is_word : Word → Bool
 is_word [] = false
 is_word (x ∷ xs) = true
@@ -61,10 +61,10 @@ abbrev pub is_comment : Line → Bool
 is_comment [] = false
 is_comment (x ∷ xs) = x == hash
 
--- The words that a line says: none where the line is bad, no words where it is passed over.
+-- The words of a line: none if the line is bad, no words if it is skipped.
 abbrev pub line_words : Line → Option (List Word)
 line_words line = if not (is_plain line) then None else if is_comment line then Some [] else Some (words line)
 
--- The number that a word spells, without a needless zero in front, if it is one up to the limit.
+-- The number that a word spells without leading zeros, if it is one up to the limit.
 abbrev pub number_up_to : ℕ → Word → Option ℕ
 number_up_to limit w = if is_number 20 limit w then Some (value_of w) else None

@@ -6,7 +6,7 @@ use Rattle.rapid_model.specs.Configuration.{Configuration}
 use Rattle.rapid_model.specs.Ring.{observers_of, rings, subject_on}
 use Rattle.rapid_model.specs.Edge.{Edge, fresh_edge, probed}
 
--- The edges of a member, by ring; none where it observes nobody.
+-- The edges of a member, by ring; none on a ring where it observes no process.
 abbrev pub Monitors : Type 0
 Monitors = List (Option Edge)
 
@@ -22,6 +22,6 @@ edge_at m k = unwrap_or (slice_get m k) None
 abbrev pub probed_at : Monitors → ℕ → Bool → Monitors
 probed_at m k ok = slice_set m k (option_map (λ e. probed e ok) (edge_at m k))
 
--- Whether the edge on a ring is down after one more result; none where nobody is observed there.
+-- Whether the edge on a ring is down after one more result; none if no process is observed there.
 abbrev pub is_down_after : Monitors → ℕ → Bool → Option Bool
 is_down_after m k ok = option_map (λ e. (probed e ok).is_down) (edge_at m k)

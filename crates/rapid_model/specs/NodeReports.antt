@@ -32,7 +32,7 @@ place_of w (Tick id) = running_under w id
 place_of w (Deliver k) = receiver w (packet w k)
 place_of w (Crash id) = running_under w id
 
--- What the peer of a place reports, where there is one.
+-- What the peer of a place reports, if there is one.
 abbrev pub peer_reports : Option Peer → Option Peer → List WorldReport
 peer_reports (Some p) (Some q) = reports_between p.node q.node
 peer_reports _ _ = []

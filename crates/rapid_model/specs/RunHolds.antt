@@ -11,8 +11,9 @@ pub record RunHolds (w : World) : Type 0 where
   -- one line, each change chosen and supported, the same next
   pub agreed : IsAgreed w
   pub one_chosen : OneChosen w
-  -- In any run that goes on from here. What is chosen there is counted by identifiers, so none may collide there either: a
-  -- configuration that is installed later and has the identifier of an earlier one would add its votes to those of the earlier.
+  -- In any run that goes on from here. What is chosen there is counted by identifiers, so none may collide there
+  -- either. If a configuration that is installed later had the identifier of an earlier one, its votes would be added
+  -- to those of the earlier one.
   pub accepts_exclude : (more : List MarkedEvent) → NoCollision (run more w) → AcceptsExclude w more
   pub accepts_lawful : AcceptsLawful w
   pub accepts_once : AcceptsOnce w

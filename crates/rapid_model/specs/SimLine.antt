@@ -16,7 +16,7 @@ pub data SimLine : Type 0 where
   Parameters : Params → SimLine
   -- the founders
   Found : List Process → SimLine
-  -- an event, so many times
+  -- an event, repeated
   Events : WorldEvent → ℕ → SimLine
   Lose : Identifier → SimLine
   Deliver : ℕ → SimLine
@@ -44,7 +44,7 @@ endpoint_named w = option_map local_endpoint (number_up_to 65535 w)
 abbrev pub result_named : Word → Option Bool
 result_named w = if bytes_eq w (codes "ok") then Some true else if bytes_eq w (codes "fail") then Some false else None
 
--- How often an event happens: from 1 to 1,000 times, once where no word says so.
+-- How often an event happens: from 1 to 1,000 times, once if no word says it.
 abbrev pub count_in : List Word → Option ℕ
 count_in [] = Some 1
 count_in (w ∷ []) = number_from_1 1000 w
@@ -60,12 +60,12 @@ abbrev pub packet_in : List Word → Option ℕ
 packet_in (w ∷ []) = number_from_1 (2 ^ 64 - 1) w
 packet_in _ = None
 
--- A process and those after it, where there are all.
+-- A process and those after it, if all could be read.
 abbrev pub with_named : Option Process → Option (List Process) → Option (List Process)
 with_named (Some p) (Some ps) = Some (p ∷ ps)
 with_named _ _ = None
 
--- The processes that words name, where each word names one.
+-- The processes that words name, if each word names one.
 abbrev pub all_named : List Word → Option (List Process)
 all_named [] = Some []
 all_named (w ∷ ws) = with_named (named w) (all_named ws)
@@ -89,7 +89,7 @@ abbrev pub start_in : List Word → Option SimLine
 start_in (n ∷ port ∷ seed ∷ []) = start (identifier_named n) (endpoint_named port) (endpoint_named seed)
 start_in _ = None
 
--- A node probes on a ring, with a result, so many times.
+-- A node probes on a ring, with a result, a number of times.
 abbrev pub probe : Option Identifier → Option ℕ → Option Bool → Option ℕ → Option SimLine
 probe (Some id) (Some k) (Some ok) (Some n) = Some (Events (world.Probe id k ok) n)
 probe _ _ _ _ = None
@@ -99,7 +99,7 @@ abbrev pub probe_in : List Word → Option SimLine
 probe_in (n ∷ ring ∷ result ∷ count) = probe (identifier_named n) (number_up_to 255 ring) (result_named result) (count_in count)
 probe_in _ = None
 
--- A node has so many ticks.
+-- A node has a number of ticks.
 abbrev pub tick : Option Identifier → Option ℕ → Option SimLine
 tick (Some id) (Some n) = Some (Events (world.Tick id) n)
 tick _ _ = None

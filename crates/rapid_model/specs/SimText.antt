@@ -40,7 +40,7 @@ pub data SimRefusal : Type 0 where
   -- the world refuses an event
   ByWorld : WorldRefusal → SimRefusal
 
--- What a line asks for: nothing where it is passed over, and nothing that is known where it is not in the grammar.
+-- What a line asks for: nothing if it is skipped, and an unknown command if it is not in the grammar.
 pub data Asked : Type 0 where
   Nothing : Asked
   Unknown : Asked
@@ -218,7 +218,7 @@ silent s = record { text = []; run = s }
 abbrev pub behind : Text → Said → Said
 behind text d = record d { text = text ++ d.text }
 
--- An event, which the world refuses for this reason or accepts; then what follows where it is accepted.
+-- An event, which the world refuses for this reason or accepts; then what follows if it is accepted.
 abbrev pub event_then : Simulation → WorldEvent → Option WorldRefusal → Said → Said
 event_then s e (Some r) later = record { text = refusal_line (ByWorld r); run = s }
 event_then s e None later = behind (taken_text s e) later
@@ -232,13 +232,13 @@ do_events s (e ∷ es) = event_then s e (refused s e) (do_events (taking s e) es
 abbrev pub deliver_then : Simulation → ℕ → (Simulation → Said) → Said
 deliver_then s k later = event_then s (world.Deliver k) (refused s (world.Deliver k)) (later (settling (taking s (world.Deliver k)) k))
 
--- A packet, if there is one, is delivered and settled where a running node is at its endpoint, else settled alone; then the flow
+-- A packet, if there is one, is delivered and settled if a node runs at its endpoint, else settled alone. Then the flow
 -- goes on, unless the delivery was refused.
 abbrev pub next_then : Simulation → Option ℕ → (Simulation → Said) → Said
 next_then s None flow = silent s
 next_then s (Some k) flow = if not (can_reach s k) then flow (settling s k) else deliver_then s k flow
 
--- A flow of so many packets at most: each is the least unsettled one.
+-- A flow of at most this many packets: each is the least unsettled one.
 unfoldable pub do_flow : ℕ → Simulation → Said
 do_flow zero s = silent s
 do_flow (suc n) s = next_then s (least_unsettled s) (do_flow n)
@@ -277,7 +277,7 @@ abbrev pub obeyed_unless : SimState → SimLine → Option SimRefusal → Answer
 obeyed_unless s c (Some r) = record { text = refusal_line r; state = s }
 obeyed_unless s c None = obeyed s c
 
--- A line: one that is refused at once or passed over leaves the state.
+-- A line: one that is refused at once or skipped leaves the state.
 unfoldable pub answer : SimState → Asked → Answer
 answer s Nothing = record { text = []; state = s }
 answer s Unknown = record { text = refusal_line BadLine; state = s }
@@ -296,6 +296,6 @@ abbrev pub text_of_lines : SimState → List Line → Text
 text_of_lines s [] = []
 text_of_lines s (line ∷ ls) = printed s (asked line) ++ text_of_lines (after s (asked line)) ls
 
--- The output of an input, where no memory is wanted.
+-- The output of an input, if memory never runs out.
 abbrev pub sim_text : Text → Text
 sim_text input = text_of_lines Blank (lines input)

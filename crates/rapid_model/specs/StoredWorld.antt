@@ -41,8 +41,9 @@ abbrev pub is_halt : WorldReport → Bool
 is_halt (ReportInstalled id c) = false
 is_halt (ReportHalted id) = true
 
--- An event was accepted: it stands behind the others with its mark, and these are the reports of its step. It is marked only if
--- its node halts in the step and would not halt without the mark, so for out of memory and not for a history that is full.
+-- An event was accepted: it stands behind the others with its mark, and these are the reports of its step. It is marked
+-- only if its node halts in the step and would not halt without the mark. So the mark says out of memory, and not that
+-- a history is full.
 pub record StoresEvent (old new : StoredWorld) (e : WorldEvent) (reports : List WorldReport) : Type 0 where
   pub halts : Bool
   pub not_refused : event_refusal old e ≡ None
@@ -56,9 +57,10 @@ abbrev pub wants_of : Bool → ℕ
 wants_of true = 1
 wants_of false = 0
 
--- A world comes by events to another: so many were accepted, and out of memory was met so often. Each event is accepted with some
--- mark, or it is refused and passed over, or the world itself is out of memory and passes over an event that it would not refuse,
--- but for a node that observes nobody, which takes memory to see.
+-- Events lead from one world to another. The two numbers are how many were accepted, and how often memory ran out. Each
+-- event is accepted with some mark, or is refused and skipped, or the world itself is out of memory and skips an event
+-- that it would not refuse. One that it would refuse because a node observes no process may be skipped too: to see this
+-- takes memory.
 pub data RunsTo : StoredWorld → List WorldEvent → ℕ → ℕ → StoredWorld → Type 0 where
   ends : (s : StoredWorld) → RunsTo s [] 0 0 s
   accepts : (s next t : StoredWorld) (e : WorldEvent) (reports : List WorldReport) (es : List WorldEvent) (n wanted : ℕ) (stores : StoresEvent s next e reports) →
