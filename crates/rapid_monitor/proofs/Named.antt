@@ -18,7 +18,7 @@ other_number : (m n : ℕ) → m < n → (m == n) ≡ false
 other_number m n h = grind arith
 
 module _ (f : ℕ → Option Process) (k : ℕ) where
-  -- a pair names the ring where its number is one of these that has a process
+  -- a pair names the ring if its number is one of these that has a process
   abbrev pairs : List ℕ → List (ℕ × Process)
   pairs ks = filter_map (λ j. option_map (λ s. (j, s)) (f j)) ks
 

@@ -121,7 +121,7 @@ still_down oks ok down =
 
 -- ---- the store of a word
 
--- the word of one more result tells which result that is
+-- the word of one more result says which result that is
 pub stored_word : (before found : List Bool) (ok : Bool) (next : ℕ) → found ≡ before → next ≡ word_after (before ++ ok ∷ []) → next ≡ word_after (found ++ newest_ok next ∷ [])
 stored_word before found ok next same is =
     let newest : newest_ok next ≡ ok = ap newest_ok is ∙ newest_is before ok in

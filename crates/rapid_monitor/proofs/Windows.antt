@@ -62,7 +62,7 @@ true_down : (b : Bool) → b ≡ true → (if b then Down else Up) ≡ Down
 true_down true h = refl
 true_down false h = cc
 
--- an edge says Down exactly where the results so far have a down stretch
+-- an edge says Down exactly if the results so far have a down stretch
 pub verdict_so_far : (e : Edge) (ok : Bool) (oks : List Bool) → e ≡ edge_after fresh_edge oks → ((if (probed e ok).is_down then Down else Up) ≡ Down) ↔ HasDownStretch (oks ++ ok ∷ [])
 verdict_so_far e ok oks is =
     let law = down_is_stretch (oks ++ ok ∷ []) in
@@ -75,7 +75,7 @@ verdict_so_far e ok oks is =
 some_is : {A : Type 0} {a b : A} → Some a ≡ Some b → a ≡ b
 some_is e = cc
 
--- where there is an edge, its verdict is that of the results so far
+-- if there is an edge, its verdict is that of the results so far
 pub slot_so_far : (slot : Option Edge) (ok : Bool) (oks : List Bool) (result : Option Verdict) → result ≡ option_map (λ (e : Edge). if (probed e ok).is_down then Down else Up) slot → slot ≡ Some (edge_after fresh_edge oks) → (result ≡ Some Down) ↔ HasDownStretch (oks ++ ok ∷ [])
 slot_so_far slot ok oks result is slot_is =
     let law = verdict_so_far (edge_after fresh_edge oks) ok oks refl in

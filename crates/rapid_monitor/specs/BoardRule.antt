@@ -21,7 +21,8 @@ is_down_after oks = (edge_after fresh_edge oks).is_down
 abbrev pub IsDown : List Bool → Type 0
 IsDown oks = IsTrue (is_down_after oks)
 
--- What the rule says of one seat, where the edges had these results: the owner of an edge knows its results, and an edge that a seat knows to be down is so.
+-- The rule for one seat, given the results of the edges. The owner of an edge knows its results, and an edge that a
+-- seat knows to be down is down.
 pub record Fits (edges : ℕ) (history : ℕ → List Bool) (v : Known) : Type 0 where
   pub owner : v.owns ≡ true → (v.results ≡ history v.edge) × (v.edge < edges)
   pub known : (edge : ℕ) → IsIn edge v.known → IsDown (history edge)

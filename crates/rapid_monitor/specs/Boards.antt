@@ -1,5 +1,5 @@
 -- Clauses of public calls cite this file.
--- What the watchers and the seats of a board show.
+-- What the watchers and the seats of a board know.
 use Rattle.std.specs.Prelude.{ℕ, Bool, ◌≤◌, List, [], if◌then◌else◌}
 use Rattle.atomic_table.specs.Seated.{TableId}
 use Rattle.rapid_monitor.specs.BoardRule.{is_down_after}

@@ -8,7 +8,8 @@ abbrev pub window_bits : List Bool → ℕ
 window_bits [] = 0
 window_bits (failed ∷ older) = (if failed then 1 else 0) + 2 * window_bits older
 
--- The word of an edge: bits 0 to 9 are its window, bits 10 to 13 how many results the window holds, and bit 14 is whether the edge is down.
+-- The word of an edge. Bits 0 to 9 are its window, bits 10 to 13 how many results the window holds, and bit 14 is
+-- whether the edge is down.
 abbrev pub edge_word : Edge → ℕ
 edge_word e = window_bits e.window + 1024 * length e.window + (if e.is_down then 16384 else 0)
 

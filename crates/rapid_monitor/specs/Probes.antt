@@ -11,12 +11,12 @@ pub record BookValue : Type 0 where
   pub edges : List Watched
   pub begun : Bool
 
--- An observed edge, where these processes have acknowledged since the last round.
+-- An observed edge, if these processes have acknowledged since the last round.
 abbrev pub watched_when : List Process → ℕ × Process → Watched
 watched_when acks x = record { ring = x.0; subject = x.1; answered = is_in acks x.1 }
 
--- The book of a process that observes these members by ring, where a round was made or not, and these processes have acknowledged
--- since the last one.
+-- The book of a process that observes these members by ring. The others say whether a round was made, and who has
+-- acknowledged since the last one.
 abbrev pub book_when : List (ℕ × Process) → Bool → List Process → BookValue
 book_when subjects begun acks = record { edges = map (watched_when acks) subjects; begun = begun }
 

@@ -140,7 +140,7 @@ fn is_size(edges: usize, watchers: usize) -> bool
     (1..=MOST_EDGES).contains(&edges) && (1..=MOST_WATCHERS).contains(&watchers)
 }
 
-/// A board, where there are such.
+/// A board, if there is one.
 fn open(
     alloc: Global,
     edges: usize,
@@ -188,7 +188,7 @@ impl EdgeBoard {
     }
 
     /// Whether an edge is down, by one load of its word. Once this watcher has answered that it is,
-    /// it always does. It takes no memory and waits for nobody.
+    /// it always does. It takes no memory and never waits.
     pub fn is_down(&mut self, edge: usize) -> bool
         requires { edge < self.old.edges }
         ensures same { (self.new.board ≡ self.old.board) × (self.new.edges ≡ self.old.edges) }
@@ -200,8 +200,8 @@ impl EdgeBoard {
 
     /// Ties what this watcher answers to the results of a seat of the same board. If it had
     /// answered that the seat's edge is down, these hold ten successive results, or fewer, with
-    /// four failures; and if they do, it answers so from now on. It takes no memory, waits for
-    /// nobody and changes no word.
+    /// four failures; and if they do, it answers so from now on. It takes no memory, never waits
+    /// and changes no word.
     pub fn told_by(&mut self, seat: &mut EdgeSeat)
         requires { self.old.board ≡ seat.old.board }
         ensures same { (self.new.board ≡ self.old.board) × (self.new.edges ≡ self.old.edges) }

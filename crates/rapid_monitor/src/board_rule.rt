@@ -4,9 +4,9 @@ use atomic_table::{Join, Play, Split, Table, TableRule};
 use std::alloc::Global;
 use std::collections::LinkedList;
 
-/// What a seat knows: whether it makes the seats of edges, and of which edge next; whether it owns
-/// an edge, which one, and the results of that edge; and which edges it knows to be down. No value
-/// of it is made.
+/// What a seat knows. It knows whether it makes the seats of edges, and of which edge next. It
+/// knows whether it owns an edge, which one, and the results of that edge. And it knows of some
+/// edges that they are down. It is a type for contracts: no value of it is ever made.
 pub struct Known {
     pub makes: bool,
     pub next: u64,

@@ -65,8 +65,8 @@ impl Edge {
         })
     }
 
-    /// Takes the result of one more probe, and says whether the edge is down: whether some stretch
-    /// of at most ten successive results so far holds four failures. It takes no memory.
+    /// Takes the result of one more probe. The answer is whether the edge is down: whether some
+    /// stretch of at most ten successive results so far holds four failures. It takes no memory.
     pub fn probe(&mut self, ok: bool) -> Verdict
         ensures after { self.new ≡ probed self.old ok }
         ensures verdict { result ≡ (if self.new.is_down then Down else Up) }

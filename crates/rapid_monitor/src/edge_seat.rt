@@ -14,8 +14,8 @@ use atomic_table::Seat;
 use std::marker::Model;
 use std::sync::Arc;
 
-/// The seat of the owner of one edge of a board: it takes the results of the probes of that edge,
-/// and is the only one that changes the word of the edge. Contracts see the results.
+/// The seat of the owner of one edge of a board. It takes the results of the probes of that edge,
+/// and it alone changes the word of the edge. Contracts see the results.
 #[derive(Drop)]
 pub struct EdgeSeat {
     pub(crate) words: Arc<Words>,
@@ -63,9 +63,9 @@ fn store(words: &Words, seat: &mut Seat<(), Known>, edge: usize, word: u64)
 }
 
 impl EdgeSeat {
-    /// Takes the result of one more probe of the edge, and says whether the edge is down: whether
-    /// some stretch of at most ten successive results so far holds four failures. It loads the word
-    /// of the edge and stores the next; it takes no memory and waits for nobody.
+    /// Takes the result of one more probe of the edge. The answer is whether the edge is down:
+    /// whether some stretch of at most ten successive results so far holds four failures. It loads
+    /// the word of the edge and stores the next; it takes no memory and never waits.
     pub fn probe(&mut self, ok: bool) -> Verdict
         ensures same { (self.new.board ≡ self.old.board) × (self.new.edge ≡ self.old.edge) }
         ensures results { self.new.results ≡ self.old.results ++ ok ∷ [] }

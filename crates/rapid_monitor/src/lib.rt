@@ -1,5 +1,5 @@
-//! Failure detectors of single edges: a window of probe results, and the verdict by it (Rapid, ATC
-//! 2018, section 6); windows as words that threads share; and the book of a member's probes.
+//! Failure detectors of single edges: a window of probe results, and the verdict by it (Rapid,
+//! USENIX ATC 2018). Also windows as words that threads share, and the book of a member's probes.
 #![tactic(auto)]
 
 mod board;

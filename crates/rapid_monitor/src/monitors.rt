@@ -44,7 +44,7 @@ fn fresh_slots(
     Ok(slots)
 }
 
-/// An edge, where a pair names the ring.
+/// An edge, if a pair names the ring.
 fn fresh_slot(
     alloc: Global,
     ring: u8,
@@ -67,8 +67,8 @@ fn is_named(ring: u8, subjects: &[(u8, Process)]) -> bool
 }
 
 impl Monitors {
-    /// The monitors of a member in the configuration of these rings: an edge that was not probed
-    /// for each ring on which it observes another, with the room for its window.
+    /// The monitors of a member in the configuration of these rings. For each ring on which it
+    /// observes another there is an edge that was not probed, with the room for its window.
     pub fn new(alloc: Global, rings: &Rings, process: &Process) -> Result<Monitors, AllocError>
         ensures { IfOk result (λ monitors. monitors ≡ fresh_monitors rings.now process.now) }
     {
@@ -91,7 +91,7 @@ impl Monitors {
     }
 
     /// Takes the result of one more probe on a ring, and gives the verdict of the results on that
-    /// ring; none exactly where nobody is observed on it. It takes no memory.
+    /// ring; none exactly if no process is observed on it. It takes no memory.
     pub fn probe(&mut self, ring: u8, ok: bool) -> Option<Verdict>
         ensures after { self.new ≡ probed_at self.old ring ok }
         ensures verdict { result ≡ option_map (λ is_down. if is_down then Down else Up) (is_down_after self.old ring ok) }
@@ -115,7 +115,7 @@ fn copy_slot(alloc: Global, slot: &Option<Edge>) -> Result<Option<Edge>, AllocEr
     }
 }
 
-/// Takes a result where there is an edge.
+/// Takes a result, if there is an edge.
 fn probe_slot(slot: &mut Option<Edge>, ok: bool) -> Option<Verdict>
     ensures after { slot.new ≡ option_map (λ e. probed e ok) slot.old }
     ensures verdict { result ≡ option_map (λ e. if (probed e ok).is_down then Down else Up) slot.old }

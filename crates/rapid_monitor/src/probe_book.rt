@@ -30,7 +30,7 @@ pub struct Probing {
 }
 
 /// The probes of a member in one configuration: whom it observes on each ring, and who of them has
-/// acknowledged since the last round. It is made anew at each view.
+/// acknowledged since the last round. A new one is made at each view.
 #[derive(Debug, Drop)]
 pub struct ProbeBook {
     /// By ring.
@@ -66,7 +66,7 @@ impl Watched {
         Watched { answered, ..self }
     }
 
-    /// What a round says of the edge, where this is the first or not.
+    /// What a round says of the edge; whether it is the first matters.
     fn asked(self, begun: bool) -> Probing
         ensures { result ≡ asked begun self }
     {
@@ -191,9 +191,9 @@ impl ProbeBook {
         hear(self.edges.as_mut_slice(), process);
     }
 
-    /// Begins a round: each observed edge by ring, with none in the first round, and then whether
-    /// its subject has acknowledged since the last one. From now on nobody has acknowledged. Want
-    /// of memory leaves the book as it was.
+    /// Begins a round. The answer is each observed edge, by ring, with whether its subject has
+    /// acknowledged since the last round; none in the first round. From now on no subject has
+    /// acknowledged. If out of memory the book is as it was.
     pub fn round(&mut self, alloc: Global) -> Result<Vec<Probing>, AllocError>
         ensures edges { IfOk result (λ edges. edges.items ≡ map (asked self.old.begun) self.old.edges) }
         ensures answers { (subjects : List (ℕ × ModelProcess)) (begun : Bool) (acks : List ModelProcess) → self.old ≡ book_when subjects begun acks →

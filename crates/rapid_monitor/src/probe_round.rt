@@ -8,7 +8,7 @@ use crate::{EdgeSeat, ProbeBook, Probing, Verdict};
 use rapid_endpoint::Process;
 use std::alloc::{AllocError, Global};
 
-/// What is told of the edges of a round.
+/// What a round reports of its edges.
 pub trait EdgeSink {
     /// A probe of who is observed on this ring is to go out.
     fn probe(&mut self, ring: u8, subject: &Process);
@@ -28,7 +28,7 @@ fn judge(seat: &mut EdgeSeat, probing: &Probing) -> bool
     seat.probe(answered) == Verdict::Down && before == Verdict::Up
 }
 
-/// Tells the sink of an edge.
+/// Reports an edge to the sink.
 fn tell<S: EdgeSink>(sink: &mut S, probing: &Probing, goes_down: bool) {
     if goes_down {
         sink.edge_down(probing.ring, &probing.subject);
@@ -38,8 +38,8 @@ fn tell<S: EdgeSink>(sink: &mut S, probing: &Probing, goes_down: bool) {
 
 /// A round of the probes of a book, of which each edge has one of the seats, in the book's order.
 /// From the second round on a seat takes whether its subject has acknowledged since the last one.
-/// The sink is told to probe each subject, and of an edge that went down, once for each seat. If
-/// there is no memory nothing has changed, and the sink is told nothing.
+/// The sink gets each subject that is to be probed, and each edge that went down, once for each
+/// seat. If out of memory nothing has changed, and the sink gets nothing.
 pub fn probe_part<S: EdgeSink>(
     alloc: Global,
     seats: &mut [EdgeSeat],
@@ -59,7 +59,7 @@ pub fn probe_part<S: EdgeSink>(
     Ok(())
 }
 
-/// Takes what became of the last probes of edges, and tells the sink of each.
+/// Takes the results of the last probes of edges, and reports each to the sink.
 fn judge_all<S: EdgeSink>(seats: &mut [EdgeSeat], probings: &[Probing], sink: &mut S)
     requires { length seats.old ≡ length probings.now }
     ensures { seats.new ≡ all_judged seats.old probings.now }

@@ -25,6 +25,7 @@ pub(crate) fn is_down(word: u64) -> bool
 fn goes_down(word: u64, window: u64) -> bool
     ensures { result ≡ (is_down_word word || nat_le 4 (count_ones window)) }
 {
+    // down is final: it stays when the failures have left the window
     is_down(word) || window.count_ones() >= u32::from(FAILURES)
 }
 
@@ -35,12 +36,13 @@ fn down_bit(down: bool) -> u64
     if down { DOWN_BIT } else { 0 }
 }
 
-/// The word of an edge after one more result, by the word before: bits 0 to 9 are its last ten
-/// results, the newest in bit 0 and a failure 1, bits 10 to 13 how many of these there are, and bit
-/// 14 is whether the edge is down. The word of an edge that was not probed is 0.
+/// The word of an edge after one more result, by the word before. Bits 0 to 9 are its last ten
+/// results, the newest in bit 0 and a failure 1. Bits 10 to 13 are how many of these there are, and
+/// bit 14 is whether the edge is down. The word of an edge that was not probed is 0.
 pub fn next_word(word: u64, ok: bool) -> u64
     ensures { (oks : List Bool) → word ≡ word_after oks → result ≡ word_after (oks ++ ok ∷ []) }
 {
+    // a shift to the left: the remainder drops the oldest of eleven results
     let window = (2 * (word % WINDOW_BITS) + u64::from(!ok)) % WINDOW_BITS;
     let count = (word / WINDOW_BITS % COUNT_BITS + 1).min(WINDOW as u64);
     window + WINDOW_BITS * count + down_bit(goes_down(word, window))
