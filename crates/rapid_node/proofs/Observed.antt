@@ -16,7 +16,7 @@ module _ (f : ℕ → Option Process) (k : ℕ) where
   abbrev first : List (ℕ × Process) → Option Process
   first xs = option_map (λ (x : ℕ × Process). x.1) (find (λ (x : ℕ × Process). x.0 == k) xs)
 
-  -- a pair of another ring is passed over
+  -- a pair of another ring is skipped
   other : (j : ℕ) (ks : List ℕ) → (j == k) ≡ false → first (pairs (j ∷ ks)) ≡ first (pairs ks)
   other j ks differs =
       elim (f j) as (λ o. first (cons_option (option_map (λ (s : Process). (j, s)) o) (pairs ks)) ≡ first (pairs ks)) [

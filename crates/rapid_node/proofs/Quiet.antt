@@ -22,7 +22,7 @@ idle_says_nothing n o e =
     let same : idle n ≡ o = cc in
     subst (SaysNothing n) same (record { sends = refl; installs = not_below (length n.installed) })
 
--- work that says nothing and decides nothing
+-- work that sends nothing and decides nothing
 settles_quietly : (n : Node) (w : Work) (o : Outcome) → member.SaysNothing w → settle n w ≡ Some o → SaysNothing n o
 unfolding settle
 settles_quietly n w o h e =
@@ -41,7 +41,7 @@ edge_down_is_quiet n id k p o = by n.phase
     by (Removed c) e = idle_says_nothing n o e
     by (Halted shown) e = idle_says_nothing n o e
 
--- a tick of a member that says nothing by it
+-- a tick of a member at which it sends nothing
 pub tick_is_quiet : (n : Node) (s : MemberState) → n.phase ≡ Member s → member.SaysNothing (on_tick s) → IsQuiet n Tick
 unfolding node_step
 tick_is_quiet n s is h o e = settles_quietly n (on_tick s) o h (sym (ap (step_tick n) is) ∙ e)
@@ -55,7 +55,7 @@ pub halted_is_quiet : (n : Node) (shown : Option Configuration) → n.phase ≡ 
 unfolding node_step
 halted_is_quiet n shown is o e = idle_says_nothing n o (sym (ap (step_tick n) is) ∙ e)
 
--- a message at a member that says nothing by it
+-- a message at a member at which it sends nothing
 pub message_is_quiet : (n : Node) (s : MemberState) (m : Message) → n.phase ≡ Member s → ((ds : Decisions) → member.SaysNothing (receive_as_member ds s m.sender m.body)) → IsQuiet n (Receive m)
 unfolding node_step
 message_is_quiet n s m is h o e = settles_quietly n (receive_as_member n.decisions s m.sender m.body) o (h n.decisions) (sym (ap (λ (ph : Phase). step_receive n ph m) is) ∙ e)

@@ -64,7 +64,7 @@ unfolding install
 not_at n p w None h = cc
 not_at n p w (Some v) h = no_put w (install n w.state v) (is_history_full n.installed w.state.config) h
 
--- Where nothing follows from the state and the decision that work reached, nothing follows from the work.
+-- If nothing follows from the state and the decision that work reached, nothing follows from the work.
 pub settles_not : (n : Node) (p : Phase) (w : Work) (s : MemberState) (d : Option Cut) →
     s ≡ w.state → d ≡ w.decided → settle n (reached s d) ≡ None → settle (in_phase n p) w ≡ None
 unfolding settle

@@ -9,6 +9,6 @@ pub record SaysNothing (n : Node) (o : Outcome) : Type 0 where
   pub sends : outputs n.me o.effects ≡ []
   pub installs : has_installed n o.node ≡ false
 
--- The node's step by the event, if there is one, says nothing.
+-- The node's step by the event, if there is one, sends nothing.
 abbrev pub IsQuiet : Node → Event → Type 0
 IsQuiet n e = (o : Outcome) → node_step n e ≡ Some o → SaysNothing n o

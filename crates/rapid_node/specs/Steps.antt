@@ -41,8 +41,8 @@ Stops o Halted = ⊥
 Stops o OutOfMemory = Unit {0}
 Stops o HistoryFull = o ≡ None
 
--- Halted comes from a halted node alone, which it leaves as it is, and the others from no halted node, which halts. The
--- history is full only where the definition has no outcome.
+-- Halted comes from a halted node alone, and leaves it as it is. The other faults come from a node that had not halted,
+-- and halt it. The history is full only if the definition has no outcome.
 abbrev pub IsFault : model.Node → model.Event → model.Node → NodeFault → Type 0
 IsFault old event new Halted = (model.is_halted old ≡ true) × (new ≡ old)
 IsFault old event new OutOfMemory = (model.is_halted old ≡ false) × (new ≡ model.halt old)

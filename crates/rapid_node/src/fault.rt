@@ -16,7 +16,7 @@ pub enum NodeFault {
     /// There was no memory; the node halts.
     #[error("out of memory")]
     OutOfMemory,
-    /// It was to install a view where 65,536 are installed, or after the last height; the node
+    /// It was to install a view, but 65,536 are installed or the height is the last; the node
     /// halts.
     #[error("there is no room for a further view")]
     HistoryFull,

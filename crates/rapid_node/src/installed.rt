@@ -41,7 +41,7 @@ impl Installed {
         self.stamps.as_slice()
     }
 
-    /// One stamp more. A list that is shared is copied first. Want of memory leaves the stamps as
+    /// One stamp more. A list that is shared is copied first. If out of memory the stamps are as
     /// they were.
     pub(crate) fn push(&mut self, stamp: Stamp) -> Result<(), AllocError>
         ensures ok { OnOk result (self.new ≡ self.old ++ stamp ∷ []) }

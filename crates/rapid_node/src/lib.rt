@@ -1,5 +1,5 @@
 //! One node of the membership service (Rapid, USENIX ATC 2018), without input and output: how it
-//! joins, what it does as a member with each event, and what it installs.
+//! joins, what it does with each event as a member, and what it installs.
 #![tactic(auto)]
 
 mod event;

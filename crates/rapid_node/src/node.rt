@@ -44,8 +44,7 @@ use std::sync::Arc;
 const MOST_VIEWS: usize = 65536;
 
 /// One node of the service: a process that joins, is a member, was removed or has halted. It does
-/// no input or output: it is told of events, one [`Node::step`] each, and answers what is to be
-/// sent.
+/// no input or output: it takes events, one [`Node::step`] each, and answers what is to be sent.
 #[derive(Debug, Drop)]
 pub struct Node {
     me: Process,
@@ -108,7 +107,7 @@ impl Node {
     }
 
     /// The node of a founder: a member of this configuration, which has the height 0. The caller
-    /// sees that the process is a member.
+    /// ensures that the process is a member.
     pub fn seed(
         alloc: Global,
         configuration: &Configuration,
@@ -171,8 +170,8 @@ impl Node {
         self.past.installed.as_slice()
     }
 
-    /// The configuration that it shows: the present one, or the last where it was removed or has
-    /// halted; none before the first.
+    /// Its configuration: the current one, or the last one if it was removed or has halted; none
+    /// before the first.
     #[tactic(auto, using(crate::proofs::Showing::shows))]
     pub fn configuration(&self) -> Option<&Configuration>
         ensures { option_map (λ c. c.now) result ≡ model.configuration_of self.now }
@@ -180,8 +179,8 @@ impl Node {
         self.past.shown.get()
     }
 
-    /// The configuration that [`Node::configuration`] gives, shared with the node. It fails only
-    /// where there are too many owners.
+    /// The configuration that [`Node::configuration`] gives, shared with the node. It fails only if
+    /// there are too many owners.
     #[tactic(auto, using(crate::proofs::Showing::shows))]
     pub fn shared_configuration(&self) -> Result<Option<Arc<Configuration, Global>>, AllocError>
         ensures { IfOk result (λ shared. option_map (λ c. arc_value c) shared ≡ model.configuration_of self.now) }
@@ -189,7 +188,7 @@ impl Node {
         self.past.shown.share()
     }
 
-    /// The rings of the configuration that it is a member in; none where it is no member.
+    /// The rings of the configuration that it is a member in; none if it is no member.
     pub fn rings(&self) -> Option<&Rings>
         ensures { option_map (λ rings. rings.now) result ≡ model.member_in self.now }
     {
@@ -199,8 +198,8 @@ impl Node {
         }
     }
 
-    /// The member that it observes on a ring, from 0; none where there is no such ring, where it
-    /// observes nobody and where it is no member. It costs a search on each ring.
+    /// The member that it observes on a ring, from 0; none if there is no such ring, if it observes
+    /// no member on it, or if it is no member itself. It costs a search on each ring.
     pub fn observed(&self, ring: u8) -> Result<Option<Process>, AllocError>
         ensures { IfOk result (λ subject. subject ≡ option_map (λ x. x.1) (observed_in (model.member_in self.now) self.now.me ring)) }
     {
@@ -229,7 +228,7 @@ impl Node {
         }
     }
 
-    /// Makes the node halt. Nothing else that it shows changes.
+    /// Makes the node halt. Nothing else of it changes.
     #[tactic(auto, using(crate::proofs::Showing::shows))]
     pub fn halt(&mut self)
         ensures { self.new ≡ model.halt self.old }
@@ -574,10 +573,10 @@ impl Node {
         }
     }
 
-    /// Whether its step by the event certainly says nothing and installs nothing: an edge that went
-    /// down, a fast vote that cannot decide, a tick of a member at which nothing is due. False says
-    /// nothing of it. A driver that has to make room for what a step sends makes none for such a
-    /// step.
+    /// Whether its step by the event certainly sends nothing and installs nothing. That is so of an
+    /// edge that went down, a fast vote that cannot decide, and a tick of a member at which nothing
+    /// is due. If the answer is false, it may or may not. A driver that has to make room for what a
+    /// step sends makes none for such a step.
     #[tactic(auto, using(crate::proofs::Quiet::edge_down_is_quiet, crate::proofs::Quiet::tick_is_quiet, crate::proofs::Quiet::removed_is_quiet, crate::proofs::Quiet::halted_is_quiet, crate::proofs::Quiet::message_is_quiet))]
     pub fn is_quiet(&self, event: &Event) -> bool
         ensures { result ≡ true → IsQuiet self.now (event_of event.now) }
@@ -599,26 +598,26 @@ impl Node {
 
     /// One step, and what is to be sent after it, in order. What goes to
     /// [`rapid_message::Destination::Others`] goes to the other members of the configuration in
-    /// which the node was a member *before* the step: a driver asks for [`Node::configuration`]
-    /// before it makes the step, since a step that installs leaves it.
+    /// which the node was a member *before* the step. So a driver asks for [`Node::configuration`]
+    /// before it makes the step: a step that installs leaves that configuration.
     ///
     /// # Errors
     ///
-    /// `Halted` exactly where the node had halted, which changes nothing. `OutOfMemory`, and
-    /// `HistoryFull` where a decided cut cannot be installed because 65,536 views are installed or
-    /// the height is the last: the node halts, sends nothing of this step and shows what it showed
-    /// before.
+    /// `Halted` exactly if the node had halted; nothing changes. `OutOfMemory`, and `HistoryFull`
+    /// if a decided cut cannot be installed because 65,536 views are installed or the height is the
+    /// last: the node halts, sends nothing of this step and keeps its configuration.
     pub fn step(&mut self, event: &Event) -> Result<Outputs, NodeFault>
         ensures step { IfOk result (λ sent. HasOutcome self.old.me (step.node_step self.old (event_of event.now)) self.new sent.items) }
         ensures fault { IfErr result (IsFault self.old (event_of event.now) self.new) }
         ensures running { OnOk result (model.is_halted self.old ≡ false) }
     {
+        // a store without room: it finds nothing and takes no memory
         let mut views = Views::new(self.alloc, 0);
         self.step_in(&mut views, event)
     }
 
     /// One step, as [`Node::step`] makes it, by views that nodes share: what the node enters is
-    /// looked up there, and kept there where it was not.
+    /// looked up there, and kept there if it was not found.
     ///
     /// # Errors
     ///

@@ -17,8 +17,8 @@ pub(crate) struct Past {
 }
 
 impl Past {
-    /// One stamp more, with what is shown from now on and the decisions so far. Want of memory
-    /// leaves all as it was.
+    /// One stamp more, with the configuration from now on and the decisions so far. If out of
+    /// memory all is as it was.
     pub(crate) fn add(
         &mut self,
         stamp: Stamp,

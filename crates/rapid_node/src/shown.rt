@@ -1,4 +1,4 @@
-// The configuration that a node shows.
+// The current configuration of a node.
 
 ghost use Rattle.std.specs.Prelude.{◌≡◌, None, Some, IfOk};
 ghost use Rattle.std.specs.Arc.{arc_value};
@@ -9,7 +9,7 @@ use std::alloc::{AllocError, Global};
 use std::marker::Model;
 use std::sync::Arc;
 
-/// The configuration that a node shows, if any. Copies share it.
+/// The current configuration of a node, if any. Copies share it.
 #[derive(Debug, Drop)]
 pub(crate) struct Shown {
     configuration: Option<Arc<Configuration, Global>>,
@@ -68,7 +68,7 @@ impl Shown {
         }
     }
 
-    /// What shows the same configuration, which it shares.
+    /// Another owner of the same configuration, which is shared.
     pub(crate) fn try_copy(&self) -> Result<Shown, AllocError>
         ensures { IfOk result (λ shown. shown ≡ self.now) }
     {

@@ -35,7 +35,7 @@ fn are_same_params(a: Params, b: Params) -> bool
     a.k() == b.k() && a.h() == b.h() && a.l() == b.l()
 }
 
-/// Whether two configurations are the same. Identifiers that differ tell it at once.
+/// Whether two configurations are the same. If the identifiers differ, they are not.
 #[tactic(auto, using(crate::proofs::Viewing::same_configuration))]
 fn is_same(a: &Configuration, b: &Configuration) -> bool
     ensures { result ≡ true → a.now ≡ b.now }
@@ -185,7 +185,7 @@ impl Known {
 }
 
 /// The views that the nodes of one process entered last. A view is looked up by its configuration,
-/// or by the configuration before it and the cut, all compared as values: the first node that
+/// or by the configuration before it and the cut, all compared as values. The first node that
 /// enters a view computes it, and the others share it. What it holds is never wrong and changes no
 /// step: a store that is empty, full or another node's costs time alone.
 #[derive(Debug, Drop)]
@@ -206,7 +206,7 @@ impl Model for Views {
 }
 
 impl Views {
-    /// No view; at most so many are kept at a time, the oldest of which is forgotten for a new one.
+    /// No view. At most `most` are kept at a time; the oldest is forgotten for a new one.
     pub fn new(alloc: Global, most: usize) -> Views
         ensures { result ≡ [] }
     {
@@ -244,7 +244,7 @@ impl Views {
         Ok(view)
     }
 
-    /// Keeps a view, with what led to it, where any are kept.
+    /// Keeps a view, with what led to it, if any are kept.
     fn keep(&mut self, before: Option<(Configuration, Cut)>, view: &View) -> Result<(), AllocError>
         requires { LeadsTo before view.now }
     {
