@@ -9,7 +9,7 @@ use std::process::Abort;
 use std::sync::Wait;
 use std::test::*;
 
-/// Hands this many events that are kept to the desk.
+/// Gives this many events that are kept to the desk.
 fn keep<R: Wait>(desk: &mut Desk<&R>, count: usize) -> Result<(), DeskError> {
     for _ in 0..count {
         step(desk, edge_down())?;
@@ -30,7 +30,7 @@ fn begins_anew<R: Wait + Abort>(rt: &R, desk: &mut Desk<&R>) -> Result<(), Fail>
     Ok(())
 }
 
-/// The height of the change that the subscriber is told of, if it is.
+/// The height of the change that the subscriber hears, if it hears one.
 fn change<R: Wait>(rt: &R, subscription: &mut Subscription) -> Option<u64> {
     match subscription.take(rt) {
         Taken::Change(view) => Some(view.stamp().height()),
@@ -38,7 +38,7 @@ fn change<R: Wait>(rt: &R, subscription: &mut Subscription) -> Option<u64> {
     }
 }
 
-/// After a checkpoint the desk shows what it did, and goes on as before it.
+/// After a checkpoint the desk has the same view, and goes on as before it.
 fn goes_on<R: Wait + Abort>(
     rt: &R,
     alloc: Global,
@@ -65,7 +65,7 @@ fn a_desk_goes_on_after_a_checkpoint(rt: HostRuntime) -> Result<(), Fail> {
     goes_on(&rt, rt.alloc(), &mut *desk, &mut seat)
 }
 
-/// Hands this many events to the desk, with a checkpoint each time that the journal has this many
+/// Gives this many events to the desk, with a checkpoint each time that the journal has this many
 /// records.
 fn keep_with_checkpoints<R: Wait>(
     desk: &mut Desk<&R>,
@@ -81,8 +81,8 @@ fn keep_with_checkpoints<R: Wait>(
     Ok(())
 }
 
-// That a journal which is begun anew in time is never full is a clause; here are fewer events than a
-// journal has room for, so that the test is quick.
+// That a journal which is begun anew in time is never full is a clause. Here there are fewer events
+// than a journal has room for, so that the test is quick.
 #[test]
 fn checkpoints_keep_a_journal_short(rt: HostRuntime) -> Result<(), Fail> {
     let mut desk = alone(&rt, rt.alloc(), 1)?;

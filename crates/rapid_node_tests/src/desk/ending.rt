@@ -44,8 +44,8 @@ fn last<R: Wait + Abort>(rt: &R, alloc: Global) -> Result<(Box<Desk<&R>>, Config
     }
 }
 
-/// The node halts at a decision, of which no subscriber is told. Once the desk is closed the
-/// subscriber is told the end.
+/// The node halts at a decision, which no subscriber hears. Once the desk is closed the subscriber
+/// hears the end.
 fn ends<R: Wait + Abort>(
     rt: &R,
     alloc: Global,

@@ -1,4 +1,4 @@
-// Desks to begin with, and what is told to them.
+// Desks to begin with, and the decisions that they get.
 
 ghost use Rattle.std.specs.Prelude.{◌≤◌, ◌<◌};
 
@@ -69,7 +69,7 @@ pub(crate) fn step<R: Wait>(desk: &mut Desk<&R>, event: Event) -> Result<(), Des
     Ok(())
 }
 
-/// Hands the decision on the cut of this process to the desk, in the configuration with this
+/// Gives the decision on the cut of this process to the desk, in the configuration with this
 /// identifier.
 pub(crate) fn decide<R: Wait>(
     alloc: Global,
@@ -81,7 +81,7 @@ pub(crate) fn decide<R: Wait>(
     Ok(())
 }
 
-/// Hands the decisions to let in processes 2, 3 and 4 to the desk of process 1 alone. Gives the
+/// Gives the decisions to let in processes 2, 3 and 4 to the desk of process 1 alone. Gives the
 /// configuration after them.
 pub(crate) fn let_three_in<R: Wait>(
     alloc: Global,

@@ -10,7 +10,7 @@ use std::process::Abort;
 use std::sync::Wait;
 use std::test::*;
 
-/// Hands this many events that are kept to the desk.
+/// Gives this many events that are kept to the desk.
 fn keep<R: Wait>(desk: &mut Desk<&R>, count: usize) -> Result<(), DeskError> {
     for _ in 0..count {
         step(desk, edge_down())?;
@@ -18,7 +18,7 @@ fn keep<R: Wait>(desk: &mut Desk<&R>, count: usize) -> Result<(), DeskError> {
     Ok(())
 }
 
-/// Hands this many ticks to the desk.
+/// Gives this many ticks to the desk.
 fn tick<R: Wait>(desk: &mut Desk<&R>, count: usize) -> Result<(), DeskError> {
     for _ in 0..count {
         step(desk, Event::Tick)?;

@@ -1,4 +1,4 @@
-// What subscribers are told.
+// What subscribers hear.
 
 use crate::desk::founding::{alone, decide, edge_down, founding, let_three_in, step};
 use rapid_desk::{Desk, DeskError, Subscription, Taken};
@@ -7,7 +7,7 @@ use std::process::Abort;
 use std::sync::Wait;
 use std::test::*;
 
-/// What a subscriber was told: a change to this height, or why there is none.
+/// What a subscriber heard: a change to this height, or why there is none.
 #[derive(Clone, Copy, Debug, PartialEq, Eq)]
 enum Told {
     Change(u64),
@@ -16,7 +16,7 @@ enum Told {
     Closed,
 }
 
-/// What the subscriber is told next.
+/// What the subscriber hears next.
 fn next<R: Wait>(rt: &R, subscription: &mut Subscription) -> Told {
     match subscription.take(rt) {
         Taken::Change(view) => Told::Change(view.configuration().height()),
@@ -26,7 +26,7 @@ fn next<R: Wait>(rt: &R, subscription: &mut Subscription) -> Told {
     }
 }
 
-/// Whether the subscriber is told all this, in order.
+/// Whether the subscriber hears all this, in order.
 fn is_told<R: Wait>(rt: &R, subscription: &mut Subscription, all: &[Told]) -> bool {
     for told in all {
         if next(rt, subscription) != *told {
@@ -58,13 +58,13 @@ fn a_subscriber_lags_after_its_capacity(rt: HostRuntime) -> Result<(), Fail> {
     lags(&rt, rt.alloc(), &mut *desk, &mut subscription)
 }
 
-/// Hands the decision to let in process 2 to the desk of process 1 alone.
+/// Gives the decision to let in process 2 to the desk of process 1 alone.
 fn let_one_in<R: Wait>(alloc: Global, desk: &mut Desk<&R>) -> Result<(), Fail> {
     let first = founding(alloc)?;
     decide(alloc, desk, first.id(), 2)
 }
 
-/// The subscriber is told nothing before a change, then the change and the end.
+/// The subscriber hears nothing before a change, then the change and the end.
 fn takes_all<R: Wait + Abort>(
     rt: &R,
     alloc: Global,

@@ -9,13 +9,13 @@ use std::thread::join;
 /// Half of the records that a journal has room for.
 const HALF: usize = 32_768;
 
-/// Hands an event to the desk under its lock.
+/// Gives an event to the desk under its lock.
 fn hand<R: Wait>(rt: &R, desk: &Mutex<Box<Desk<&R>>>) -> Result<(), DeskError> {
     desk.lock(rt).step(edge_down())?;
     Ok(())
 }
 
-/// Hands this many events to the desk, and says whether it took each.
+/// Gives this many events to the desk; the answer is whether it took each.
 fn hand_over<R: Wait>(rt: &R, desk: &Mutex<Box<Desk<&R>>>) -> bool {
     let mut all = true;
     for _ in 0..HALF {

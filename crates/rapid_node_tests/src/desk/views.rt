@@ -28,7 +28,7 @@ fn finds<R: Wait>(
     Ok(is_of(&found, stamp, configuration))
 }
 
-/// The seat, which nobody tells, sees each of three views that the desk publishes.
+/// The seat, which is not notified, sees each of three views that the desk publishes.
 fn sees_three<R: Wait + Abort>(
     rt: &R,
     alloc: Global,

@@ -28,8 +28,8 @@ pub fn assert_installs(rt: &impl Abort, network: &Network, expected: &[(u16, u64
     assert_eq!(rt; network.installs(), expected);
 }
 
-/// Checks that a node shows the configuration of this height and these members, and that it
-/// installed that last.
+/// Checks that a node's configuration has this height and these members, and that it installed that
+/// last.
 pub fn assert_shows(rt: &impl Abort, node: &Node, height: u64, members: &[u16]) {
     let shown = node.configuration().expect(rt, "a configuration");
     assert_eq!(rt; shown.height(), height);
@@ -104,7 +104,7 @@ pub fn assert_outputs(rt: &impl Abort, outputs: &Outputs, expected: &[(To, Said)
     assert_eq!(rt; outputs.len(), expected.len());
 }
 
-/// Tells a node of an event and checks what it sends, in order: to whom, and what.
+/// Gives an event to a node and checks what it sends, in order: to whom, and what.
 pub fn assert_answers(
     rt: &impl Abort,
     node: &mut Node,

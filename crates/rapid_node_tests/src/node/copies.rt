@@ -15,13 +15,13 @@ use std::test::Fail;
 /// One of three edges to the second of two founders goes down.
 const DOWN: [Step; 1] = [Step::Hears(Word::Down(Which::Shown, 0, 2), &[])];
 
-/// The node tells of the edge at a tick.
+/// The node reports the edge at a tick.
 const TELLS: [Step; 1] = [Step::Hears(Word::Tick, &[(To::Others, Said::Batch(1))])];
 
 /// The node removes the second process at the decision.
 const REMOVES: [Step; 2] = [Step::Hears(Word::Decision(2), &[]), Step::Shows(1, &[1])];
 
-/// The node shows the founders still and tells of the edge.
+/// The node still has the founding configuration, and reports the edge.
 const STAYS: [Step; 2] = [
     Step::Shows(0, &[1, 2]),
     Step::Hears(Word::Tick, &[(To::Others, Said::Batch(1))]),

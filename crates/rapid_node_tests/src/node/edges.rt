@@ -6,7 +6,7 @@ use std::test::Fail;
 
 // Of the founders 1 to 3 the first observes the second on the rings 0 and 1, the third on ring 2,
 // and the joiner 8 on ring 0. This was computed by Python's hashlib, from the rule that none is
-// between. An edge that is ignored is not told at the next tick.
+// between. An edge that is ignored is not reported at the next tick.
 
 /// An edge of another observer, on no ring, and to a process that is no member.
 const OF_OTHERS: [Step; 6] = [
@@ -34,7 +34,7 @@ fn edges_of_another_configuration_are_ignored(rt: HostRuntime) -> Result<(), Fai
     lives(&rt, rt.alloc(), (3, 3, 1), &[1, 2, 3], &ELSEWHERE)
 }
 
-/// An edge that is down is told once, also if it is said twice.
+/// An edge that is down is reported once, even if the node hears of it twice.
 const TWICE: [Step; 5] = [
     Step::Hears(Word::Down(Which::Shown, 0, 2), &[]),
     Step::Hears(Word::Down(Which::Shown, 0, 2), &[]),

@@ -55,7 +55,7 @@ pub fn joiner(alloc: Global, number: u16, seed: u16) -> Result<Node, Fail> {
     Ok(Node::joiner(alloc, process(number), process(seed).endpoint())?)
 }
 
-/// The identifier of the configuration that a node shows.
+/// The identifier of a node's configuration.
 pub fn shown(rt: &impl Abort, node: &Node) -> ConfigId {
     node.configuration().expect(rt, "a configuration").id()
 }

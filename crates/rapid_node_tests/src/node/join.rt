@@ -89,8 +89,8 @@ fn a_member_that_asks_again_is_confirmed(rt: HostRuntime) -> Result<(), Fail> {
     plays(&rt, rt.alloc(), (3, 3, 1), &[1], &CONFIRMED)
 }
 
-/// A joiner is answered in one configuration and asks its observers in the next: it is told, and
-/// begins anew at once.
+/// A joiner is answered in one configuration and asks its observers in the next: they say so, and
+/// it starts over at once.
 const BEGINS_ANEW: [Line; 2] = [
     Line::Does(&[
         Action::Start { node: 3, seed: 1 },
@@ -157,18 +157,19 @@ fn an_endpoint_in_use_is_refused(rt: HostRuntime) -> Result<(), Fail> {
     assert_refuses(&rt, &mut *node)
 }
 
-/// That the first process tells of a configuration.
+/// The first process confirms a configuration.
 fn confirmation(configuration: Configuration) -> Result<Event, Fail> {
     Ok(Event::Receive(Message::new(process(1), Body::Confirm(configuration))?))
 }
 
-/// Tells a node of the configuration of these founders.
+/// Confirms the configuration of these founders to a node.
 fn confirm(rt: &impl Abort, alloc: Global, node: &mut Node, founders: &[u16]) -> Result<(), Fail> {
     let confirmation = confirmation(founding(rt, alloc, (3, 3, 1), founders)?)?;
     assert_answers(rt, node, &confirmation, &[])
 }
 
-/// The second process joins by the first, and is told of the configuration of these founders.
+/// The second process joins by the first, and the configuration of these founders is confirmed to
+/// it.
 fn confirmed(rt: &impl Abort, alloc: Global, founders: &[u16]) -> Result<Box<Node>, Fail> {
     let mut node = Box::new(alloc, joiner(alloc, 2, 1)?)?;
     confirm(rt, alloc, &mut *node, founders)?;

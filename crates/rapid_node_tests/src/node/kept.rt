@@ -38,8 +38,8 @@ fn vote(alloc: Global, id: ConfigId) -> Result<Event, Fail> {
 /// What is answered to process 3 that is behind by no more than 64 views.
 const DECIDED: [(To, Said); 1] = [(To::Node(3), Said::Decision(2))];
 
-/// Checks that a node tells the decision in each of the last 64 configurations that it left, and
-/// nothing of the one before them.
+/// Checks that a node answers the decision in each of the last 64 configurations that it left, and
+/// nothing for the one before them.
 fn assert_keeps(rt: &impl Abort, alloc: Global, node: &mut Node) -> Result<(), Fail> {
     let first = vote(alloc, leave(rt, alloc, node)?)?;
     let second = vote(alloc, leave(rt, alloc, node)?)?;

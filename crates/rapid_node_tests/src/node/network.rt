@@ -16,7 +16,7 @@ use std::alloc::Global;
 use std::process::Abort;
 use std::test::Fail;
 
-/// How many packets are handed on at most in one flow.
+/// How many packets are delivered at most in one flow.
 const MOST: usize = 1000;
 
 /// A message on its way to an endpoint.
@@ -51,7 +51,7 @@ pub enum Action {
     Flow,
     /// The batch of the one alert of its observer that a process joins reaches a node.
     Joining { joiner: u16, node: u16 },
-    /// A node is told that the cut of this process is decided in its configuration.
+    /// A node hears that the cut of this process is decided in its configuration.
     Decide { node: u16, subject: u16 },
 }
 
@@ -196,7 +196,7 @@ impl Network {
         Ok(())
     }
 
-    /// Tells the node at a place of an event.
+    /// Gives an event to the node at a place.
     fn step(&mut self, place: usize, event: &Event) -> Result<(), Fail> {
         let Some(node) = self.nodes.get_mut(place) else {
             return Ok(());
@@ -214,7 +214,7 @@ impl Network {
         Ok(())
     }
 
-    /// Tells the node at an endpoint of an event, if there is one.
+    /// Gives an event to the node at an endpoint, if there is one.
     fn tell(&mut self, to: Endpoint, event: &Event) -> Result<(), Fail> {
         match place_of(self.nodes.as_slice(), to) {
             Some(place) => self.step(place, event),
@@ -322,7 +322,7 @@ impl Network {
         decision(rt, self.alloc, node, subject)
     }
 
-    /// A node is told of a decision in its configuration.
+    /// A node hears a decision in its configuration.
     fn decide(&mut self, rt: &impl Abort, number: u16, subject: u16) -> Result<(), Fail> {
         let event = self.decision(rt, number, subject)?;
         self.reach_node(number, event)

@@ -49,8 +49,8 @@ fn two_votes_of_three_change_nothing(rt: HostRuntime) -> Result<(), Fail> {
     plays(&rt, rt.alloc(), (3, 3, 1), &[1, 2, 3], &UNCHANGED)
 }
 
-/// Twenty ticks after its first vote the first member begins a ballot, and not before: after
-/// nineteen six messages were sent, the two last of which are the first of what it sends.
+/// Twenty ticks after its first vote the first member begins a ballot, and not before. After
+/// nineteen ticks six messages were sent; the two last of them are the first of what it sends.
 const AT_21: [Line; 5] = [
     Line::Does(&TWO_VOTE),
     Line::Does(&[Action::Tick(1, 19), Action::Flow]),

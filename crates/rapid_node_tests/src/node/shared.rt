@@ -10,15 +10,15 @@ use std::alloc::Global;
 use std::process::Abort;
 use std::test::Fail;
 
-/// Checks that a node shares the configuration that it shows.
+/// Checks that a node shares its configuration.
 fn assert_shared(rt: &impl Abort, node: &Node) -> Result<(), Fail> {
     let shared = node.shared_configuration()?.expect(rt, "a configuration");
     assert!(rt; shared.id() == shown(rt, node));
     Ok(())
 }
 
-/// Checks that a node shares what it shows, and observes the second process on ring 2 and nobody on
-/// ring 3.
+/// Checks that a node shares its configuration, and observes the second process on ring 2 and no
+/// process on ring 3.
 fn assert_looked_at(rt: &impl Abort, node: &Node) -> Result<(), Fail> {
     assert_shared(rt, node)?;
     assert!(rt; node.rings().is_some());
@@ -27,7 +27,7 @@ fn assert_looked_at(rt: &impl Abort, node: &Node) -> Result<(), Fail> {
     Ok(())
 }
 
-/// A member shares the configuration that it shows, and tells whom it observes on each ring.
+/// A member shares its configuration, and answers whom it observes on each ring.
 #[test]
 fn a_member_is_looked_at(rt: HostRuntime) -> Result<(), Fail> {
     let node = member(&rt, rt.alloc(), (3, 3, 1), &[1, 2], 1)?;
@@ -48,12 +48,13 @@ fn founder_in(
     Ok(Box::new(alloc, node)?)
 }
 
-/// Tells a node of an event by these views, and answers what it sends.
+/// Gives an event to a node by these views, and answers what it sends.
 fn told_in(node: &mut Node, views: &mut Views, event: Event) -> Result<Outputs, NodeFault> {
     node.step_in(views, &event)
 }
 
-/// Tells a node that the third process is cut out, and checks what it enters, by these views.
+/// Gives a node the decision that removes the third process, and checks what it enters, by these
+/// views.
 fn assert_entered(
     rt: &impl Abort,
     node: &mut Node,

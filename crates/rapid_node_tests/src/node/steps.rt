@@ -18,11 +18,11 @@ pub enum Which {
     Zero,
     /// The one that the node showed at first.
     First,
-    /// The one that the node shows.
+    /// That of the node.
     Shown,
 }
 
-/// What a node hears, in the configuration that the node shows unless another is named.
+/// What a node hears, in its configuration unless another is named.
 #[derive(Clone, Copy)]
 pub enum Word {
     /// A tick.
@@ -42,10 +42,10 @@ pub enum Word {
 pub enum Step<'a> {
     /// It hears this and sends that: to whom, and what.
     Hears(Word, &'a [(To, Said)]),
-    /// It hears this and sends that; the first message says that a probe came and names this
-    /// configuration, and the last one is the decision in that one, if one is said.
+    /// It hears this and sends that. The first message acknowledges a probe and names this
+    /// configuration; the last one is the decision in that one, if one is given.
     Acknowledges(Word, &'a [(To, Said)], Which, Option<Which>),
-    /// It shows the configuration of this height and these members.
+    /// Its configuration has this height and these members.
     Shows(u64, &'a [u16]),
     /// It is in this phase.
     Is(Phase),
@@ -104,7 +104,7 @@ fn decided(outputs: &Outputs) -> Option<ConfigId> {
     }
 }
 
-/// Tells a node of an event, checks what it sends, and answers the configurations that the first
+/// Gives an event to a node, checks what it sends, and answers the configurations that the first
 /// message acknowledges and the last one decides.
 fn named(
     rt: &impl Abort,
@@ -117,7 +117,7 @@ fn named(
     Ok((acknowledged(&outputs), decided(&outputs)))
 }
 
-/// Tells a node of an event and checks what it sends.
+/// Gives an event to a node and checks what it sends.
 fn answers(
     rt: &impl Abort,
     node: &mut Node,
@@ -127,7 +127,8 @@ fn answers(
     assert_answers(rt, node, &event, expected)
 }
 
-/// Checks that a node acknowledges a configuration, and decides in another, if one is said.
+/// Checks that a node acknowledges a configuration, and sends the decision in another, if one is
+/// given.
 fn acknowledges(
     rt: &impl Abort,
     node: &mut Node,

@@ -18,7 +18,7 @@ pub fn found<R: Wait + Copy + Drop>(rt: R, alloc: Global, me: Process) -> Result
     Ok(Box::new(alloc, desk)?)
 }
 
-/// Hands an event to the desk that threads share: what is to be sent after it, in order.
+/// Gives an event to the desk that threads share: what is to be sent after it, in order.
 pub fn hand<R: Wait + Copy + Drop>(
     rt: &impl Wait,
     desk: &Mutex<Box<Desk<R>>>,

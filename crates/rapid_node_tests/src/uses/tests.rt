@@ -94,7 +94,7 @@ fn decision(alloc: Global, id: ConfigId) -> Result<Event, Fail> {
     Ok(Event::Receive(message))
 }
 
-/// Hands an event to a desk, after which nothing is to be sent.
+/// Gives an event to a desk, after which nothing is to be sent.
 fn assert_silent<R: Wait + Copy + Drop, H: Wait + Abort>(
     rt: &H,
     desk: &Mutex<Box<Desk<R>>>,

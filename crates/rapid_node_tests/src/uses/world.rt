@@ -57,7 +57,7 @@ fn turn_all(world: &mut World, turns: u8) -> Result<()> {
 /// The world that this process founds alone.
 fn founded(alloc: Global, seed: Process) -> Result<Box<World>> {
     let params = Params::new(3, 3, 1)?;
-    // that there is such a configuration is what World::new wants of its founders
+    // World::new requires of its founders that there is such a configuration
     let _founding = Configuration::seed(alloc, params, &[seed])?;
     Ok(Box::new(alloc, World::new(alloc, params, &[seed])?)?)
 }

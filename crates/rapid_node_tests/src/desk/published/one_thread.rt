@@ -49,7 +49,7 @@ fn finds<R: Wait>(
     )
 }
 
-/// The seat, which nobody tells, sees each of three views that are published.
+/// The seat, which is not notified, sees each of three views that are published.
 fn sees_three<R: Wait + Abort>(
     rt: &R,
     alloc: Global,
