@@ -33,7 +33,7 @@ fn a_founding_configuration_has_height_0(rt: HostRuntime) -> Result<(), Fail> {
     Ok(())
 }
 
-/// Whether a configuration of 1,024 members has this identifier and tells it.
+/// Whether a configuration of 1,024 members has this identifier.
 fn is_full(configuration: &Configuration, id: ConfigId) -> bool {
     let stamp = configuration.stamp();
     configuration.id() == id && stamp.id() == id && stamp.height() == 0 && stamp.members() == 1024

@@ -1,5 +1,5 @@
-// Cut detection over tables of explicit edges. The worked inputs of `detect` stand in its tests;
-// here stands what its output does not show.
+// Cut detection over tables of explicit edges. The worked inputs of `detect` are in its own tests;
+// here is what its output does not show.
 
 ghost use Rattle.std.specs.Prelude.{◌≡◌};
 

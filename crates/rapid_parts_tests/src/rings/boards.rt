@@ -130,7 +130,7 @@ fn sizes_of_boards(rt: HostRuntime) {
     }
 }
 
-/// Whether a watcher that was told by the seat of an edge, which is down, answers so.
+/// Whether a watcher that was tied to the seat of an edge, which is down, answers so.
 fn is_told(board: &mut EdgeBoard, seat: &mut EdgeSeat) -> bool
     requires { board.old.board ≡ seat.old.board }
 {

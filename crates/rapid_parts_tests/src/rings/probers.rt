@@ -21,8 +21,7 @@ const WATCHERS: usize = 3;
 /// A member that observes the other on sixteen rings.
 const PAIR: [Name; 2] = [(1, 1), (2, 2)];
 
-/// What a sink was told of each ring: how many probes are to go out, and how often the edge went
-/// down.
+/// What a sink got for each ring: how many probes are to go out, and how often the edge went down.
 #[derive(Drop)]
 struct Told {
     probes: [u32; EDGES],
@@ -51,7 +50,7 @@ impl EdgeSink for Told {
     }
 }
 
-/// What one thread probes, and what its sink is told.
+/// What one thread probes, and what its sink gets.
 #[derive(Drop)]
 struct Prober {
     seats: Vec<EdgeSeat>,

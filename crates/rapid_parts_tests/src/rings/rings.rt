@@ -13,7 +13,7 @@ pub fn rings_of(alloc: Global, marks: Marks, names: &[Name]) -> Result<Rings, Co
     Ok(Rings::new(alloc, &configuration)?)
 }
 
-/// A ring, an observer and a subject; 0 stands for nobody.
+/// A ring, an observer and a subject; 0 stands for no process.
 type Edge = (u8, u16, u16);
 
 /// Whether each one observes the other on the ring.
@@ -67,7 +67,7 @@ fn has_subjects(
     Ok(are_pairs(subjects.as_slice(), expected))
 }
 
-/// Whether rings of three tell their configuration, in which there is no process 6.
+/// Whether rings of three answer their configuration, in which there is no process 6.
 fn tell(rings: &Rings, configuration: &Configuration) -> bool {
     rings.params().k() == 3
         && rings.id() == configuration.id()
@@ -76,7 +76,7 @@ fn tell(rings: &Rings, configuration: &Configuration) -> bool {
 }
 
 /// Whether on the next rings each one observes the other, process 1 has three subjects, and they
-/// tell of their configuration.
+/// answer their configuration.
 fn are_next(
     alloc: Global,
     before: &Rings,
@@ -99,7 +99,7 @@ fn follow(
     Ok(are_next(alloc, before, &configuration, edges)?)
 }
 
-/// Whether one search of a process tells that it is a member or not, and its observer on a ring.
+/// Whether one search of a process answers whether it is a member, and its observer on a ring.
 fn is_found(rings: &Rings, ring: u8, subject: u16, is_member: bool, observer: u16) -> bool {
     let (found, by) = rings.member_and_observer(ring, &process(subject));
     found == is_member && is_numbered(by, observer)
@@ -222,7 +222,7 @@ fn members_have_their_subjects(rt: HostRuntime) -> Result<(), Fail> {
     runs(rt.alloc(), THREE, &FIVE, &SUBJECTS)
 }
 
-// The same members on one ring, and nobody: no such ring, and no member.
+// The same members on one ring, and where there is no observer: no such ring, and no member.
 const SUBJECT_ON: [Call; 6] = [
     Call::Subject(0, 2, 5),
     Call::Subject(1, 2, 4),
@@ -241,7 +241,7 @@ const BEFORE: [Name; 4] = [(1, 1), (3, 3), (4, 4), (6, 6)];
 
 const NEXT: [Call; 1] = [Call::Next(&FIVE, &OF_FIVE)];
 
-/// The next rings keep keys of the last and tell of their configuration.
+/// The next rings keep keys of the last and answer their configuration.
 #[test]
 fn the_next_rings_keep_the_keys(rt: HostRuntime) -> Result<(), Fail> {
     runs(rt.alloc(), THREE, &BEFORE, &NEXT)

@@ -13,7 +13,7 @@ enum Call {
     Add(u8, u16, u16, Result<(), TableError>),
     /// A process is made a joiner.
     Joiner(u16),
-    /// The observer on a ring of a subject; 0 stands for nobody.
+    /// The observer on a ring of a subject; 0 stands for no process.
     Observer(u8, u16, u16),
     /// Whether a process is a member.
     Member(u16, bool),
@@ -124,7 +124,7 @@ fn errors_have_numbers(rt: HostRuntime) {
 
 const TWO: Marks = (2, 2, 1);
 
-/// The first error that holds is told, and joiners and further edges have room.
+/// The first error that holds is answered, and joiners and further edges have room.
 const FULL: [Call; 9] = [
     Call::Fill,
     Call::Add(0, 1, 1026, Err(TableError::TooMany)),

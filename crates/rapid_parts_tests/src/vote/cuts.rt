@@ -9,7 +9,7 @@ pub fn cut(alloc: Global, number: u8) -> Result<Cut, ConfigError> {
     Cut::new(Vec::from_array(alloc, [process(u16::from(number))])?)
 }
 
-/// Whether it is the cut of the process with this number, or none as is wanted.
+/// Whether it is the cut of the process with this number, or none, as expected.
 pub fn is_cut(found: Option<&Cut>, number: Option<u8>) -> bool {
     match (found, number) {
         (Some(found), Some(number)) => match found.processes() {

@@ -35,7 +35,7 @@ fn promise(alloc: Global, ballot: Ballot, vote: Option<u8>) -> Result<Promise, F
     Ok(Promise { ballot, vote })
 }
 
-/// Whether it is a request for the cut of the process with this number, or none as is wanted.
+/// Whether it is a request for the cut of the process with this number, or none, as expected.
 fn is_accept(found: &Option<Accept>, number: Option<u8>) -> bool {
     match found {
         Some(accept) => is_cut(Some(&accept.cut), number),
