@@ -152,7 +152,7 @@ module _ (es : Entries) (is : AreEntries es) (k : Key) (p : ℕ) where
       len-passed notices_total notices_exact (notices_of es) (k, p) (λ x. same_ballot x.0.0 k.0 && same_cut x.0.1 k.1) (same_itself k) (known_in ∙ new)
       ∙ ap (λ n. n + 1) (is.counted k.0 k.1)
 
-  -- the entries after an edit that puts the positions in their place
+  -- the entries after a change that puts the positions in their place
   module _ (s : fin.FinSet nat_cmp) (e : s ≡ fin.insert (positions_at es k) p) (fs : Entries) (f : fs ≡ put key_cmp k s es) where
     sorted_put : T (is_sorted key_cmp fs)
     sorted_put = subst (λ l. T (is_sorted key_cmp l)) (sym f) (is_sorted-put key_cmp keys_total k s es is.sorted)
@@ -208,7 +208,8 @@ pub no_notices : notices_of [] ≡ fin.empty
 unfolding notices_of
 no_notices = refl
 
--- ---- the same, in the words of the calls: the entries es as the slice zs shows them, and the value n that they stand for
+-- ---- the same, in the terms of the calls: the entries es as the slice zs has them, and the value n that they
+-- represent
 
 module _ (n : fin.FinSet notice_cmp) (es zs : Entries) (b : Ballot) (v : Cut) (p : ℕ) (is : AreEntries es) (view : notices_of es ≡ n) (same : zs ≡ es) where
   module _ (i : ℕ) (x : Key × fin.FinSet nat_cmp) (h : i < length zs) (t : HoldsAt (λ e. key_cmp e.0 (b, v) ≡ Equal) zs i) (read : x ≡ get_or es i x) where

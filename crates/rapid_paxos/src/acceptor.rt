@@ -143,6 +143,8 @@ impl Acceptor {
         ensures refused { IfErr result (IsPromiseRefusal (model.promise_answer self.old ballot)) }
         ensures unchanged { OnErr result (self.new ≡ self.old) }
     {
+        // an equal ballot too: it may have voted there, and a promise reports votes below its
+        // ballot
         if ballot <= self.rnd {
             return Err(PromiseError::Promised(self.rnd));
         }

@@ -127,6 +127,7 @@ impl Coordinator {
         ensures size { self.new.size ≡ self.old.size }
         ensures position { self.new.position ≡ self.old.position }
     {
+        // round 1 is that of the fast ballot
         let round = (above.round().max(last_round(self.ballot)) + 1).max(2);
         let Some(ballot) = Ballot::classic(round, self.position) else {
             return Err(RoundsUsed);
@@ -143,10 +144,10 @@ impl Coordinator {
     /// cut to ask for. A promise of another ballot than that begun last, or of a position heard
     /// already, is ignored. If out of memory the coordinator is as it was.
     ///
-    /// The cut is the one that the rule of Fast Paxos allows (Lamport, 2006): the own proposal if
-    /// no vote was reported, else the only cut reported at the highest ballot. If several are
-    /// reported there, it is the one that a fast quorum may have chosen, by the number of its
-    /// reports. If there is none such, it is the least of those by its bytes.
+    /// The cut is the one that the rule of Fast Paxos allows (Lamport, 2006). It is the own
+    /// proposal if no vote was reported, else the only cut reported at the highest ballot. If
+    /// several are reported there, it is the one that a fast quorum may have chosen, by the number
+    /// of its reports. If there is none such, it is the least of those by its bytes.
     pub fn hear_promise(
         &mut self,
         position: usize,
@@ -221,6 +222,9 @@ impl Coordinator {
             },
             [(only, _)] => Ok(Some(only.try_copy(self.alloc)?)),
             entries @ [(least, _), ..] => {
+                // A fast quorum has at most `size - promised` members that did not promise. So a
+                // cut that one chose was reported this often, and no two cuts can be: fast and
+                // classic quorums overlap.
                 let promised = self.heard.len();
                 let enough = (fast_size(self.size) + promised).saturating_sub(self.size);
                 let chosen = reported_by(entries, enough).unwrap_or(least);

@@ -45,9 +45,9 @@ impl Learner {
         }
     }
 
-    /// Hears that the member at a position accepted a cut at a ballot; the cut, at the first notice
-    /// that completes a classic quorum for one ballot and one cut, and `None` at every other. If
-    /// out of memory the learner is as it was.
+    /// Hears that the member at a position accepted a cut at a ballot. The answer is the cut at the
+    /// first notice that completes a classic quorum for one ballot and one cut, and `None` at every
+    /// other. If out of memory the learner is as it was.
     #[tactic(auto, unfolding(rapid_model::specs::Learner::after_notice, rapid_model::specs::Learner::learnt))]
     pub fn hear(
         &mut self,
