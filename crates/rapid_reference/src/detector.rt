@@ -148,7 +148,7 @@ fn alert(number: usize) -> (Alert, Option<Report>) {
     (alert, report)
 }
 
-/// Compares all that is told after a batch.
+/// Compares all answers after a batch.
 fn compare_state(
     alloc: Global,
     detector: &Detector<Table>,

@@ -3,7 +3,7 @@
 //! two ballots is tried, up to a short length. A cut detector over a small table is compared with a
 //! list of reports that repeated passes close, for every short sequence of batches. A difference
 //! ends the program. The numbers that it must print were counted by another program, so that a
-//! comparison that is passed over shows too.
+//! comparison that is skipped is noticed too.
 #![tactic(auto)]
 
 mod acceptor;
