@@ -221,7 +221,7 @@ range_below n i d l =
     let e = get_or-range_with_len 0 n i d (omega (arith, l, long)) in
     omega (arith, e, l, long)
 
--- a member's seat at its new place, where it has one
+-- a member's seat at its new place, if it has one
 pub seats_moved : (old ms : List Process) (xs : List Placed) → All (λ x. x.1 < length old) xs
     → (seats.seated ms (moved (map (λ p. position (same_bytes p) ms) old) xs) ≡ filter (λ (q : Seat). is_in ms q.1) (seats.seated old xs)) × All (λ x. x.1 < length ms) (moved (map (λ p. position (same_bytes p) ms) old) xs)
 seats_moved old ms [] valid = (refl, λ i d l. absurd (omega (arith, l)))

@@ -1,4 +1,4 @@
--- The seats on a ring, where members are named by their places.
+-- The seats on a ring, with members named by their places.
 use Rattle.std.proofs.Common.{◌≡◌, ℕ, zero, suc, ◌+◌, ◌-◌, ◌<◌, ◌≤◌, ◌==◌, Bool, true, false, cond, List, [], ◌∷◌, length, get_or, slice_get, refl, sym, ap, subst, ◌∙◌, Option, Some, None, inl, inr, arith, ne_eqb, eq-eqb, le-leb, add-one}
 use Rattle.std.specs.Prelude.{position, is_some}
 use Rattle.std.specs.Option.{option_map, option_and_then, option_eq}

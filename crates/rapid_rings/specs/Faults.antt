@@ -12,14 +12,14 @@ code_of RingRange = 2
 code_of TooMany = 3
 code_of OutOfMemory = 99
 
--- The error reports exactly this fault; want of memory is reported only where there is none.
+-- The error reports exactly this fault; out of memory is reported only if there is none.
 abbrev pub Reports : Option model.TableFault → TableError → Type 0
 Reports f EdgeTwice = f ≡ Some model.EdgeTwice
 Reports f RingRange = f ≡ Some model.RingRange
 Reports f TooMany = f ≡ Some model.TooMany
 Reports f OutOfMemory = f ≡ None
 
--- The error, where there is one, reports exactly this fault.
+-- The error, if there is one, reports exactly this fault.
 abbrev pub ReportsIfAny : Option model.TableFault → Option TableError → Type 0
 ReportsIfAny f None = f ≡ None
 ReportsIfAny f (Some e) = Reports f e

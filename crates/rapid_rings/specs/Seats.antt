@@ -106,7 +106,7 @@ pub record HasRings (c : Configuration) (rings : List (List Placed)) : Type 0 wh
   pub count : length rings ≡ c.params.k
   pub orders : (k : ℕ) (d : List Placed) → k < length rings → IsOrder k c.members (get_or rings k d)
 
--- Where the member at a place is in the next configuration.
+-- The place in the next configuration of the member at a place.
 abbrev pub move_to : List (Option ℕ) → ℕ → Option ℕ
 move_to places p = get_or places p None
 
@@ -122,12 +122,12 @@ sits_between x y z = (is_below x y && is_below y z) || (is_below y z && is_below
 abbrev pub Ascend : List Seat → Type 0
 Ascend = IsSorted seat_cmp
 
--- The seat next before s, going round: none is between them. There is none where no seat but s is there.
+-- The seat next before s, going round: none is between them. There is none if no seat but s is there.
 abbrev pub IsNextBefore : Seats → Seat → Option Seat → Type 0
 IsNextBefore r s None = (q : Seat) → set.contains r q ≡ true → same_seat q s ≡ true
 IsNextBefore r s (Some x) = (set.contains r x ≡ true) × (same_seat x s ≡ false) × ((q : Seat) → set.contains r q ≡ true → sits_between x q s ≡ false)
 
--- The seat next after s, going round: none is between them. There is none where no seat but s is there.
+-- The seat next after s, going round: none is between them. There is none if no seat but s is there.
 abbrev pub IsNextAfter : Seats → Seat → Option Seat → Type 0
 IsNextAfter r s None = (q : Seat) → set.contains r q ≡ true → same_seat q s ≡ true
 IsNextAfter r s (Some x) = (set.contains r x ≡ true) × (same_seat x s ≡ false) × ((q : Seat) → set.contains r q ≡ true → sits_between s q x ≡ false)

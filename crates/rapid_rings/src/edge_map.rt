@@ -50,7 +50,7 @@ impl EdgeMap {
         self.observers.contains_key(&EdgeKey::new(*subject, ring))
     }
 
-    /// Sets the observer of the subject on a ring. Want of memory leaves the edges as they were.
+    /// Sets the observer of the subject on a ring. If out of memory the edges are as they were.
     pub(crate) fn insert(
         &mut self,
         ring: u8,

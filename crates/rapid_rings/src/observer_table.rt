@@ -31,7 +31,7 @@ pub trait ObserverTable {
         ensures { result ≡ (observers self.now).observer ring subject.now };
 
     /// Whether the subject is a member, and who observes it on a ring: what `is_member` and
-    /// `observer` answer, for the cost of one search where the table has a cheaper way than both.
+    /// `observer` answer. It costs one search if the table has a cheaper way than to make both.
     fn member_and_observer(&self, ring: u8, subject: &Process) -> (bool, Option<Process>)
         ensures member { result.0 ≡ (observers self.now).is_member subject.now }
         ensures observer { result.1 ≡ (observers self.now).observer ring subject.now }

@@ -70,8 +70,8 @@ fn push_unless(places: &mut Vec<u16>, is_known: bool, place: u16) -> Result<(), 
     Ok(())
 }
 
-// The place of a process in a configuration. It is searched for only where the process is not at
-// the guessed place.
+// The place of a process in a configuration. It is searched for only if the process is not at the
+// guessed place.
 fn place_near(configuration: &Configuration, guess: u16, process: &Process) -> Option<u16>
     ensures { result ≡ position_of configuration.now process.now }
 {

@@ -50,7 +50,7 @@ impl ProcessSet {
         self.processes.contains(process)
     }
 
-    /// Adds a process; whether it was new. Want of memory leaves the set as it was.
+    /// Adds a process; whether it was new. If out of memory the set is as it was.
     pub(crate) fn insert(&mut self, process: Process) -> Result<bool, AllocError>
         ensures ok { OnOk result (self.new ≡ set.insert self.old process) }
         ensures added { IfOk result (λ added. added ≡ not (set.contains self.old process)) }

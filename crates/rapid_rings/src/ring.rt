@@ -20,7 +20,7 @@ use std::marker::Model;
 pub(crate) struct Ring {
     // ascending
     seats: Vec<Seat>,
-    // of each member, by place: where among the seats its own is
+    // of each member, by place: the rank of its seat
     ranks: Vec<usize>,
 }
 
@@ -73,8 +73,8 @@ impl Ring {
         ranked(alloc, seats, members.len())
     }
 
-    /// The observer of a process on the ring with this number. Where it is a member, this is its
-    /// place.
+    /// The observer of a process on the ring with this number. If the process is a member, `place`
+    /// is its place.
     pub(crate) fn observer(
         &self,
         number: u8,
@@ -131,7 +131,7 @@ impl Ring {
     }
 
     // The place of the member in the seat before that of the member at this place, going round;
-    // none where it is alone.
+    // none if it is alone.
     fn place_before(&self, place: usize) -> Option<u16>
         ensures { (i : ℕ) → place_at self.now i ≡ Some place →
             (rank : ℕ) × (place_at self.now rank ≡ Some place) × (result ≡ other_at self.now (rank_before rank (length self.now)) place) }
@@ -142,8 +142,8 @@ impl Ring {
         }
     }
 
-    // The place of the member in the seat after that of the member at this place, going round;
-    // none where it is alone.
+    // The place of the member in the seat after that of the member at this place, going round; none
+    // if it is alone.
     fn place_after(&self, place: usize) -> Option<u16>
         ensures { (i : ℕ) → place_at self.now i ≡ Some place →
             (rank : ℕ) × (place_at self.now rank ≡ Some place) × (result ≡ other_at self.now (rank_after rank (length self.now)) place) }
@@ -188,7 +188,7 @@ impl Ring {
     }
 }
 
-// The ring of these seats, which are those of so many members.
+// The ring of these seats, which are those of `count` members.
 fn ranked(alloc: Global, seats: Vec<Seat>, count: usize) -> Result<Ring, AllocError>
     requires { All (λ x. x.1 < count) seats.items }
     ensures { IfOk result (λ ring. ring ≡ seats.items) }
@@ -209,7 +209,7 @@ fn note_rank(ranks: &mut Vec<usize>, place: u16, rank: usize)
     ranks[usize::from(place)] = rank;
 }
 
-// The rank before another among so many, going round.
+// The rank before another among `count`, going round.
 fn previous(rank: usize, count: usize) -> usize
     ensures { result ≡ rank_before rank count }
 {
@@ -220,7 +220,7 @@ fn previous(rank: usize, count: usize) -> usize
     }
 }
 
-// The rank after another among so many, going round.
+// The rank after another among `count`, going round.
 fn following(rank: usize, count: usize) -> usize
     ensures { result ≡ rank_after rank count }
 {

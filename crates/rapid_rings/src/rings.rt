@@ -59,6 +59,7 @@ impl Rings {
         ensures { IfOk result (λ rings. rings ≡ configuration.now) }
     {
         let members = configuration.members();
+        // searched for once: a place in a configuration is the same on all rings
         let places = places_in(alloc, configuration, self.configuration.members())?;
         let newcomers = places_of_strangers(alloc, &self.configuration, members)?;
         let (places, newcomers) = (places.as_slice(), newcomers.as_slice());
@@ -112,8 +113,8 @@ impl Rings {
         }
     }
 
-    /// The member that the process observes on a ring, from 0; none where there is no such ring,
-    /// where it observes nobody, and where it is no member. It takes no memory, and costs one
+    /// The member that the process observes on a ring, from 0; none if there is no such ring, if it
+    /// observes no member on it, or if it is no member itself. It takes no memory, and costs one
     /// search for the process.
     pub fn subject_on(&self, ring: u8, process: &Process) -> Option<Process>
         ensures { result ≡ subject_on self.now process.now ring }
@@ -147,7 +148,7 @@ impl Rings {
         }
     }
 
-    // The observer of a process on a ring. Where it is a member, this is its place.
+    // The observer of a process on a ring. If the process is a member, `place` is its place.
     #[tactic(auto, unfolding(rapid_model::specs::Ring::observers_of))]
     fn observer_of(&self, ring: u8, place: Option<usize>, process: &Process) -> Option<Process>
         requires { place ≡ position_of self.now process.now }

@@ -11,7 +11,7 @@ use rapid_endpoint::Process;
 use sha2::{Digest, Sha256};
 use std::alloc::{AllocError, Global};
 
-/// Up to so many seats are put in their places one by one: that costs less than a sort of all.
+/// Up to this many seats are put in their places one by one: that costs less than a sort of all.
 const FEW: usize = 8;
 
 /// The key of a member on a ring, with its place in the configuration. Seats are ordered by key;
@@ -64,7 +64,7 @@ pub(crate) fn seats_moved(
     Ok(kept)
 }
 
-// Where the process at a place is in the next configuration.
+// The place in the next configuration of the process at a place.
 fn place_after(places: &[Option<u16>], place: u16) -> Option<u16>
     ensures { result ≡ move_to places.now place }
 {

@@ -54,8 +54,8 @@ impl Table {
         }
     }
 
-    /// Declares a joiner: from now on the process is no member. Want of memory leaves the table as
-    /// it was.
+    /// Declares a joiner: from now on the process is no member. If out of memory the table is as it
+    /// was.
     pub fn joiner(&mut self, process: Process) -> Result<(), AllocError>
         ensures ok { OnOk result (self.new ≡ after_joiner self.old process) }
         ensures unchanged { OnErr result (self.new ≡ self.old) }
@@ -66,9 +66,9 @@ impl Table {
     }
 
     /// Adds an edge: `observer` observes `subject` on a ring from 0. The first of these that holds
-    /// is the error: `TooMany` where the subject is a member that nobody observes and 1,024 members
-    /// are observed, `RingRange` where the ring is not below K, `EdgeTwice` where the subject has
-    /// an observer on this ring. After an error, want of memory among them, the table is as it was.
+    /// is the error: `TooMany` if the subject is a member without an observer and 1,024 members
+    /// have one, `RingRange` if the ring is not below K, `EdgeTwice` if the subject has an observer
+    /// on this ring. After each error, `OutOfMemory` too, the table is as it was.
     pub fn add(&mut self, ring: u8, observer: Process, subject: Process) -> Result<(), TableError>
         ensures ok { OnOk result (self.new ≡ after_add self.old ring observer subject) }
         ensures allowed { OnOk result (add_fault self.old ring subject ≡ None) }
