@@ -5,8 +5,8 @@ use rapid_service::{Post, Shared};
 use rapid_transport::{Inbox, is_local};
 use std::sync::Wait;
 
-/// Hands the messages that come in on to the node, until it ends. One whose sender is said to be
-/// where no peer can be is dropped: the node would answer there.
+/// Gives the messages that come in to the node, until it ends. A message is dropped if no peer can
+/// be at its sender's endpoint: the node would send its answer there.
 #[derive(Drop)]
 pub(crate) struct Arrivals<'a, R: Wait + Copy + Drop, P: Post + Drop> {
     pub shared: &'a Shared<R, P>,

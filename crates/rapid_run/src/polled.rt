@@ -10,12 +10,12 @@ use std::os::fd::{AsRawFd, RawFd};
 /// How long a call waits at most, in milliseconds.
 const LONGEST_WAIT: i32 = 100;
 
-/// How many bytes a write takes at most: as many as go into a pipe at once where it has room.
+/// How many bytes a write takes at most: as many as go into a pipe at once if it has room.
 const MOST: usize = 4_096;
 
-/// A stream of the system of which no call waits for long: one that can do nothing for 0.1 seconds
-/// fails as if a signal had interrupted it, and is made again by whoever has nothing else to do. A
-/// node that ends makes it no more.
+/// A stream of the system of which no call waits for long. A call that can do nothing for 0.1
+/// seconds fails as if a signal had interrupted it, and the caller makes it again. A node that ends
+/// makes no further call.
 #[derive(Drop)]
 pub struct Polled<S: Drop> {
     stream: S,
@@ -34,13 +34,14 @@ impl<S: Drop> Polled<S> {
 ///
 /// # Errors
 ///
-/// `Interrupted` where it is not, or a signal came.
+/// `Interrupted` if it is not, or if a signal came.
 fn wait_for(fd: RawFd, events: i16) -> io::Result<()> {
     let mut asked = [pollfd {
         fd,
         events,
         revents: 0,
     }];
+    // 0 if the time is over; below 0 after a signal, or a fault that the next call meets too
     if poll(&mut asked, LONGEST_WAIT) <= 0 {
         return Err(io::Error::from(ErrorKind::Interrupted));
     }

@@ -6,8 +6,8 @@ use rapid_service::Post;
 use rapid_transport::Peers;
 use std::sync::Wait;
 
-/// Hands frames on to the senders of the peers. A frame that finds a queue full is lost, and so is
-/// one that goes where no peer can be: the senders dial nobody there. The peers count both.
+/// Gives frames to the senders of the peers. A frame that finds a queue full is lost, and so is one
+/// to an endpoint at which no peer can be, which the senders do not dial. The peers count both.
 #[derive(Drop)]
 pub(crate) struct Posts<'a> {
     pub peers: &'a Peers,

@@ -14,7 +14,7 @@ use std::sync::atomic::{AtomicBool, Ordering};
 use std::thread::Threads;
 use std::time::{Clock, Duration};
 
-/// Listens where the node is to be.
+/// Listens at the endpoint of the node.
 fn listen<R>(
     rt: &R,
     alloc: Global,
@@ -45,7 +45,7 @@ fn open<'a, 'b, R: Wait>(
     }
 }
 
-/// Prints the view with which the node begins, where there is one.
+/// Prints the view with which the node begins, if there is one.
 fn print_first<O: Write>(lines: &[u8], writer: &mut O) -> Result<(), NodeFault> {
     if writer.write_all(lines).is_err() || writer.flush().is_err() {
         return Err(NodeFault::Write);
@@ -85,7 +85,7 @@ where
     run_threads(rt, start, peers, &shared, streams, told)
 }
 
-/// Runs a node until it ends. Where a fault was told meanwhile, `told` is true then.
+/// Runs a node until it ends. If a fault was reported meanwhile, `told` is true then.
 fn run<R, S, I, O, E>(
     rt: &R,
     alloc: Global,
@@ -118,24 +118,24 @@ where
 
 /// Runs a node over loopback TCP until it ends: by the line `quit`, at the end of the input, or by
 /// a fault. It founds a cluster, whose view it prints before it reads a line, or joins one by the
-/// seed of its options; without an identifier of its own it draws one from the source. Each view
-/// that it enters prints a line. Where `tick_ms` is above 0 a ticker ticks it too, once every so
-/// many milliseconds.
+/// seed of its options. Without an identifier in its options it draws one from the source. Each
+/// view that it enters prints a line. If `tick_ms` is above 0, a ticker also ticks it every
+/// `tick_ms` milliseconds.
 ///
 /// When it returns, all its threads have ended and its sockets are closed. What was queued for the
-/// peers was sent as far as 0.3 seconds sufficed. It cannot return while a read or a write waits.
-/// One that fails as interrupted is made again until the node ends: by streams that are `Polled` it
+/// peers was sent as far as 0.3 seconds sufficed. It cannot return while a read or a write waits. A
+/// call that fails as interrupted is made again until the node ends. So with `Polled` streams it
 /// returns within a second of a fault or of `quit`, whatever its input and its outputs do.
 ///
 /// # Errors
 ///
-/// `NoPort` where the port was not to be had, `NoIdentifier` where the source failed, `Read` and
-/// `Write` where the input or the output failed, `Write` also where the output did not take what was
-/// printed within half a second after the end, `JournalFull` and `Halted` by the node itself, and
-/// `OutOfMemory`, also where a thread was not to be had. Each is told by one line of the error
-/// output, `error: ` and the fault, as soon as it ends the node, whatever the input does; a fault
-/// of the error output is passed over. Within a second a line there tells each `Note`, after `note: `,
-/// and one that there are too few file descriptors, after `warning: `.
+/// `NoPort` if the port could not be bound, and `NoIdentifier` if the source failed. `Read` and
+/// `Write` if the input or the output failed; `Write` also if the output did not take what was
+/// printed within half a second after the end. `JournalFull` and `Halted` by the node itself, and
+/// `OutOfMemory`, also if a thread could not be started. Each is reported by one line of the error
+/// output, `error: ` and the fault, as soon as it ends the node, whatever the input does. A fault
+/// of the error output is ignored. Each `Note` is reported there within a second, after `note: `,
+/// and so is a lack of file descriptors, after `warning: `.
 pub fn run_node<R, S, I, O, E>(
     rt: &R,
     alloc: Global,

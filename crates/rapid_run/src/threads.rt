@@ -14,7 +14,7 @@ use std::sync::atomic::{AtomicBool, Ordering};
 use std::thread::{self, Threads};
 use std::time::{Clock, Duration};
 
-/// How much time lies between two looks what is to be told, in milliseconds.
+/// The time between two looks for something to report, in milliseconds.
 const BETWEEN_LOOKS: u64 = 1_000;
 
 /// What a node begins with.
@@ -23,9 +23,9 @@ pub(crate) struct Start {
     pub alloc: Global,
     /// The ends of the senders' queues.
     pub ends: Vec<SenderEnd>,
-    /// How much time lies between two ticks; no ticker runs where it is zero.
+    /// How much time lies between two ticks; no ticker runs if it is zero.
     pub period: Duration,
-    /// In how many threads those that are observed are probed.
+    /// How many threads probe the observed members.
     pub probers: u8,
 }
 
@@ -37,13 +37,13 @@ pub(crate) struct Streams<I: Drop, O: Drop, E: Drop> {
     pub err: E,
 }
 
-/// Tells of a fault by one line.
+/// Reports a fault by one line.
 pub(crate) fn tell<E: Write>(fault: NodeFault, err: &mut E) {
     let _ = writeln!(err, "error: {fault}");
     let _ = err.flush();
 }
 
-/// Tells by one line that there are too few file descriptors.
+/// Reports by one line that there are too few file descriptors.
 fn warn<E: Write>(err: &mut E) {
     let _ = writeln!(
         err,
@@ -52,7 +52,7 @@ fn warn<E: Write>(err: &mut E) {
     let _ = err.flush();
 }
 
-/// Tells what a node says while it goes on, a line each.
+/// Reports the notes of a node while it goes on, a line each.
 fn tell_notes<E: Write>(notes: &[Note], err: &mut E) {
     for note in notes {
         let _ = writeln!(err, "note: {note}");
@@ -60,7 +60,7 @@ fn tell_notes<E: Write>(notes: &[Note], err: &mut E) {
     let _ = err.flush();
 }
 
-/// Prints what is added to the console until that is closed. Where it cannot be written the node
+/// Prints what is added to the console until that is closed. If it cannot be written, the node
 /// ends.
 fn print<W: Wait + Clock, R: Wait + Copy + Drop, P: Post + Drop, O: Write + Drop>(
     rt: &W,
@@ -86,8 +86,8 @@ fn answer<W: Wait + Clock, R: Wait + Copy + Drop, P: Post + Drop, I: Read + Drop
     run_lines(rt, alloc, shared, &mut reader);
 }
 
-/// Waits until the node ends. Meanwhile it tells what the node says, and once that there are too few
-/// file descriptors, if so.
+/// Waits until the node ends. Meanwhile it reports the node's notes, and once that there are too
+/// few file descriptors, if so.
 fn watch<W: Wait + Clock, R: Wait + Copy + Drop, P: Post + Drop, E: Write>(
     rt: &W,
     shared: &Shared<R, P>,
@@ -109,7 +109,7 @@ fn watch<W: Wait + Clock, R: Wait + Copy + Drop, P: Post + Drop, E: Write>(
     }
 }
 
-/// Tells of the fault by which the node ends, once it ends, whoever ends it, and stops the peers.
+/// Reports the fault by which the node ends, once it ends, whoever ends it, and stops the peers.
 fn stop_at_the_end<W: Wait + Clock, R: Wait + Copy + Drop, P: Post + Drop, E: Write + Drop>(
     rt: &W,
     shared: &Shared<R, P>,
@@ -126,7 +126,7 @@ fn stop_at_the_end<W: Wait + Clock, R: Wait + Copy + Drop, P: Post + Drop, E: Wr
     peers.stop(rt);
 }
 
-/// Ends the node since a thread of it was not to be had.
+/// Ends the node because a thread of it could not be started.
 fn give_up<W: Wait, R: Wait + Copy + Drop, P: Post + Drop>(rt: &W, shared: &Shared<R, P>) {
     shared.ending().end(rt, Some(NodeFault::OutOfMemory));
 }
@@ -161,6 +161,7 @@ where
         |scope|
             requires { IsSync W.row × IsSend R.row × IsSync R.row × IsSend P.row × IsSync P.row × IsSend I.row × IsSend E.row }
         {
+            // first: without the thread that stops the peers nothing would end the acceptor below
             if scope
                 .spawn(move || stop_at_the_end(rt, shared, peers, err, told))
                 .is_err()
@@ -170,7 +171,7 @@ where
             if !period.is_zero() && scope.spawn(move || run_ticker(rt, shared, period)).is_err() {
                 return give_up(rt, shared);
             }
-            // who ticks the node makes the parts for which no thread is to be had
+            // whoever ticks the node makes the parts for which no thread could be started
             for _ in 1..probers {
                 let _ = scope.spawn(move || run_prober(rt, shared));
             }
@@ -188,8 +189,8 @@ where
 }
 
 /// Runs the threads of a node until it ends, and says why it did. When it returns all have ended,
-/// and what was added to the console is printed. A fault that ends the node is told at once, and
-/// then `told` is true.
+/// and what was added to the console is printed. A fault that ends the node is reported at once,
+/// and then `told` is true.
 pub(crate) fn run_threads<W, R, P, I, O, E>(
     rt: &W,
     start: Start,
@@ -226,10 +227,12 @@ where
                 return give_up(rt, shared);
             }
             work(rt, start, peers, shared, reader, err, told);
+            // only now: all threads that print have ended, and what they added is still written
             shared.console().close(rt);
         },
     );
     shared.ending().outcome(rt)?;
+    // the node may have ended well, and its last lines were not taken
     if unwritten.load(Ordering::SeqCst) {
         return Err(NodeFault::Write);
     }

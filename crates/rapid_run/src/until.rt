@@ -32,7 +32,7 @@ impl<'a, W: Wait + Clock, S: Drop> Until<'a, W, S> {
         }
     }
 
-    /// Whether the node has ended for so long.
+    /// Whether the node ended at least this long ago.
     fn is_over(&mut self, longest: Duration) -> io::Result<bool> {
         if !self.ending.has_come(self.rt) {
             return Ok(false);
@@ -43,7 +43,8 @@ impl<'a, W: Wait + Clock, S: Drop> Until<'a, W, S> {
         Ok(now.saturating_duration_since(ended) >= longest)
     }
 
-    /// The outcome of a call, which is not to be made again once the node has ended for so long.
+    /// The outcome of a call, which is not to be made again if the node ended at least this long
+    /// ago.
     fn settle(&mut self, outcome: io::Result<usize>, longest: Duration) -> io::Result<usize>
         ensures kept { IfOk result (λ n. outcome ≡ Ok n) }
     {
