@@ -10,10 +10,10 @@ use std::thread::Threads;
 use std::time::Clock;
 
 /// Words behind the program's name, and with which status they are answered on an empty input, what
-/// is written, and what is told, all of it exactly.
+/// is written, and what is reported, all of it exactly.
 type Row = (&'static str, u8, &'static str, &'static str);
 
-/// What a node without ticks is told.
+/// What is reported of a node without ticks.
 const NO_TICKS: &str =
     "note: with --tick-ms 0 only lines tick this node: it joins nobody, sees no crash, and may hold up its cluster\n";
 
@@ -246,7 +246,7 @@ For more information, try 'rapidd node --help'.
 For more information, try 'rapidd node --help'.
 ",
     ),
-    // faults at the first place are told first
+    // faults at the first place are reported first
     (
         "node --listen localhost:1 --join 127.0.0.1 --id 1 --k 3",
         2,
@@ -265,7 +265,7 @@ For more information, try 'rapidd node --help'.
 For more information, try 'rapidd node --help'.
 ",
     ),
-    // other faults, as clap tells them
+    // other faults, as clap reports them
     (
         "cluster --nodes 3 --nodes 4",
         2,

@@ -194,7 +194,7 @@ fn agree<R: Wait>(rt: &R, alloc: Global, places: &[Place]) -> bool {
     }
 }
 
-/// Cuts all connections, by which nobody is expelled.
+/// Cuts all connections, at which no node is expelled.
 fn endure_a_cut<R: Wait + Clock>(
     rt: &R,
     stay: &[Place],
@@ -319,8 +319,8 @@ where
     cluster(rt, alloc, places, texts, cuts)
 }
 
-/// Runs nine nodes so until they do as they should, three times at most: healthy nodes are expelled
-/// if the machine stands still for forty ticks, which are two seconds here.
+/// Runs nine nodes in this way until they do as they should, three times at most. Healthy nodes are
+/// expelled if the machine stands still for forty ticks, which are two seconds here.
 fn nine_of_three<R>(
     rt: &R,
     alloc: Global,

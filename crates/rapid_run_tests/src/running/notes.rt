@@ -43,7 +43,7 @@ fn reply(joiner: u8, reply: Reply) -> Result<Message, Fail> {
     Ok(Message::new(process(2), said)?)
 }
 
-/// Ticks a service so often, and takes what is to be told.
+/// Ticks a service this often, and takes what is to be reported.
 fn ticked<R: Wait + Copy + Drop>(
     service: &mut Service<R, Nowhere>,
     count: u64,
@@ -69,7 +69,7 @@ fn questions_in_vain_are_told(rt: HostRuntime) -> Result<(), Fail> {
         ticked(&mut service, 1)?.as_slice(),
         [in_vain(10, Answer::Nothing)].as_slice()
     );
-    // the answer to each question, also if more is told at once
+    // the answer to each question, also if more is reported at once
     assert!(rt; ticked(&mut service, 99)?.is_empty());
     service.receive(reply(1, Reply::TooManyJoiners)?)?;
     service.receive(reply(1, Reply::EndpointInUse)?)?;
@@ -149,7 +149,7 @@ fn at_most_64_notes_wait(rt: HostRuntime) -> Result<(), Fail> {
     Ok(())
 }
 
-/// What is told of a question in vain, by what was answered.
+/// What is reported of a question in vain, by its reply.
 const ANSWERS: [(Answer, &str); 5] = [
     (
         Answer::Nothing,
@@ -187,7 +187,7 @@ fn the_texts_of_notes(rt: HostRuntime) -> Result<(), Fail> {
     Ok(())
 }
 
-/// The faults of a node, with the status of each and what is told of it.
+/// The faults of a node, with the status of each and what is reported of it.
 const FAULTS: [(NodeFault, u8, &str); 7] = [
     (NodeFault::Read, 1, "the input could not be read"),
     (NodeFault::Write, 1, "the output could not be written"),

@@ -128,7 +128,7 @@ fn other_messages_are_taken_each_time(rt: HostRuntime) -> Result<(), Fail> {
     Ok(())
 }
 
-/// Counts the frames that are handed on.
+/// Counts the frames that are sent.
 #[derive(Drop)]
 struct Count {
     frames: u64,

@@ -168,10 +168,10 @@ fn an_input_that_fails(rt: HostRuntime) -> Result<(), Fail> {
     Ok(())
 }
 
-/// What is told if the output fails.
+/// What is reported if the output fails.
 const UNWRITTEN: &[u8] = b"error: the output could not be written\n";
 
-/// How a node ends whose output fails, and what it tells.
+/// How a node ends whose output fails, and what it reports.
 fn unwritten<R>(
     rt: &R,
     alloc: Global,
@@ -201,8 +201,8 @@ fn an_output_that_fails(rt: HostRuntime) {
     }
 }
 
-/// Waits until it is told that the output has failed, for some seconds at most, and ends the input
-/// then; whether it was told.
+/// Waits until the failure of the output is reported, for some seconds at most, and ends the input
+/// then; the answer is whether it was reported.
 fn is_told<R: Wait + Clock>(rt: &R, told: &Mutex<Vec<u8>>, over: &AtomicBool) -> bool {
     let mut is_told = false;
     for _ in 0..1_000 {
@@ -216,8 +216,8 @@ fn is_told<R: Wait + Clock>(rt: &R, told: &Mutex<Vec<u8>>, over: &AtomicBool) ->
     is_told
 }
 
-/// Runs a node whose output fails, and whose input is quiet after a line; whether it was told of
-/// the fault before the input ended, and how it ended.
+/// Runs a node whose output fails, and whose input is quiet after a line; whether the fault was
+/// reported before the input ended, and how the node ended.
 fn quiet<'a, R>(rt: &'a R, alloc: Global, told: &'a Mutex<Vec<u8>>) -> (Result<(), NodeFault>, bool)
 where
     R: Net<Listener = TcpListener, Stream = TcpStream>

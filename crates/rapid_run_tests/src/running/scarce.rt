@@ -22,7 +22,7 @@ const BEFORE_QUIT: u64 = 300;
 
 const SOON: u64 = 2_500;
 
-/// What is told if there are too few.
+/// What is reported if there are too few.
 const WARNING: &[u8] =
     b"warning: no file descriptor was to be had for a connection: messages are lost\n";
 
@@ -48,7 +48,7 @@ where
 }
 
 /// Runs a node at this port for which there are this many file descriptors. How it ends, what it
-/// tells, and whether it ends soon.
+/// reports, and whether it ends soon.
 fn among<R>(
     rt: &R,
     alloc: Global,
@@ -83,7 +83,7 @@ where
     Ok((ended, err, spent < Duration::from_millis(SOON)))
 }
 
-/// With how many descriptors a node ends in which way, and what it tells: the listener takes one,
+/// With how many descriptors a node ends in which way, and what it reports: the listener takes one,
 /// and another accepts a connection.
 const ROWS: [(usize, Result<(), NodeFault>, &[u8]); 3] = [
     (

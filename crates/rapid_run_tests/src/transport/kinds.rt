@@ -132,8 +132,8 @@ fn every_kind_from_a_reader_that_fails_at_each_call(rt: HostRuntime) -> Result<(
     Ok(())
 }
 
-/// What sending a frame answers, to a writer that takes one byte a call, and after `calls` calls fails
-/// or takes none; and whether as many bytes were written, as the frame begins.
+/// What sending a frame answers if the writer takes one byte a call, and after `calls` calls fails
+/// or takes none. Also whether that many bytes were written, and are the beginning of the frame.
 fn sent(
     alloc: Global,
     frame: &[u8],

@@ -41,7 +41,7 @@ fn closes_within(stream: &mut TcpStream, time: Duration) -> bool {
     waits.is_ok() && matches!(stream.read(&mut [0; 8]), Ok(0))
 }
 
-/// This many silent connections to this port; fewer if one was not to be had.
+/// This many silent connections to this port; fewer if one could not be opened.
 fn silent<R>(rt: &R, alloc: Global, port: u16, count: usize) -> Result<Vec<TcpStream>, AllocError>
 where
     R: Net<Listener = TcpListener, Stream = TcpStream>,

@@ -1,4 +1,4 @@
-// Where frames go, and by which connections.
+// The endpoints to which frames go, and by which connections.
 
 use crate::transport::peers::{Tally, none_asked, post_all, wait_for};
 use crate::transport::worked::PRE_JOIN;
@@ -390,7 +390,7 @@ fn a_sender_that_rests_is_woken(rt: HostRuntime) -> Result<(), Fail> {
         || post_after_rests(&rt, rt.alloc(), &peers, at, &tally),
     );
     assert!(rt; ran.is_ok() && came);
-    // a sender that nobody wakes looks at its queue once a second
+    // a sender that is not woken looks at its queue once a second
     assert!(rt; begun.elapsed(&rt)? < Duration::from_secs(3));
     Ok(())
 }

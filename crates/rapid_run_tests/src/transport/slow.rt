@@ -56,7 +56,7 @@ fn flood<R: Wait>(
     Ok(())
 }
 
-/// Where frames go.
+/// The endpoints to which frames go.
 #[derive(Clone, Copy)]
 struct Targets {
     /// To the peers themselves.
@@ -127,8 +127,8 @@ fn connects<R: Clock>(rt: &R, listener: &TcpListener, count: u32) -> bool {
     false
 }
 
-/// Whether frames to the peers themselves come soon while another peer reads nothing, frames to
-/// that one are lost, and it is connected to again when it was left alone for a while. Stops the
+/// Whether frames to the peers themselves come soon while another peer reads nothing. Frames to
+/// that one are lost, and it is connected to again after it was left alone for a while. Stops the
 /// peers.
 fn is_patient<R>(
     rt: &R,
