@@ -177,7 +177,7 @@ lives_detector c me _ _ _ _ (enters k at) = record { state = refl; cut = λ v e.
 lives_detector c me _ _ _ _ (does acts heard s a m t d l x) = detector_kept acts heard s a m t d x (lives_vote c me acts heard s None l) (lives_detector c me acts heard s None l)
 lives_detector c me _ _ _ _ (leaves acts heard s v a l mark) = lives_detector c me acts heard s (Some v) l
 
--- where all that was taken was heard, its direct reports are those of the alerts taken
+-- if all that was taken was heard, its direct reports are those of the alerts taken
 pub detector_taken : (acts : List Act) (heard : List Message) (s : MemberState) → DetectorKept heard s → heard ≡ taken_in s.me acts → s.detector.direct ≡ direct_reports (observers_of s.config) (alerts_taken (observers_of s.config) s.me acts)
 detector_taken acts heard s k sync =
     ap (λ (d : Detector). d.direct) k.state ∙ direct_is (observers_of s.config) (batches_of (current_id s) heard)
@@ -203,7 +203,7 @@ no_stretch t p q acts n none = record { before = acts; stretch = []; splits = sy
 ticks_more : (acts : List Act) (a : Act) → count_by is_tick (acts ++ a ∷ []) ≡ count_by is_tick acts + cond (is_tick a) 1 0
 ticks_more acts a = sum_by-append (λ x. cond (is_tick x) 1 0) acts (a ∷ []) ∙ ap (λ n. count_by is_tick acts + n) (omega arith)
 
--- where one list ends in a, an element of it is that a, or stands before it
+-- if a list ends in a, each of its elements is that a or stands before it
 last_or_before : {A : Type 0} (xs ys front : List A) (x a : A) → front ++ a ∷ [] ≡ xs ++ x ∷ ys → ((front ≡ xs) × (a ≡ x)) ⊎ ((zs : List A) × (front ≡ xs ++ x ∷ zs))
 last_or_before [] ys [] x a e = inl (refl, cc)
 last_or_before [] ys (z ∷ front) x a e = let same : z ≡ x = cc in inr (front, ap (λ w. w ∷ front) same)
@@ -465,7 +465,7 @@ justified w c me a s =
       ];
     }
 
--- where an alert was sent, its observer raised it in a configuration of its identifier
+-- if an alert was sent, its observer raised it in a configuration of its identifier
 pub record RaisedIn (w : World) (a : Alert) : Type 0 where
   pub config : Configuration
   pub about : configuration_id config ≡ a.config

@@ -81,7 +81,7 @@ module _ (c : Configuration) (me : Process) where
   abbrev pub IsGiven : List Act → Ballot → Given → Type 0
   IsGiven acts b g = In (taken_in me acts) (message g.0 (Promise (configuration_id c) b g.1)) × ((k : ℕ) × (position_of c g.0 ≡ Some k))
 
-  -- such promises have brought the coordinator where it is
+  -- such promises have brought the coordinator to its state
   pub record HeardOf (acts : List Act) (b : Ballot) (d : Coordinator) : Type 0 where
     pub start : Coordinator
     pub size : start.size ≡ length c.members
@@ -145,7 +145,7 @@ module _ (c : Configuration) (me : Process) where
         grounds = grounds_more acts o own new b v kept a.grounds;
       }
 
-  -- where nothing is asked for
+  -- if nothing is asked for
   ask_same : (acts : List Act) (o : Option Act) (d e : Coordinator) (own new : Option Cut) → ((b : Ballot) (v : Cut) → body_of o ≡ Some (Accept (configuration_id c) b v) → ⊥) → ((u : Cut) → own ≡ Some u → new ≡ Some u) →
       Reported d e → ((b : Ballot) → e.ballot ≡ Some b → HeardOf (push acts o) b e) → AskKept acts d own → AskKept (push acts o) e new
   ask_same acts o d e own new quiet kept r now k =

@@ -61,7 +61,7 @@ backed {X} f members (r ∷ rs) once there = by (backed f members rs once.1 (λ 
         let w = count_mono (says_it f rs) (says_it f (r ∷ rs)) members (λ x h. or_right _ _ h) in
         omega arith
 
--- ---- and by no more, where the members differ
+-- ---- and by no more, if the members differ
 
 count_or : {A : Type 0} (p q : A → Bool) (xs : List A) → count_by (λ x. p x || q x) xs ≤ count_by p xs + count_by q xs
 count_or p q [] = omega arith
@@ -149,7 +149,7 @@ votes_stay acts o s t fast config me k =
     }
 
 module _ (acts : List Act) (s : MemberState) (from : Process) (p : ℕ) (v : Cut) (known : Known acts s from (FastVote (current_id s) v)) (at : position_of s.config from ≡ Some p) (k : VotesKept acts s) where
-  -- a position that has not voted is nobody's in the list
+  -- a position that has not voted is in no entry of the list
   not_yet : set.contains s.fast.heard p ≡ false → (f : Cut → Bool) → says_it f k.votes from ≡ false
   not_yet new f =
       false_from_ne_true _ (λ e.
@@ -325,7 +325,7 @@ lives_notices c me _ _ _ _ (leaves acts heard s v a l mark) = notices_stay acts 
 
 -- ---- a life that ends with a decision has heard a quorum for it, or a Decision
 
--- evidence stays, where what was taken stays
+-- evidence stays, if what was taken stays
 pub evidence_more : (c : Configuration) (me : Process) (acts more : List Act) (v : Cut) → ((m : Message) → In (taken_in me acts) m → In (taken_in me more) m) → Evidence c me acts v → Evidence c me more v
 evidence_more c me acts more v f (evidence.by_votes q e g) = evidence.by_votes q e (λ p m h. contains_from (taken_in me more) _ (f _ (in_from (taken_in me acts) _ (g p m h))))
 evidence_more c me acts more v f (evidence.by_notices b q e g) = evidence.by_notices b q e (λ p m h. contains_from (taken_in me more) _ (f _ (in_from (taken_in me acts) _ (g p m h))))

@@ -36,7 +36,7 @@ reached_push c (u ∷ us) v = reached_push (apply c u) us v
 abbrev pub Lasts : (World → Configuration → Cut → Type 0) → World → World → Type 0
 Lasts P w v = (c : Configuration) (u : Cut) → P w c u → P v c u
 
--- it holds where a step decides
+-- it holds if a step decides
 abbrev pub Decides : (World → Configuration → Cut → Type 0) → World → World → Type 0
 Decides P w v =
     (m : Moves w v) (s : MemberState) (heard : List Message) (t : MemberState) (u : Cut) → m.peer.node.phase ≡ Member s →

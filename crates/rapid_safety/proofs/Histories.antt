@@ -18,7 +18,7 @@ use Rattle.rapid_safety.proofs.NodeWorks.{Stepped, ticks_step, receive_step, pro
 abbrev pub acts_at : List Entry → Process → Configuration → List Act
 acts_at log p c = map (λ e. e.act) (filter (is_act_in p c) log)
 
--- ---- two configurations are the same exactly where the test says so
+-- ---- two configurations are the same exactly if the test says so
 
 same_members : (xs ys : List Process) → Decides (is_eq (slice_cmp process_cmp xs ys)) (xs ≡ ys)
 same_members xs ys = tie_decides (lists_total processes_total) (slice_cmp-IsAntisymmetric processes_exact) xs ys
@@ -419,7 +419,7 @@ comes_steps w old i _ _ _ s o (by_probe p c k q ok at ob down) member h =
         by true e = refl
         by false e = let wrong : true ≡ false = sym itself ∙ e in cc
 
--- where the node halts, what came was all
+-- if the node halts, what came was all
 abbrev pub HaltsAt : Configuration → Process → List Act → Type 0
 HaltsAt c me acts = (heard : List Message) × (t : MemberState) × Lives c me acts heard t None
 

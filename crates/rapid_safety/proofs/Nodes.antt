@@ -1,4 +1,4 @@
--- Each node shows the stamps of what it installed, in order.
+-- Each node lists the stamps of what it installed, in order.
 use Rattle.std.proofs.Common.{◌≡◌, inl, inr, Bool, true, false, cond, List, [], ◌∷◌, ◌++◌, refl, sym, ap, subst, Option, Some, None, length, ◌+◌, ℕ, ◌∙◌, zero, suc, map, ◌≢◌, append-nil}
 use Rattle.rapid_safety.proofs.Basics.{slice_get, slice_set, nat_lt, filter_map, list_any, cons_option, filter_map-append, map-append, cond_both, false_from_ne_true, or_parts, In, in_left, in_right, same_bytes_decides}
 use Rattle.rapid_safety.proofs.Values.{Process, identifier, same_bytes, is_in, Cut, Configuration, is_member, AreMembers, Stamp, stamp, apply, Message, Confirm}
@@ -14,7 +14,7 @@ use Rattle.rapid_safety.proofs.News.{SaidIn, PacketsSaid, Moves, came_said, come
 use Rattle.rapid_safety.proofs.Steps.{StandsAt, Comes, by_tick, by_packet, by_probe, Steps, stays, starts, notes, stops, moves, ends, log_grows}
 use Rattle.rapid_safety.proofs.Members.{of_map, some_is, Distinct, not_in, founders_differ}
 
--- the acts of the node in a configuration after the step, where it is a member there
+-- the acts of the node in a configuration after the step, if it is a member there
 abbrev pub acts_then : (w v : World) → Moves w v → Configuration → List Act
 acts_then w v m c = acts_at w.log m.peer.node.me c ++ acts_of m.before m.peer.node m.outcome
 
@@ -254,7 +254,8 @@ module _ (Q : World → Node → List Configuration → Type 0) where
       subst (λ (z : Peer). Q (founded c) z.node (installs_in (founded c).log z.node.me)) (sym x.2)
       (subst (Q (founded c) (seed_node c x.0)) (sym (opened_once c c.members x.0 (founders_differ c.members are.identifiers) (get_in c.members i x.0 x.1))) (each x.0))
 
--- ---- each node shows the stamps of what it installed, whose heights rise by one; a member installed its configuration last
+-- ---- each node lists the stamps of what it installed, whose heights rise by one; a member installed its configuration
+-- last
 
 rise_push : (bs : List Stamp) (s t : Stamp) → t.height ≡ s.height + 1 → HeightsRise (bs ++ s ∷ []) → HeightsRise ((bs ++ s ∷ []) ++ t ∷ [])
 rise_push [] s t e h = (e, tt)

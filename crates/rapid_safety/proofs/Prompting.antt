@@ -248,7 +248,7 @@ lives_undecided c me _ _ _ _ (leaves acts heard s v a l mark) e = cc
 
 -- ---- quorums
 
--- where each of some members passes
+-- if each of some members passes
 count_within : {A : Type 0} (p q : A → Bool) (xs : List A) → ((x : A) → In xs x → p x ≡ true → q x ≡ true) → count_by p xs ≤ count_by q xs
 count_within p q [] h = omega arith
 count_within p q (x ∷ xs) h = by (count_within p q xs (λ y i. h y (inr i))) (p x) (q x) refl refl

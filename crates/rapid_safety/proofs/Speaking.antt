@@ -241,7 +241,7 @@ past_single : (log : List Entry) (p : Process) (c : Configuration) → PastLife 
 past_single log p c (was_not none) = λ b. subst (λ xs. count_by (asks_at b) xs ≤ 1) (sym none) (omega arith)
 past_single log p c (was heard s d l) = lives_single c p _ heard s d l
 
--- where all that ask are p, they are acts of p
+-- if all that ask are p, they are acts of p
 all_of_one : (c : Configuration) (b : Ballot) (p : Process) (log : List Entry) → ((e : Entry) → In log e → is_asked_in c b e ≡ true → e.who ≡ p) → count_by (is_asked_in c b) log ≤ count_by (asks_at b) (acts_at log p c)
 all_of_one c b p [] h = omega arith
 all_of_one c b p (e ∷ log) h = by (is_asked_in c b e) refl (is_act_in p c e) refl (count_cons (is_asked_in c b) e log) (all_of_one c b p log (λ x i. h x (inr i)))

@@ -78,7 +78,7 @@ proposals_step w n xs old new p c v h = by (is_here p c n) refl
         let is : acts_at (w.log ++ map (entry n) xs) p c ≡ acts_at w.log p c = acts_elsewhere w.log p c n xs e in
         subst (λ a. CutIn c p a v) (sym is) (old p c v (ap first_cut (sym is) ∙ h))
 
--- where nothing is proposed
+-- if nothing is proposed
 quiet_cut : (w : World) (n : Node) (xs : List Act) → Proposals w → filter_map proposed_by xs ≡ [] → (c : Configuration) (v : Cut) → first_cut (acts_at w.log n.me c ++ xs) ≡ Some v → CutIn c n.me (acts_at w.log n.me c ++ xs) v
 unfolding Proposals
 quiet_cut w n xs old none c v h =

@@ -400,7 +400,7 @@ module _ (Q : World → Process → Configuration → Cut → Type 0) where
           subst (λ p. Leaves w p id u) (ap (λ (y : Entry). y.who) x.by)
           (move_kept w v m k id u (all_say (IsTold m.peer.node m.outcome) m.outcome.effects to (Decision id u) (step_tells m.peer.node m.event m.outcome m.steps) x.effect).0)
 
-  -- what holds where a step installs the next configuration
+  -- what holds if a step installs the next configuration
   abbrev pub Begins : World → World → Type 0
   Begins w v =
       (m : Moves w v) (s : MemberState) (heard : List Rattle.rapid_model.specs.Message.Message) (t : MemberState) (u : Cut) → m.peer.node.phase ≡ Member s →

@@ -39,7 +39,7 @@ mark_body x b h is = cc
 
 -- ---- a cut is proposed once, and a fast vote is for it
 
--- the detector is closed just where there is a proposal
+-- the detector is closed exactly if there is a proposal
 pub batch_open : (t : Observers) (d : Detector) (xs : List Alert) (o : Option Cut) → batch_cut t d xs ≡ o → is_some o ≡ true → d.closed ≡ false
 unfolding batch_cut
 batch_open t d xs o e s = by d.closed refl e
