@@ -15,7 +15,7 @@ never_params : (id : Option Text) → identifier_of id ≡ Err BadParams → ⊥
 never_params None h = cc
 never_params (Some text) h = no_params _ h
 
--- The identifier is refused where all before it is read.
+-- The identifier is refused if all before it is read.
 pub identifier_refused : (params : Params) (listen : Text) (join id : Option Text) (place : List ℕ) (seed : Option (List ℕ)) (fault : OptionsError) →
     AreParams params → local_from listen ≡ Ok place → endpoint_of join ≡ Ok seed → identifier_of id ≡ Err fault → IsRefusal params listen join id fault
 identifier_refused params listen join id place seed BadParams ok l j h = absurd (never_params id h)

@@ -1,4 +1,5 @@
--- The questions of a joiner, which it asks at its ticks 1, 11, 21 and so on, and what is told of those that were in vain.
+-- The questions of a joiner, which it asks at its ticks 1, 11, 21 and so on, and what is reported of those that were in
+-- vain.
 use Rattle.std.specs.Prelude.{ℕ, ◌%◌, ◌/◌, ◌==◌, ◌&&◌, ◌||◌, nat_le, Bool, if◌then◌else◌, Option, Some, None}
 use Rattle.rapid_join.specs.declared.reply.Reply.{Reply}
 use Rattle.rapid_join.specs.declared.reply.Reply.TheVariants as reply
@@ -19,16 +20,16 @@ answer_of reply.TooManyJoiners = TooMany
 abbrev pub asks_at : ℕ → Bool
 asks_at tick = tick % 10 == 1
 
--- Of questions in vain the first is told, and each tenth.
+-- Of questions in vain the first is reported, and each tenth.
 abbrev pub is_told : ℕ → Bool
 is_told question = (question == 1) || (nat_le 1 question && (question % 10 == 0))
 
--- What is told at this tick of a joiner without a view that asks this seed, if anything is, where this was answered to its last question:
--- when the next question is asked, the one before was in vain.
+-- What is reported at this tick of a joiner without a view that asks this seed, if anything is; the reply is that to
+-- its last question. When the next question is asked, the one before was in vain.
 abbrev pub note_at : Endpoint → ℕ → Answer → Option Note
 note_at seed tick answer =
     if asks_at tick && is_told (tick / 10) then Some (note.InVain (record { question = tick / 10; seed = seed; answer = answer })) else None
 
--- What was answered to the last question after this tick: nothing where one is asked at it.
+-- The reply to the last question after this tick: none if one is asked at it.
 abbrev pub answer_at : ℕ → Answer → Answer
 answer_at tick answer = if asks_at tick then Nothing else answer

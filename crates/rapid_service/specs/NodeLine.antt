@@ -29,7 +29,7 @@ abbrev pub asked_command : Option Command → Asked
 asked_command None = Unknown
 asked_command (Some c) = Taken c
 
--- What the words of a line ask for: nothing that is known where the line is bad, and nothing where it is passed over.
+-- What the words of a line ask for: an unknown command if the line is bad, and nothing if it is skipped.
 abbrev pub asked_words : Option (List Word) → Asked
 asked_words None = Unknown
 asked_words (Some []) = Nothing

@@ -9,31 +9,31 @@ use Rattle.rapid_transport.specs.Local.{is_local}
 use Rattle.rapid_service.specs.declared.options.OptionsError.{OptionsError}
 use Rattle.rapid_service.specs.declared.options.OptionsError.TheVariants.{BadParams, Unreadable, NotLocal}
 
--- Such an endpoint, where this is one.
+-- A local endpoint, if this is one.
 abbrev pub when_local : Result Endpoint ParseError → Result Endpoint OptionsError
 when_local (Ok e) = if is_local e then Ok e else Err NotLocal
 when_local (Err fault) = Err (Unreadable fault)
 
--- What a text is read as where it is to be such an endpoint.
+-- The local endpoint that a text spells, or why there is none.
 abbrev pub local_from : Text → Result Endpoint OptionsError
 local_from text = when_local (endpoint_from text)
 
--- What was read, where something was.
+-- What was read, if something was.
 abbrev pub readable : {X : Type 0} → Result X ParseError → Result (Option X) OptionsError
 readable (Ok x) = Ok (Some x)
 readable (Err fault) = Err (Unreadable fault)
 
--- What a text is read as where it is to be an identifier, if there is one.
+-- The identifier that the text spells, or why there is none; none if there is no text.
 abbrev pub identifier_of : Option Text → Result (Option Identifier) OptionsError
 identifier_of None = Ok None
 identifier_of (Some text) = readable (identifier_from text)
 
--- An endpoint, where there is one.
+-- An endpoint, if there is one.
 abbrev pub perhaps : {X : Type 0} → Result X OptionsError → Result (Option X) OptionsError
 perhaps (Ok x) = Ok (Some x)
 perhaps (Err fault) = Err fault
 
--- What a text is read as where it is to be an endpoint at which a node can be, if there is one.
+-- The local endpoint that the text spells, or why there is none; none if there is no text.
 abbrev pub endpoint_of : Option Text → Result (Option Endpoint) OptionsError
 endpoint_of None = Ok None
 endpoint_of (Some text) = perhaps (local_from text)

@@ -6,8 +6,8 @@ use Rattle.rapid_model.specs.Configuration.{Configuration}
 use Rattle.rapid_service.specs.Repeating.{Passed, HoldsOf}
 use Rattle.rapid_service.specs.declared.repeats.Repeats.{Repeats}
 
--- In this configuration, which was entered so many ticks ago, these messages were let through. All that is kept is of these, and it
--- is at most a batch and a fast vote of each member, and 4,096 messages of others.
+-- In this configuration, which was entered this many ticks ago, these messages were let through. All that is kept is of
+-- these, and it is at most a batch and a fast vote of each member, and 4,096 messages of others.
 pub record Remembers (r : Repeats) (c : Configuration) (now : ℕ) (passed : List Passed) : Type 0 where
   pub configuration : r.configuration ≡ c
   pub ticks : r.ticks ≡ now

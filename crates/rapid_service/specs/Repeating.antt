@@ -10,7 +10,7 @@ pub record Passed : Type 0 where
   pub message : Message
   pub ticks : ℕ
 
--- Within so many ticks a joiner's question is a repeat.
+-- Within this many ticks a joiner's question is a repeat.
 abbrev pub question_ticks : ℕ
 question_ticks = 10
 
@@ -22,8 +22,9 @@ WasPassed passed m = (t : ℕ) × Contains passed (record { message = m; ticks =
 abbrev pub WasPassedWithin : ℕ → ℕ → List Passed → Message → Type 0
 WasPassedWithin within now passed m = (t : ℕ) × Contains passed (record { message = m; ticks = t }) × (now < t + within)
 
--- In this configuration a message that says this is a repeat, where these were let through since it was entered and there were so many ticks:
--- a fast vote, a batch and a request for this configuration that were let through before, and a question that was within ten ticks.
+-- In this configuration a message with this body is a repeat. These messages were let through since it was entered, and
+-- this many ticks have passed. A fast vote, a batch and a request for this configuration are repeats if they were let
+-- through before, and a question if it was within ten ticks.
 abbrev pub IsRepeatIn : ConfigurationId → ℕ → List Passed → Message → Body → Type 0
 IsRepeatIn here now passed m (Batch id xs) = (id ≡ here) × WasPassed passed m
 IsRepeatIn here now passed m (FastVote id v) = (id ≡ here) × WasPassed passed m
@@ -67,7 +68,7 @@ IsSought here (Confirm c) = ⊥
 IsSought here (Probe id) = ⊥
 IsSought here (ProbeAck id) = ⊥
 
--- Where it asks to join, it is within so many ticks.
+-- If it asks to join, it is within this many ticks.
 abbrev pub IsTimely : Body → ℕ → ℕ → Type 0
 IsTimely PreJoin before now = now < before + question_ticks
 IsTimely (Batch id xs) before now = Unit {0}

@@ -7,7 +7,7 @@ use Rattle.rapid_desk.specs.declared.error.DeskError.TheVariants as desk
 use Rattle.rapid_service.specs.declared.fault.NodeFault.{NodeFault}
 use Rattle.rapid_service.specs.declared.fault.NodeFault.TheVariants.{Read, Write, NoPort, NoIdentifier, OutOfMemory, JournalFull, Halted}
 
--- The status that a node ends with: 1 where its input, output or port failed, 3 where the service cannot go on.
+-- The status that a node ends with: 1 if its input, output or port failed, 3 if the service cannot go on.
 abbrev pub status_of : NodeFault → ℕ
 status_of Read = 1
 status_of Write = 1

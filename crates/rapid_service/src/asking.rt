@@ -8,14 +8,14 @@ use crate::note::{Answer, InVain, Note};
 use rapid_endpoint::Endpoint;
 use rapid_join::Reply;
 
-/// How many ticks lie between two questions, and how many questions between two that are told.
+/// How many ticks lie between two questions, and how many questions between two that are reported.
 const TICKS_PER_QUESTION: u64 = 10;
 
 const QUESTIONS_PER_NOTE: u64 = 10;
 
 /// The questions of a joiner, which asks its seed at its ticks 1, 11, 21 and so on until it has a
-/// view. A question is in vain if the next one is asked. The first that was in vain is told, and
-/// each tenth.
+/// view. A question is in vain if the next one is asked. The first that was in vain is reported,
+/// and each tenth.
 #[derive(Debug, Drop)]
 pub(crate) struct Asking {
     seed: Endpoint,
@@ -24,7 +24,7 @@ pub(crate) struct Asking {
     answer: Answer,
 }
 
-/// Whether a question is told that was in vain, by its number.
+/// Whether a question that was in vain is reported, by its number.
 fn is_told(question: u64) -> bool
     ensures { result ≡ is_told question }
 {
@@ -50,8 +50,8 @@ impl Asking {
         self.answer = Answer::of(reply);
     }
 
-    /// A tick more, at which it has no view. What is to be told of the question before, if anything
-    /// is.
+    /// A tick more, at which it has no view. The answer is what to report of the question before,
+    /// if anything.
     pub(crate) fn tick(&mut self) -> Option<Note>
         ensures note { self.old.ticks + 1 < 2 ^ 64 → result ≡ note_at self.old.seed (self.old.ticks + 1) self.old.answer }
         ensures answer { self.old.ticks + 1 < 2 ^ 64 → self.new.answer ≡ answer_at (self.old.ticks + 1) self.old.answer }

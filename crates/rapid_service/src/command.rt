@@ -14,22 +14,22 @@ const MOST_TICKS: u64 = 1_000;
 /// What a command asks for.
 #[derive(Clone, Copy, Debug)]
 pub enum Command {
-    /// So many ticks, from 1 to 1,000.
+    /// A number of ticks, from 1 to 1,000.
     Ticks(u64),
-    /// The present view.
+    /// The current view.
     View,
     /// The observed edges.
     Edges,
-    /// That the node ends.
+    /// The node is to end.
     Quit,
 }
 
 /// What a line asks for.
 #[derive(Clone, Copy, Debug)]
 pub enum Asked {
-    /// Nothing: it is passed over.
+    /// Nothing: the line is skipped.
     Nothing,
-    /// Nothing that is known.
+    /// An unknown command.
     Unknown,
     /// A command.
     Taken(Command),
@@ -45,7 +45,7 @@ fn number_from_1(word: &[u8], limit: u64) -> Option<u64>
     }
 }
 
-/// How many ticks the words of a line ask for: one where there are none.
+/// How many ticks the words of a line ask for: one if there are no words.
 fn count(line: &[u8]) -> Option<u64>
     ensures { result ≡ count_in (words line.now) }
 {
@@ -62,7 +62,7 @@ fn ticks(line: &[u8]) -> Option<Command>
     Some(Command::Ticks(count(line)?))
 }
 
-/// A command, where no words follow its name.
+/// A command, if no words follow its name.
 fn alone(command: Command, line: &[u8]) -> Option<Command>
     ensures { result ≡ alone command (words line.now) }
 {

@@ -9,7 +9,7 @@ use std::io::Write;
 use std::mem;
 use std::sync::{Condvar, Mutex, Wait};
 
-/// How many bytes wait to be printed at most, where the output takes none.
+/// How many bytes wait to be printed at most, if the output takes none.
 const MOST_WAITING: usize = 1_048_576;
 
 /// The lines that are to be printed. Many threads add lines, each of them whole, and one prints
@@ -36,7 +36,7 @@ fn has_room(waiting: usize, added: usize) -> bool
 }
 
 impl Pending {
-    /// Adds lines, if so many may wait.
+    /// Adds lines, if there is room for them.
     fn add(&mut self, lines: &[u8]) -> Result<(), NodeFault>
         ensures waits { OnOk result ((self.new.lines.items ≡ self.old.lines.items ++ lines.now) × (length self.new.lines.items ≤ 1048576)) }
         ensures refused { IfErr result (λ e. ((e ≡ CannotWrite) × (1048576 < length self.old.lines.items + length lines.now)) ⊎ (e ≡ OutOfMemory)) }
@@ -94,7 +94,7 @@ impl Console {
         self.changed.notify_all();
     }
 
-    /// Waits for lines, and takes them; none where no more come.
+    /// Waits for lines, and takes them; none if no more come.
     fn next<R: Wait>(&self, rt: &R) -> Option<Vec<u8>> {
         let pending = self.pending.lock(rt);
         let mut pending = self.changed.wait_while(rt, pending, |pending| {

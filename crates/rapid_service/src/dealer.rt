@@ -13,17 +13,17 @@ pub struct Dealer {
     changed: Condvar,
 }
 
-/// How far a round is.
+/// The state of a round.
 #[derive(Drop)]
 struct Dealt {
-    /// The next part that is to be made; the number of parts where all were dealt.
+    /// The next part that is to be made; the number of parts if all were dealt.
     next: usize,
     /// How many parts are not made yet.
     left: usize,
 }
 
 impl Dealt {
-    /// The next of so many parts, if there is one.
+    /// The next part of this many, if there is one.
     fn take(&mut self, parts: usize) -> Option<usize>
         ensures next { IfSome result (λ part. (part ≡ self.old.next) × (part < parts) × (self.new.next ≡ part + 1)) }
         ensures none { IfNone result ((parts ≤ self.old.next) × (self.new.next ≡ self.old.next)) }
@@ -39,7 +39,7 @@ impl Dealt {
 }
 
 impl Dealer {
-    /// Deals so many parts a round. No round was begun.
+    /// Deals `parts` parts a round. No round was begun.
     pub fn new(parts: usize) -> Dealer {
         Dealer {
             parts,
@@ -63,7 +63,7 @@ impl Dealer {
         self.changed.notify_all();
     }
 
-    /// The next part of the round, which the caller makes; none where all were dealt.
+    /// The next part of the round, which the caller makes; none if all were dealt.
     pub fn take<W: Wait>(&self, rt: &W) -> Option<usize> {
         let mut state = self.state.lock(rt);
         state.take(self.parts)
@@ -84,7 +84,7 @@ impl Dealer {
         drop(state);
     }
 
-    /// Waits for so long, or until there is a part to be made.
+    /// Waits until there is a part to be made, at most this long.
     pub fn wait<W: Wait + Clock>(&self, rt: &W, longest: Duration) {
         let parts = self.parts;
         let state = self.state.lock(rt);

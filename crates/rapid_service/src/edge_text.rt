@@ -7,7 +7,7 @@ use crate::view_text::{write_endpoint, write_number};
 use rapid_endpoint::Endpoint;
 use std::alloc::AllocError;
 
-/// The line that `edges` prints where nobody is observed.
+/// The line that `edges` prints if no process is observed.
 pub const NO_EDGES: &[u8] = b"edges none\n";
 
 /// An observed edge.
@@ -15,7 +15,7 @@ pub const NO_EDGES: &[u8] = b"edges none\n";
 pub struct EdgeState {
     /// The ring, from 0.
     pub ring: u8,
-    /// Where the member is that is observed on the ring.
+    /// The endpoint of the member that is observed on the ring.
     pub endpoint: Endpoint,
     /// Whether the edge is down.
     pub is_down: bool,

@@ -48,7 +48,7 @@ impl Ending {
         }
     }
 
-    /// Waits for so long, or until the node ends; whether it ends.
+    /// Waits until the node ends, at most this long; the answer is whether it ends.
     pub fn wait<R: Wait + Clock>(&self, rt: &R, duration: Duration) -> bool {
         let state = self.state.lock(rt);
         let (state, _) = self

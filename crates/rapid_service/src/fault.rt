@@ -1,4 +1,4 @@
-// Why a node ends before it is told to.
+// The fault by which a node ends.
 
 ghost use Rattle.std.specs.Prelude.{◌≡◌};
 ghost use Rattle.rapid_service.specs.declared.fault.NodeFault.TheVariants.{OutOfMemory};
@@ -9,7 +9,7 @@ use rapid_node::NodeFault as StepFault;
 use std::alloc::{AllocError, AllocFailed};
 use thiserror::Error;
 
-/// Why a node ends before it is told to.
+/// The fault by which a node ends.
 #[derive(Clone, Copy, Debug, PartialEq, Eq, Error)]
 pub enum NodeFault {
     /// The lines could not be read.
@@ -18,13 +18,13 @@ pub enum NodeFault {
     /// What is printed could not be written.
     #[error("the output could not be written")]
     Write,
-    /// The port was not to be had.
+    /// The port could not be bound.
     #[error("the port is not to be had")]
     NoPort,
     /// No identifier could be drawn.
     #[error("no identifier could be drawn")]
     NoIdentifier,
-    /// There is no memory left, or no thread was to be had.
+    /// There is no memory left, or a thread could not be started.
     #[error("out of memory")]
     OutOfMemory,
     /// The journal of the desk is full.

@@ -7,8 +7,8 @@ use rapid_endpoint::ProcessId;
 use std::random::RandomSource;
 use uuid::Uuid;
 
-/// The identifier that was given, and else one that is drawn from the source: a version 4 UUID.
-/// `NoIdentifier` where the source failed.
+/// The identifier that was given, or else one that is drawn from the source: a version 4 UUID.
+/// `NoIdentifier` if the source failed.
 pub fn identify<S: RandomSource>(
     given: Option<ProcessId>,
     source: &S,

@@ -6,16 +6,16 @@ ghost use Rattle.rapid_desk.specs.Desks.{NoCheckpoint};
 use rapid_desk::{Desk, DeskError};
 use std::sync::Wait;
 
-/// From how many records on a journal is begun anew: half of those that it may have.
+/// A journal with this many records is begun anew: half of what it has room for.
 const LONG: usize = 32_768;
 
-/// Sees that the journal of a desk has fewer than 32,768 records: if it has more, it is begun anew
-/// at the node as it is. A desk of which this is asked before each step refuses an event as
-/// `JournalFull` only if there was no memory for that again and again.
+/// Keeps the journal of a desk below 32,768 records: if it has that many, it is begun anew at the
+/// node as it is. If this is called before each step, the desk refuses an event as `JournalFull`
+/// only if it was out of memory for this again and again.
 ///
 /// # Errors
 ///
-/// Those of `Desk::checkpoint`, which change nothing: it may be asked again.
+/// Those of `Desk::checkpoint`, which change nothing: the call may be repeated.
 pub(crate) fn shorten<R: Wait + Copy + Drop>(desk: &mut Desk<R>) -> Result<(), DeskError>
     ensures short { OnOk result (length desk.new.state.journal < 32768) }
     ensures node { desk.new.state.node ≡ desk.old.state.node }

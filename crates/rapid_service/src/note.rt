@@ -1,4 +1,4 @@
-// What a node says while it goes on, beside its views.
+// What a node reports while it goes on, beside its views.
 
 ghost use Rattle.std.specs.Prelude.{◌≡◌, ◌⊎◌, ◌≤◌, ◌++◌, [], ◌∷◌, vec_len};
 ghost use Rattle.rapid_service.specs.Asking.{answer_of};
@@ -11,18 +11,18 @@ use std::{fmt, mem};
 /// How many notes wait at most.
 const MOST_NOTES: usize = 64;
 
-/// What a joiner was answered.
+/// The reply to a question of a joiner.
 #[derive(Clone, Copy, Debug, PartialEq, Eq)]
 pub enum Answer {
-    /// Nothing.
+    /// No reply.
     Nothing,
-    /// That it may join: it asks its observers to let it in.
+    /// It may join: it asks its observers to let it in.
     Safe,
-    /// That a member has its identifier or its endpoint.
+    /// A member has its identifier or its endpoint.
     InUse,
-    /// That the configuration in which it asked was left.
+    /// The configuration in which it asked was left.
     Changed,
-    /// That too many others want to join.
+    /// Too many others want to join.
     TooMany,
 }
 
@@ -63,12 +63,12 @@ pub struct InVain {
     pub answer: Answer,
 }
 
-/// What a node says while it goes on, beside its views.
+/// What a node reports while it goes on, beside its views.
 #[derive(Clone, Copy, Debug, PartialEq, Eq)]
 pub enum Note {
-    /// That it asked in vain to be let in.
+    /// It asked in vain to be let in.
     InVain(InVain),
-    /// That it is no member from this height on.
+    /// It is no member from this height on.
     Removed(u64),
 }
 
@@ -94,7 +94,7 @@ impl fmt::Display for Note {
     }
 }
 
-/// The notes that wait to be told, at most 64.
+/// The notes that wait to be reported, at most 64.
 #[derive(Drop)]
 pub(crate) struct Notes {
     alloc: Global,
@@ -103,7 +103,7 @@ pub(crate) struct Notes {
 }
 
 impl Notes {
-    /// Nothing is to be told.
+    /// Nothing is to be reported.
     pub(crate) fn new(alloc: Global) -> Notes
         ensures { result.waiting.items ≡ [] }
     {

@@ -9,41 +9,41 @@ use rapid_endpoint::{Endpoint, ParseError, ProcessId};
 use rapid_transport::is_local;
 use thiserror::Error;
 
-/// The words of `node` that stand behind its options. The numbers are in their ranges.
+/// The values of the options of `node`. The numbers are in their ranges.
 #[derive(Clone, Copy, Debug)]
 pub struct NodeWords<'a> {
-    /// Behind `--listen`.
+    /// The value of `--listen`.
     pub listen: &'a str,
-    /// Behind `--id`.
+    /// The value of `--id`.
     pub id: Option<&'a str>,
-    /// Behind `--join`.
+    /// The value of `--join`.
     pub join: Option<&'a str>,
     /// The number of rings.
     pub k: u8,
-    /// From so many reports on a process is stable.
+    /// With at least this many reports a process is stable.
     pub h: u8,
-    /// From so many reports on it is unstable.
+    /// With at least this many reports, and fewer than `h`, it is unstable.
     pub l: u8,
     /// How many milliseconds lie between two ticks; no ticker runs at 0.
     pub tick_ms: u16,
-    /// In how many threads those that are observed are probed, 1 to 16.
+    /// How many threads probe the observed members, 1 to 16.
     pub probers: u8,
 }
 
 /// What the words of `node` ask for.
 #[derive(Clone, Copy, Debug)]
 pub struct NodeOptions {
-    /// Where the node is.
+    /// The endpoint of the node.
     pub listen: Endpoint,
-    /// Its identifier; one is drawn where there is none.
+    /// Its identifier; one is drawn if there is none.
     pub id: Option<ProcessId>,
-    /// Where the seed is by which it joins; it founds a cluster where there is none.
+    /// The endpoint of the seed by which it joins; it founds a cluster if there is none.
     pub join: Option<Endpoint>,
     /// K, H and L of a cluster that it founds.
     pub params: Params,
     /// How many milliseconds lie between two ticks; no ticker runs at 0.
     pub tick_ms: u16,
-    /// In how many threads those that are observed are probed, 1 to 16.
+    /// How many threads probe the observed members, 1 to 16.
     pub probers: u8,
 }
 
@@ -61,7 +61,7 @@ pub enum OptionsError {
     NotLocal,
 }
 
-/// The endpoint that a text spells, where a node can be at it.
+/// The endpoint that a text spells, if a node can be at it.
 fn local_endpoint(text: &str) -> Result<Endpoint, OptionsError>
     ensures { result ≡ local_from text.now }
 {
@@ -72,7 +72,7 @@ fn local_endpoint(text: &str) -> Result<Endpoint, OptionsError>
     }
 }
 
-/// The endpoint that a text spells, if there is one, where a node can be at it.
+/// The endpoint that a text spells, if there is a text and a node can be at the endpoint.
 fn seed(text: Option<&str>) -> Result<Option<Endpoint>, OptionsError>
     ensures { result ≡ endpoint_of (option_map (λ t. t.now) text.entry) }
 {
@@ -102,7 +102,7 @@ fn identifier(text: Option<&str>) -> Result<Option<ProcessId>, OptionsError>
 ///
 /// # Errors
 ///
-/// `BadParams` where K, H and L are not in order, else `Unreadable` and `NotLocal` of the endpoint
+/// `BadParams` if K, H and L are not in order, else `Unreadable` or `NotLocal` of the endpoint
 /// behind `--listen`, else of that behind `--join`, else `Unreadable` of the identifier.
 pub fn judge(words: NodeWords) -> Result<NodeOptions, OptionsError>
     ensures texts { IfOk result (λ o. AreRead words.entry.listen.now (option_map (λ t. t.now) words.entry.join) (option_map (λ t. t.now) words.entry.id) o.listen o.join o.id) }

@@ -17,9 +17,9 @@ pub(crate) const MOST_RINGS: usize = 16;
 pub struct PartRound {
     /// The configuration in which it was made.
     pub id: ConfigId,
-    /// Who is to be probed.
+    /// The members that are to be probed.
     pub probes: [Option<Process>; MOST_RINGS],
-    /// To whom an edge went down.
+    /// The members to which an edge went down.
     pub downs: [Option<Process>; MOST_RINGS],
 }
 

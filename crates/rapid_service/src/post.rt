@@ -1,4 +1,4 @@
-// Where the frames of a node go.
+// How the frames of a node leave it.
 
 use bytes::Bytes;
 use rapid_endpoint::Endpoint;
@@ -6,7 +6,7 @@ use std::sync::Wait;
 
 /// What takes the frames that a node sends.
 pub trait Post {
-    /// Hands a frame on to this endpoint. It does not wait until it is sent, and a frame for which
+    /// Sends a frame to this endpoint. It does not wait until it is sent, and a frame for which
     /// there is no room is lost.
     fn post<W: Wait>(&mut self, rt: &W, to: Endpoint, frame: Bytes);
 }

@@ -5,7 +5,7 @@ use crate::shared::Shared;
 use std::sync::Wait;
 use std::time::{Clock, Duration};
 
-/// How long is waited for a round before it is looked whether the node ends, in milliseconds.
+/// How long to wait for a round before looking whether the node ends, in milliseconds.
 const BETWEEN_LOOKS: u64 = 100;
 
 /// Makes parts of each round of probes beside who begins it, until the node ends.

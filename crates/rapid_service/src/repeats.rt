@@ -59,8 +59,8 @@ fn find<'a>(table: &'a Table, key: &(Process, Kind)) -> Option<&'a Kept>
     table.get(key)
 }
 
-/// Keeps a message in place of the last of its sender and kind. Where there is no room for another
-/// it is not kept.
+/// Keeps a message in place of the last of its sender and kind. If there is no room for another it
+/// is not kept.
 fn keep(table: &mut Table, most: usize, key: (Process, Kind), kept: Kept)
     ensures holds { (passed : List Passed) → HoldsOf passed table.old → Contains passed kept → HoldsOf passed table.new }
     ensures few { btree_map_len table.old ≤ most → btree_map_len table.new ≤ most }
@@ -70,10 +70,10 @@ fn keep(table: &mut Table, most: usize, key: (Process, Kind), kept: Kept)
     }
 }
 
-/// Which messages of a configuration change nothing, since an equal one was let through before: a
-/// batch and a fast vote of a member, a joiner's request, and for ten ticks a joiner's question
-/// whether it may join. It keeps the last message of each member and kind, and up to 4,096 of
-/// others, and is made anew at each view.
+/// Finds the messages of a configuration that change nothing, since an equal one was let through
+/// before. These are a batch and a fast vote of a member, a joiner's request, and for ten ticks a
+/// joiner's question whether it may join. It keeps the last message of each member and kind, and up
+/// to 4,096 of others. A new one is made at each view.
 #[derive(Drop)]
 pub struct Repeats {
     alloc: Global,
@@ -83,8 +83,8 @@ pub struct Repeats {
     others: Table,
 }
 
-/// Lets a message through, unless it is a repeat of the one that is kept; then it is the one that
-/// is kept, if there is memory and room for it.
+/// Lets a message through, unless it is a repeat of the one that is kept. From then on it is the
+/// one that is kept, if there is memory and room for it.
 fn passes(
     alloc: Global,
     table: &mut Table,
@@ -139,9 +139,9 @@ impl Repeats {
         self.ticks = self.ticks.saturating_add(1);
     }
 
-    /// Whether a message is let through. What is not is equal to one that was since the view was
-    /// entered, and a question whether the sender may join to one within ten ticks. Where there is
-    /// no memory or no room to keep a message it is let through.
+    /// Whether a message is let through. One that is not let through is equal to one that was since
+    /// the view was entered; for a question whether the sender may join, to one within ten ticks.
+    /// If there is no memory or no room to keep a message, it is let through.
     pub fn admits(&mut self, message: &Message) -> bool
         ensures dropped { (c : ModelConfiguration) (now : ℕ) (passed : List Passed) → Remembers self.old c now passed → result ≡ false → IsRepeat (configuration_id c) now passed message.now }
         ensures kept { (c : ModelConfiguration) (now : ℕ) (passed : List Passed) → Remembers self.old c now passed → Remembers self.new c now (passed_after result message.now now passed) }

@@ -1,4 +1,4 @@
-// What messages say of which a repeat changes nothing.
+// The messages of which a repeat changes nothing.
 
 ghost use Rattle.std.specs.Prelude.{◌≡◌, true, IsSome};
 ghost use Rattle.rapid_message.specs.Bodies.{body_of};
@@ -18,15 +18,15 @@ pub(crate) enum Kind {
     Batch,
     /// A member's fast vote.
     Vote,
-    /// That a process wants to join.
+    /// A process asks whether it may join.
     Question,
-    /// That a process wants to be let in on this ring.
+    /// A process asks to be let in, on this ring.
     Request(u8),
 }
 
 impl Kind {
-    /// The kind of a message that says this, in the configuration with this identifier; none where
-    /// no repeat of it is looked for.
+    /// The kind of a message with this body, in the configuration with this identifier; none if its
+    /// repeats are not looked for.
     pub(crate) fn of(body: &Body, here: ConfigId) -> Option<Kind>
         ensures { IsSome result → IsSought here (body_of body.now) }
     {

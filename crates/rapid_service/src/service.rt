@@ -29,8 +29,8 @@ use std::sync::Wait;
 /// How many changes of the view wait for the service: it takes each at once.
 const CHANGES: usize = 4;
 
-/// A node at its desk, with the probes of those whom it observes in its present view. It is kept
-/// under a lock, and whoever holds it hands it ticks and messages.
+/// A node at its desk, with the probes of those whom it observes in its current view. It is kept
+/// under a lock, and whoever holds the lock gives it ticks and messages.
 #[derive(Drop)]
 pub struct Service<R: Wait + Copy + Drop, P: Post + Drop> {
     rt: R,
@@ -38,7 +38,7 @@ pub struct Service<R: Wait + Copy + Drop, P: Post + Drop> {
     me: Process,
     desk: Desk<R>,
     changes: Subscription,
-    /// What it asks while it has no view.
+    /// Its questions while it has no view.
     asking: Option<Asking>,
     present: Option<Present>,
     seat: Option<ViewSeat>,
@@ -49,8 +49,8 @@ pub struct Service<R: Wait + Copy + Drop, P: Post + Drop> {
     post: P,
 }
 
-/// The present view, what is done about those who are observed in it, and which messages repeat
-/// others that came since it was entered.
+/// The current view, the probes of the members that are observed in it, and the filter of messages
+/// that repeat others since it was entered.
 #[derive(Drop)]
 struct Present {
     view: View,
@@ -71,7 +71,7 @@ fn frame_of(alloc: Global, message: &Message) -> Result<Bytes, AllocError> {
     Ok(Bytes::from_vec(encode(alloc, message)?)?)
 }
 
-/// Hands a frame on to each member but one.
+/// Sends a frame to each member but one.
 fn broadcast<R: Wait, P: Post>(
     rt: &R,
     post: &mut P,
@@ -87,7 +87,7 @@ fn broadcast<R: Wait, P: Post>(
     Ok(())
 }
 
-/// Hands the frame of a probe on to each of these.
+/// Sends the frame of a probe to each of these.
 fn probe_all<R: Wait, P: Post>(
     rt: &R,
     post: &mut P,
@@ -143,7 +143,7 @@ impl<R: Wait + Copy + Drop, P: Post + Drop> Service<R, P> {
         if !configuration.is_member(&me) {
             return Err(NodeFault::Halted);
         }
-        // A first view is not published only where there is no memory for that.
+        // The only reason why a first view is not published is that there is no memory for it.
         let Ok(desk) = Desk::seed(rt, alloc, &configuration, me, 1) else {
             return Err(NodeFault::OutOfMemory);
         };
@@ -174,7 +174,7 @@ impl<R: Wait + Copy + Drop, P: Post + Drop> Service<R, P> {
         Ok(self.rounds.tick())
     }
 
-    /// The parts of the probes in the present view, as many as are asked for: once for each view,
+    /// The parts of the probes in the current view, as many as are asked for: once for each view,
     /// after it was entered.
     pub fn take_parts(&mut self, parts: u8) -> Result<Option<Vec<Part>>, NodeFault> {
         match &mut self.present {
@@ -183,7 +183,7 @@ impl<R: Wait + Copy + Drop, P: Post + Drop> Service<R, P> {
         }
     }
 
-    /// A round of a part was made: its edges that went down are handed to the node, and its probes
+    /// A round of a part was made: its edges that went down are given to the node, and its probes
     /// go out.
     pub fn hand_on(&mut self, round: &PartRound) -> Result<(), NodeFault> {
         self.hand_down(round.id, &round.downs)?;
@@ -200,7 +200,7 @@ impl<R: Wait + Copy + Drop, P: Post + Drop> Service<R, P> {
         }
     }
 
-    /// A message has come. It is dropped if it repeats one that came before in the present view and
+    /// A message has come. It is dropped if it repeats one that came before in the current view and
     /// changes nothing: a step would only take room in the journal of the desk.
     pub fn receive(&mut self, message: Message) -> Result<(), NodeFault> {
         if let Body::Reply(joiner, reply) = message.body() {
@@ -212,7 +212,7 @@ impl<R: Wait + Copy + Drop, P: Post + Drop> Service<R, P> {
         self.step(Event::Receive(message))
     }
 
-    /// Whether a message is handed to the desk: before the first view each is.
+    /// Whether a message is given to the desk: before the first view each is.
     fn admits(&mut self, message: &Message) -> bool {
         match &mut self.present {
             Some(present) => present.repeats.admits(message),
@@ -220,14 +220,14 @@ impl<R: Wait + Copy + Drop, P: Post + Drop> Service<R, P> {
         }
     }
 
-    /// A tick was made in the present view.
+    /// A tick was made in the current view.
     fn count_tick(&mut self) {
         if let Some(present) = &mut self.present {
             present.repeats.tick();
         }
     }
 
-    /// A tick was made at which the node may have asked to be let in: what is to be told of its
+    /// A tick was made at which the node may have asked to be let in: what is to be reported of its
     /// questions is noted.
     fn note_question(&mut self) {
         if let Some(asking) = &mut self.asking
@@ -256,7 +256,7 @@ impl<R: Wait + Copy + Drop, P: Post + Drop> Service<R, P> {
         mem::replace(&mut self.lines, Vec::new(self.alloc))
     }
 
-    /// What is to be told since this was last asked, from the oldest on: at most 64 notes wait.
+    /// What is to be reported since this was last asked, from the oldest on: at most 64 notes wait.
     pub fn take_notes(&mut self) -> Vec<Note> {
         self.notes.take()
     }
@@ -269,14 +269,16 @@ impl<R: Wait + Copy + Drop, P: Post + Drop> Service<R, P> {
     /// One event at the desk: what is sent goes out, and a new view is entered.
     fn step(&mut self, event: Event) -> Result<(), NodeFault> {
         let sent = self.at_desk(event)?;
+        // before a new view is entered: the other members are those of the view of the step
         for output in sent.as_slice() {
             self.send(output)?;
         }
         self.follow()
     }
 
-    /// One event at the desk, whose journal is begun anew before if it is long. If the desk does not
-    /// go on its subscribers are told: they get what was put for them, and then that it is closed.
+    /// One event at the desk, whose journal is begun anew before if it is long. If the desk does
+    /// not go on, its subscribers learn it: they get what was put for them, and then that it is
+    /// closed.
     fn at_desk(&mut self, event: Event) -> Result<Outputs, NodeFault> {
         // a journal for which there is no memory now grows on, and the next step tries again
         let _ = shorten(&mut self.desk);
@@ -289,7 +291,7 @@ impl<R: Wait + Copy + Drop, P: Post + Drop> Service<R, P> {
         }
     }
 
-    /// Sends a message to where it goes: the other members are those of the view before the step.
+    /// Sends a message to its recipients: the other members are those of the view before the step.
     fn send(&mut self, output: &Output) -> Result<(), AllocError> {
         let frame = frame_of(self.alloc, output.message())?;
         match output.to() {
@@ -320,11 +322,13 @@ impl<R: Wait + Copy + Drop, P: Post + Drop> Service<R, P> {
         match self.changes.take(&self.rt) {
             Taken::Change(view) => self.enter(view),
             Taken::Empty => Ok(()),
+            // each change is taken at once, so the queue is never full: a lost one found no memory
             Taken::Lagged | Taken::Closed => Err(NodeFault::OutOfMemory),
         }
     }
 
-    /// Enters a view: its line is shown, and probes begin anew. A view without the node is its last.
+    /// Enters a view: its line is printed, and probes begin anew. A view without the node is its
+    /// last.
     fn enter(&mut self, view: View) -> Result<(), NodeFault> {
         write_view(view.configuration(), &mut self.lines)?;
         let watch = self.watch(view.configuration())?;
@@ -345,8 +349,8 @@ impl<R: Wait + Copy + Drop, P: Post + Drop> Service<R, P> {
         Ok(())
     }
 
-    /// What is done about those who are observed in a view. The rings are made of those of the view
-    /// before: keys are computed of newcomers only.
+    /// The probes of the members that are observed in a view. The rings are made of those of the
+    /// view before: keys are computed of newcomers only.
     fn watch(&self, configuration: &Configuration) -> Result<Watch, AllocError> {
         match &self.present {
             Some(present) => present.watch.next(configuration),
@@ -354,7 +358,7 @@ impl<R: Wait + Copy + Drop, P: Post + Drop> Service<R, P> {
         }
     }
 
-    /// Tells the node which edges went down in a configuration, by ring.
+    /// Gives the edges that went down in a configuration to the node, by ring.
     fn hand_down(
         &mut self,
         id: ConfigId,

@@ -24,7 +24,7 @@ struct Session<'a, W: Wait, R: Wait + Copy + Drop, P: Post + Drop> {
     seat: Option<ViewSeat>,
 }
 
-/// The present view. It is asked for again while the list of members is still older than its stamp.
+/// The current view. It is asked for again while the list of members is still older than its stamp.
 fn present<W: Wait>(rt: &W, seat: &mut ViewSeat) -> Result<View, NodeFault> {
     for _ in rt.forever() {
         match seat.members(rt) {
@@ -36,7 +36,7 @@ fn present<W: Wait>(rt: &W, seat: &mut ViewSeat) -> Result<View, NodeFault> {
     unreachable!()
 }
 
-/// So many ticks, or fewer where the node ends.
+/// `count` ticks, or fewer if the node ends.
 fn tick<W: Wait, R: Wait + Copy + Drop, P: Post + Drop>(
     rt: &W,
     shared: &Shared<R, P>,
@@ -52,7 +52,7 @@ fn tick<W: Wait, R: Wait + Copy + Drop, P: Post + Drop>(
 }
 
 impl<W: Wait, R: Wait + Copy + Drop, P: Post + Drop> Session<'_, W, R, P> {
-    /// Prints the present view.
+    /// Prints the current view.
     fn view(&mut self) -> Result<(), NodeFault> {
         if self.seat.is_none() {
             self.seat = self.shared.take_seat(self.rt);
@@ -98,7 +98,7 @@ impl<W: Wait, R: Wait + Copy + Drop, P: Post + Drop> Engine for Session<'_, W, R
 
     ghost met = { λ s. 0 };
 
-    /// Does what a line asks for. Where the node ends the input is read no further.
+    /// Does what a line asks for. If the node ends, the input is read no further.
     fn answer(&mut self, line: &[u8], output: &mut Vec<u8>) -> Result<(), AllocError> {
         let _ = &output;
         let done = self.obey(read_line(line));

@@ -15,13 +15,13 @@ use rapid_view::ViewSeat;
 use std::alloc::{AllocError, Global};
 use std::sync::{Mutex, Wait};
 
-/// In how many parts those that are observed are probed at most: a member observes on at most as many
+/// In how many parts the observed members are probed at most: a member observes on at most as many
 /// rings.
 const MOST_PROBERS: u8 = 16;
 
-/// What the threads of a node share: its service under a lock, each part of its probes under one of
-/// its own, what is printed, and whether it goes on. The lock of a part is taken alone or under that
-/// of the service, and none is taken under it.
+/// What the threads of a node share: its service under a lock, each part of its probes under a lock
+/// of its own, what is printed, and whether it goes on. The lock of a part is taken alone or under
+/// that of the service, and none is taken under it.
 #[derive(Drop)]
 pub struct Shared<R: Wait + Copy + Drop, P: Post + Drop> {
     alloc: Global,
@@ -34,8 +34,8 @@ pub struct Shared<R: Wait + Copy + Drop, P: Post + Drop> {
 }
 
 impl<R: Wait + Copy + Drop, P: Post + Drop> Shared<R, P> {
-    /// The node of a service, which goes on. Those that it observes are probed in as many parts, 1 to
-    /// 16: by the thread that ticks it, and by those that run `run_prober`.
+    /// The node of a service, which goes on. The members that it observes are probed in this many
+    /// parts, 1 to 16: by the thread that ticks it, and by those that run `run_prober`.
     pub fn new(
         alloc: Global,
         service: Service<R, P>,
@@ -101,10 +101,12 @@ impl<R: Wait + Copy + Drop, P: Post + Drop> Shared<R, P> {
         Ok(())
     }
 
-    /// A tick of the node. After every tenth the observed members are probed, and edges of which too
-    /// many probes were not acknowledged are handed to the node. It returns when the round is made.
+    /// A tick of the node. After every tenth the observed members are probed, and edges of which
+    /// too many probes were not acknowledged are given to the node. It returns when the round is
+    /// made.
     pub fn tick<W: Wait>(&self, rt: &W) -> Result<(), NodeFault> {
         if self.step(rt)? {
+            // no lock is held here, so messages are taken while the round is made
             self.dealer.begin(rt);
             self.probe_parts(rt);
             self.dealer.finish(rt);
@@ -132,7 +134,7 @@ impl<R: Wait + Copy + Drop, P: Post + Drop> Shared<R, P> {
         }
     }
 
-    /// A round of a part of the probes. What it asks for is handed on when its lock is free again.
+    /// A round of a part of the probes. What it asks for is sent when its lock is free again.
     fn probe<W: Wait>(&self, rt: &W, part: usize) -> Result<(), NodeFault> {
         let Some(round) = self.round_of(rt, part)? else {
             return Ok(());
@@ -143,7 +145,7 @@ impl<R: Wait + Copy + Drop, P: Post + Drop> Shared<R, P> {
         done
     }
 
-    /// Makes parts of the present round of probes while there is one that nobody makes.
+    /// Makes parts of the current round of probes while there is one that no thread has taken.
     pub fn probe_parts<W: Wait>(&self, rt: &W) {
         for _ in 0..self.parts.len() {
             let Some(part) = self.dealer.take(rt) else {
@@ -173,6 +175,7 @@ impl<R: Wait + Copy + Drop, P: Post + Drop> Shared<R, P> {
     /// A message has come.
     pub fn receive<W: Wait>(&self, rt: &W, message: Message) -> Result<(), NodeFault> {
         if let Body::ProbeAck(_) = message.body() {
+            // before the lock of the service, so that a long step does not make a peer seem silent
             self.ack(rt, &message.sender());
         }
         let mut service = self.service.lock(rt);
@@ -196,13 +199,13 @@ impl<R: Wait + Copy + Drop, P: Post + Drop> Shared<R, P> {
         service.take_seat()
     }
 
-    /// What is to be told since this was last asked.
+    /// What is to be reported since this was last asked.
     pub fn take_notes<W: Wait>(&self, rt: &W) -> Vec<Note> {
         let mut service = self.service.lock(rt);
         service.take_notes()
     }
 
-    /// Ends the node where a step of it has failed; whether it goes on.
+    /// Ends the node if a step of it has failed; the answer is whether it goes on.
     pub fn goes_on<W: Wait>(&self, rt: &W, done: Result<(), NodeFault>) -> bool {
         match done {
             Ok(()) => !self.ending.has_come(rt),

@@ -11,7 +11,7 @@ use std::alloc::AllocError;
 /// The line that a line prints which is no command.
 pub const BAD_LINE: &[u8] = b"refused BadLine\n";
 
-/// The line that `view` prints where there is no view yet.
+/// The line that `view` prints if there is no view yet.
 pub const NO_VIEW: &[u8] = b"no view\n";
 
 /// Appends a number.

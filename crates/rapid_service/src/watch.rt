@@ -1,4 +1,4 @@
-// Whom a node observes in its present view.
+// The members that a node observes in its current view.
 
 ghost use Rattle.std.specs.Prelude.{◌≡◌, ◌<◌, IfOk};
 ghost use Rattle.rapid_model.specs.Ring.{subjects_of};
@@ -12,8 +12,8 @@ use rapid_monitor::{BoardError, EdgeBoard, EdgeSeat, ProbeBook};
 use rapid_rings::{ObserverTable, Rings};
 use std::alloc::{AllocError, Global};
 
-/// Whom a node observes in one view, and a watcher of the edges. The seats of the edges are here
-/// until they are given to parts.
+/// The members that a node observes in one view, and the board of these edges. The seats of the
+/// edges are here until they are given to parts.
 #[derive(Drop)]
 pub struct Watch {
     alloc: Global,
@@ -21,7 +21,7 @@ pub struct Watch {
     me: Process,
     /// The edges by ring: the ring and who is observed on it. The number of an edge is its place.
     edges: Vec<(u8, Process)>,
-    /// None where nobody is observed.
+    /// None if no member is observed.
     board: Option<EdgeBoard>,
     /// By edge: the seats that were not given to a part.
     seats: Vec<Option<EdgeSeat>>,
@@ -38,7 +38,7 @@ fn loose(alloc: Global, seats: Vec<EdgeSeat>) -> Result<Vec<Option<EdgeSeat>>, A
     Ok(loose)
 }
 
-/// A watcher of as many edges, and a seat for each; nobody watches where there is none.
+/// A board of this many edges, and a seat for each; no board if there are no edges.
 fn board_of(alloc: Global, edges: usize) -> Result<(Option<EdgeBoard>, Vec<EdgeSeat>), AllocError> {
     match EdgeBoard::new(alloc, edges, 1) {
         Ok((mut boards, seats)) => Ok((boards.pop(), seats)),
@@ -61,8 +61,8 @@ impl Watch {
         Watch::over(alloc, rings, me)
     }
 
-    /// Of the process in a configuration that follows. The rings are made of the present ones, and
-    /// keys are computed of newcomers only.
+    /// Of the process in a configuration that follows. The rings are made of the current ones, so
+    /// keys are hashed for newcomers only.
     pub fn next(&self, configuration: &Configuration) -> Result<Watch, AllocError>
         ensures { IfOk result (λ w. w.edges.items ≡ subjects_of configuration.now self.now.me) }
     {
@@ -114,7 +114,7 @@ impl Watch {
         }
     }
 
-    /// Takes the seats of the rings that leave this number.
+    /// Takes the seats of the rings whose number, divided by the number of parts, leaves this one.
     fn take_seats(&mut self, part: u8, parts: u8) -> Result<Vec<EdgeSeat>, AllocError>
         requires { 0 < parts }
     {
