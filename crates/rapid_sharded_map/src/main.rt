@@ -1,7 +1,7 @@
-//! An application that keeps a sharded map: each key belongs to one member of the present view. It
+//! An application that keeps a sharded map: each key belongs to one member of the current view. It
 //! subscribes to the views of a desk, deals the keys anew at each change, and prints which member
-//! owns which key. Here the desk is that of process 1 alone, and decisions are told to it that let
-//! two guests in and then take the first of them out.
+//! owns which key. Here the desk is that of process 1 alone. It gets decisions that let two guests
+//! in and then take the first of them out.
 #![tactic(auto)]
 
 ghost use Rattle.std.specs.Prelude.{◌≡◌, true, All, IfSome, IfOk, OnOk};
@@ -149,8 +149,8 @@ fn seat<R: Wait + Copy + Drop>(desk: &mut Desk<R>) -> Result<ViewSeat> {
     seats.pop().context("the desk has no seat")
 }
 
-/// Tells the desk that this process was decided to come or to go. What the node would send is
-/// dropped here: nobody listens.
+/// Gives the desk the decision that this process comes or goes. What the node would send is dropped
+/// here: there is no other node.
 fn decide<R: Wait + Copy + Drop>(
     desk: &mut Desk<R>,
     alloc: Global,
