@@ -1,4 +1,4 @@
--- Where no memory is wanted, `sim` prints what its definitions say.
+-- If memory never runs out, `sim` prints what its definitions say.
 use Rattle.std.proofs.Common.{◌≡◌, ℕ, zero, suc, Bool, true, false, cond, not, inl, inr, List, [], ◌∷◌, ◌++◌, refl, ap, sym, ◌∙◌, subst, arith, Option, Some, None, is_some, replicate}
 use Rattle.rapid_model.specs.World as world
 use Rattle.rapid_model.specs.World.{WorldEvent}
@@ -9,7 +9,7 @@ use Rattle.rapid_model.specs.SimLine.{SimLine, Parameters, Found, Events, Lose, 
 use Rattle.rapid_model.specs.SimText.{Simulation, SimState, Underway, Asked, Command, Said, asked, answer, after, printed, world_in, refused, reports_text, taking, taken_text, settling, losing, least_unsettled, can_reach, most_in_flow, silent, event_then, do_events, deliver_then, next_then, do_flow, text_of_lines}
 use Rattle.rapid_sim.specs.Wants.{IsSilent, EventPrints, EventsPrint, DeliveryPrints, IfHolds, NextPrints, FlowPrints, CommandPrints, LinePrints, LinesPrint}
 
--- An event without a mark leads where the definitions say, and reports what they say.
+-- An event without a mark leads to the world of the definitions, and reports what they say.
 unmarked_stored : (s : Simulation) (e : WorldEvent) (next : StoredWorld) (reports : List WorldReport) (h : StoresEvent s.world next e reports) → wants_of h.halts ≡ 0
     → (record s { world = next } ≡ taking s e) × (reports_text reports ≡ taken_text s e)
 unmarked_stored s e next reports h z =

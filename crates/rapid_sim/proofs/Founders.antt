@@ -3,7 +3,7 @@ use Rattle.std.proofs.Common.{◌≡◌, List, [], ◌∷◌, ◌++◌, append_a
 use Rattle.rapid_model.specs.Process.{Process}
 use Rattle.rapid_model.specs.SimLine.{with_named}
 
--- Those that were read, and the others, where there are all.
+-- Those that were read, and the others, if all could be read.
 abbrev pub before_all : List Process → Option (List Process) → Option (List Process)
 before_all ps None = None
 before_all ps (Some qs) = Some (ps ++ qs)

@@ -40,7 +40,7 @@ line_answered old new line a before after none said is nothing h e =
     adds : (a b c : ℕ) → (a + b) + c ≡ a + (b + c)
     adds a b c = omega arith
 
--- Where no memory was wanted, what was written is the text of the input.
+-- If memory never ran out, what was written is the text of the input.
 pub all_exact : (r : SimRun) (known a b : Option (List ℕ)) (met : ℕ) → state_of r ≡ Blank → IfSome known (λ input. Writes RunPrints r (lines input) met a b) → met ≡ 0 → IfSome known (λ input. Appends a b (sim_text input))
 all_exact r None a b met is w zero = tt
 all_exact r (Some input) a b met is w zero =
@@ -48,7 +48,7 @@ all_exact r (Some input) a b met is w zero =
     let p = subst (λ s. LinesPrint s (lines input) w.text w.printed.later) is w.printed.prints in
     subst (Appends a b) (lines_exact Blank (lines input) w.text (subst (LinesPrint Blank (lines input) w.text) later p)) w.written
 
--- What holds after a step that may fail, where it did not.
+-- What holds after a step that may fail, if it did not.
 pub where_ok : {T D : Type 0} (r : Result T D) (new xs ys : List ℕ) → new ≡ (if is_ok r then xs else ys) → OnOk r (new ≡ xs)
 where_ok (Ok x) new xs ys e = e
 where_ok (Err x) new xs ys e = tt

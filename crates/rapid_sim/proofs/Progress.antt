@@ -237,7 +237,7 @@ pub answered_as : (old new : Simulation) (a c : SimLine) (before after : List �
 answered_as old new a c before after met now e h =
     subst (λ x. IsAnswered (Underway old) (Underway new) (Command x) before after met now) (sym e) (answered_events old new c before after met now h)
 
--- A line that is passed over.
+-- A line that is skipped.
 pub answered_nothing : (s : SimState) (a : Asked) (before : List ℕ) (met : ℕ) → a ≡ Nothing → IsAnswered s s a before before met met
 unfolding answer
 answered_nothing s a before met is =

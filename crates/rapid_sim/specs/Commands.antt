@@ -28,7 +28,7 @@ asked_of Nothing = text.Nothing
 asked_of Unknown = text.Unknown
 asked_of (Taken c) = text.Command (command_of c)
 
--- A configuration is the founding of these, who can be its members; there is none where they cannot.
+-- A configuration is the founding one of these members; there is none if they cannot be its members.
 abbrev pub IsFoundingBy : Params → List model_process.Process → Option Configuration → Type 0
 IsFoundingBy params founders None = members_fault founders ≢ None
 IsFoundingBy params founders (Some c) = (members_fault founders ≡ None) × (c ≡ founding params founders)

@@ -3,7 +3,7 @@ use Rattle.std.proofs.Common.{ℕ, inl, List, [], ◌∷◌, refl}
 use Rattle.rapid_model.specs.SimText.{SimState, asked, after, printed, text_of_lines}
 use Rattle.rapid_sim.specs.Wants.{LinesPrint}
 
--- With no want of memory.
+-- Memory never ran out.
 pub definitions_print : (s : SimState) (ls : List (List ℕ)) → LinesPrint s ls (text_of_lines s ls) 0
 unfolding LinesPrint
 definitions_print s [] = (refl, refl)

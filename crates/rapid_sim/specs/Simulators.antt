@@ -19,7 +19,7 @@ phase_state Blank = text.Blank
 phase_state (Prepared params) = text.Prepared params
 phase_state (Underway s) = text.Underway (simulation_of s)
 
--- How often want of memory was met in a phase.
+-- How often memory ran out in a phase.
 abbrev pub phase_wants : Phase → ℕ
 phase_wants Blank = 0
 phase_wants (Prepared params) = 0
@@ -34,11 +34,11 @@ HasParams _ found = Unit {0}
 abbrev pub state_of : SimRun → SimState
 state_of r = phase_state r.phase
 
--- How often want of memory was met in a run.
+-- How often memory ran out in a run.
 abbrev pub wants_in : SimRun → ℕ
 wants_in r = phase_wants r.phase
 
--- From a run on these lines may print this text, where want of memory is met so many times, those before among them.
+-- From a run on these lines may print this text, if memory runs out this often, counted from the beginning.
 pub record RunPrints (r : SimRun) (ls : List (List ℕ)) (text : List ℕ) (wants : ℕ) : Type 0 where
   pub later : ℕ
   pub prints : LinesPrint (state_of r) ls text later

@@ -1,7 +1,7 @@
 -- Clauses of public calls cite this file.
--- What `sim` may print where want of memory may be met: a node's own, which halts it, and the world's, which refuses an event. Each
--- relation says from which state, what is printed, to which state that leads, and how often want of memory is met. Where it is never
--- met, what is printed is what the definitions of `sim` print.
+-- What `sim` may print if memory can run out: in a step of a node, which halts it, or in the world, which refuses an
+-- event. Each relation says from which state, what is printed, to which state that leads, and how often memory ran out.
+-- If it never did, what is printed is what the definitions of `sim` print.
 use Rattle.std.specs.Prelude.{◌≡◌, ℕ, zero, suc, ◌+◌, Bool, true, false, ◌⊎◌, List, [], ◌∷◌, ◌++◌, codes, replicate, Option, Some, None}
 use Rattle.rapid_model.specs.World as world
 use Rattle.rapid_model.specs.World.{WorldEvent}
@@ -51,7 +51,7 @@ pub record IsTaken (s : Simulation) (e : WorldEvent) (text : List ℕ) (wants : 
   pub counts : wants ≡ wants_of stores.halts + later
   pub after : goes_on (record s { world = next }) rest later
 
--- What an event may print and then what follows it, where it is accepted.
+-- What an event may print, and then what follows it, if it is accepted.
 abbrev pub EventPrints : Simulation → WorldEvent → List ℕ → Simulation → ℕ → (Simulation → List ℕ → ℕ → Type 0) → Type 0
 EventPrints s e text t wants goes_on = IsRefused s e text t wants ⊎ LacksMemory s e text t wants ⊎ IsTaken s e text wants goes_on
 
@@ -62,11 +62,11 @@ unfoldable pub EventsPrint : Simulation → List WorldEvent → List ℕ → Sim
 EventsPrint s [] text t wants = IsSilent s text t wants
 EventsPrint s (e ∷ es) text t wants = EventPrints s e text t wants (λ next rest later. EventsPrint next es rest t later)
 
--- What a packet's delivery may print; where it is accepted the packet is settled.
+-- What a packet's delivery may print; if it is accepted, the packet is settled.
 abbrev pub DeliveryPrints : Simulation → ℕ → List ℕ → Simulation → ℕ → Type 0
 DeliveryPrints s k text t wants = EventPrints s (world.Deliver k) text t wants (λ next rest later. IsSilent (settling next k) rest t later)
 
--- The first where the test holds, else the second.
+-- The first if the test holds, else the second.
 abbrev pub IfHolds : Bool → Type 0 → Type 0 → Type 0
 IfHolds true p q = p
 IfHolds false p q = q
@@ -77,7 +77,7 @@ NextPrints s None text t wants flow = IsSilent s text t wants
 NextPrints s (Some k) text t wants flow =
     IfHolds (can_reach s k) (EventPrints s (world.Deliver k) text t wants (λ next rest later. flow (settling next k) rest later)) (flow (settling s k) text wants)
 
--- What a flow of so many packets at most may print.
+-- What a flow of at most this many packets may print.
 unfoldable pub FlowPrints : ℕ → Simulation → List ℕ → Simulation → ℕ → Type 0
 FlowPrints zero s text t wants = IsSilent s text t wants
 FlowPrints (suc n) s text t wants = NextPrints s (least_unsettled s) text t wants (λ next rest later. FlowPrints n next rest t later)
@@ -93,7 +93,7 @@ CommandPrints s (Found founders) text t wants = ⊥
 CommandPrints s (Drop k) text t wants = ⊥
 CommandPrints s Packets text t wants = ⊥
 
--- What a line prints is what the definitions print, and no memory is wanted.
+-- What a line prints is what the definitions print, and memory never ran out.
 pub record PrintsExactly (s : SimState) (a : Asked) (text : List ℕ) (t : SimState) (wants : ℕ) : Type 0 where
   pub says : text ≡ printed s a
   pub goes_to : t ≡ after s a
@@ -130,6 +130,6 @@ unfoldable pub LinesPrint : SimState → List (List ℕ) → List ℕ → ℕ �
 LinesPrint s [] text wants = (text ≡ []) × (wants ≡ 0)
 LinesPrint s (line ∷ ls) text wants = ThenPrints s (asked line) text wants (λ next rest later. LinesPrint next ls rest later)
 
--- What `sim` may print for an input, where want of memory is met so many times.
+-- What `sim` may print for an input, if memory runs out this often.
 abbrev pub SimPrints : List ℕ → List ℕ → ℕ → Type 0
 SimPrints input text wants = LinesPrint Blank (lines input) text wants

@@ -23,15 +23,15 @@ pub(crate) enum Command {
     Parameters(u8, u8, u8),
     /// The founding configuration of these founders.
     Found(Configuration),
-    /// An event of the world, so many times, from 1.
+    /// An event of the world, and how often it happens, from 1.
     Events(WorldEvent, u64),
-    /// That all that run lose the member of this identifier.
+    /// All that run lose the member of this identifier.
     Lose(ProcessId),
-    /// That a packet, from 1, is delivered.
+    /// A packet, from 1, is delivered.
     Deliver(u64),
-    /// That a packet, from 1, is settled.
+    /// A packet, from 1, is settled.
     Drop(u64),
-    /// That packets are delivered as long as there are any.
+    /// Packets are delivered as long as there are any.
     Flow,
     /// How many packets were sent.
     Packets,
@@ -40,9 +40,9 @@ pub(crate) enum Command {
 /// What a line asks for.
 #[derive(Debug, Drop)]
 pub(crate) enum Asked {
-    /// Nothing: it is passed over.
+    /// Nothing: the line is skipped.
     Nothing,
-    /// Nothing that is known.
+    /// An unknown command.
     Unknown,
     /// A command.
     Taken(Command),
@@ -88,8 +88,8 @@ fn probe_result(word: &[u8]) -> Option<bool>
     }
 }
 
-/// How often an event happens, by the words of a line: from 1 to 1,000 times, once where there are
-/// none.
+/// How often an event happens, by the words of a line: from 1 to 1,000 times, once if there are no
+/// words.
 fn count(line: &[u8]) -> Option<u64>
     ensures { result ≡ count_in (words line.now) }
 {
@@ -108,7 +108,7 @@ fn parameters(line: &[u8]) -> Option<Command>
     Some(Command::Parameters(byte(k)?, byte(h)?, byte(l)?))
 }
 
-/// The processes that the words of a line name, where each word names one.
+/// The processes that the words of a line name, if each word names one.
 fn all_named(alloc: Global, line: &[u8]) -> Result<Option<Vec<Process>>, AllocError>
     ensures { IfOk result (λ found. option_map (λ v. v.items) found ≡ all_named (words line.now)) }
 {
@@ -124,7 +124,7 @@ fn all_named(alloc: Global, line: &[u8]) -> Result<Option<Vec<Process>>, AllocEr
     Ok(Some(found))
 }
 
-/// The founding configuration of processes, where they can be its members.
+/// The founding configuration of processes, if they can be its members.
 fn founding_by(
     alloc: Global,
     params: Params,
@@ -204,7 +204,7 @@ fn one_packet(line: &[u8]) -> Option<u64>
     number_from_1(one_word(line)?, u64::MAX)
 }
 
-/// A command, where no words follow its name.
+/// A command, if no words follow its name.
 fn alone(command: Command, line: &[u8]) -> Option<Command>
     ensures { option_map command_of result ≡ model.alone (command_of command) (words line.now) }
 {

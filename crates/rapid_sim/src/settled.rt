@@ -44,7 +44,7 @@ impl NumberSet {
         self.numbers.contains(&number)
     }
 
-    /// Adds a number. Want of memory leaves the set as it was.
+    /// Adds a number. If out of memory the set is as it was.
     fn insert(&mut self, number: u64) -> Result<(), AllocError>
         ensures ok { OnOk result (self.new ≡ set.insert self.old number) }
         ensures unchanged { OnErr result (self.new ≡ self.old) }
@@ -62,7 +62,7 @@ impl NumberSet {
 }
 
 /// The packets that are settled, by their numbers from 1. Those from the first on that are settled
-/// without a gap are only counted, so a flow, which settles the least one each time, finds it at
+/// without a gap are only counted. So a flow, which settles the least one each time, finds it at
 /// once and takes no memory.
 #[derive(Debug, Drop)]
 pub(crate) struct Settled {
@@ -98,7 +98,7 @@ impl Settled {
         }
     }
 
-    /// The least packet of so many that were sent that is not settled.
+    /// The least packet that is not settled, of those that were sent.
     pub(crate) fn least(&self, sent: u64) -> Option<u64>
         ensures least { result ≡ find (λ k. not (set.contains self.now k)) (range_with_len 1 sent) }
         ensures from_1 { IfSome result (λ k. 1 ≤ k) }
@@ -110,7 +110,7 @@ impl Settled {
         }
     }
 
-    /// Settles a packet. Want of memory leaves all as it was.
+    /// Settles a packet. If out of memory all is as it was.
     pub(crate) fn settle(&mut self, packet: u64) -> Result<(), AllocError>
         requires { 1 ≤ packet }
         ensures ok { OnOk result (self.new ≡ set.insert self.old packet) }
@@ -127,8 +127,8 @@ impl Settled {
     }
 }
 
-/// Up to which packet all are settled, where they are up to this one and these are; those are taken
-/// out of the others.
+/// Up to which packet all are settled, if all up to the first are, and these above it. Those that
+/// are passed are taken out of the set.
 fn all_from(first: u64, above: &mut NumberSet) -> u64
     ensures same { settled_by result above.new ≡ settled_by first above.old }
     ensures gap { HasGap result above.new }

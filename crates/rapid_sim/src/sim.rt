@@ -71,7 +71,7 @@ impl Simulator {
         self.settled.settle(packet)
     }
 
-    /// Tells how many packets were sent.
+    /// Prints how many packets were sent.
     fn tell_packets(&self, output: &mut Vec<u8>) -> Result<(), AllocError>
         ensures { OnOk result (IsAnsweredExactly (model.Underway (simulation_of self.now)) (model.Underway (simulation_of self.now)) (model.Command line.Packets) output.old.items output.new.items) }
     {
@@ -121,7 +121,7 @@ impl SimRun {
         }
     }
 
-    /// How often want of memory was met.
+    /// How often memory ran out.
     fn met(&self) -> u64
         ensures { result ≡ wants_in self.now }
     {
@@ -141,7 +141,7 @@ impl SimRun {
         }
     }
 
-    /// Takes the numbers K, H and L, where nothing was taken yet.
+    /// Takes the numbers K, H and L, if nothing was taken yet.
     fn take_params(&mut self, k: u8, h: u8, l: u8, output: &mut Vec<u8>) -> Result<(), AllocError>
         requires { state_of self.old ≡ model.Blank }
         ensures taken { OnOk result (IsAnsweredExactly model.Blank (state_of self.new) (model.Command (line.Parameters (record { k = k; h = h; l = l }))) output.old.items output.new.items) }
@@ -171,7 +171,7 @@ impl SimRun {
         self.phase = Phase::Underway(begin(self.alloc, configuration)?);
         write_founding(configuration, output)
     }
-    /// Does what a command asks for where nothing was taken yet, or refuses it.
+    /// Does what a command asks for before any was taken, or refuses it.
     fn blank(&mut self, command: &Command, output: &mut Vec<u8>) -> Result<(), AllocError>
         requires { state_of self.old ≡ model.Blank }
         ensures exactly { OnOk result (IsAnsweredExactly model.Blank (state_of self.new) (model.Command (command_of command.now)) output.old.items output.new.items) }
@@ -189,7 +189,7 @@ impl SimRun {
         }
     }
 
-    /// Does what a command asks for where parameters were taken, or refuses it.
+    /// Does what a command asks for after the parameters were taken, or refuses it.
     fn prepared(
         &mut self,
         params: Params,
@@ -265,12 +265,12 @@ impl Engine for SimRun {
 }
 
 /// Reads lines, drives a simulated cluster by them, and writes what they print, and nothing else.
-/// Answers how often want of memory was met: the world's own, for which an event was refused as
-/// `refused OutOfMemory`, and that of nodes, which halted. Where it was never met, what was written
-/// is what the input prints; else it is what the input may print where want of memory is met so
-/// often. After a fault a beginning of such a text is written: `Read` where the input could not be
-/// read, `Write` where the output could not be written, `OutOfMemory` where there was no memory to
-/// read and answer lines.
+/// The answer is how often memory ran out: in the world, for which an event was refused as `refused
+/// OutOfMemory`, and in steps of nodes, which halted. If it never did, what was written is what the
+/// input prints; else it is what the input may print if memory runs out this often. After a fault a
+/// beginning of such a text is written. The fault is `Read` if the input could not be read, `Write`
+/// if the output could not be written, `OutOfMemory` if there was no memory to read and answer
+/// lines.
 pub fn run_sim<R: Read, W: Write>(
     alloc: Global,
     reader: &mut R,

@@ -20,7 +20,7 @@ use std::alloc::{AllocError, Global};
 /// How many packets one flow settles at most.
 const MOST_IN_FLOW: u64 = 10_000;
 
-/// A simulated cluster: its world, which packets are settled, and how often want of memory was met.
+/// A simulated cluster: its world, which packets are settled, and how often memory ran out.
 #[derive(Drop)]
 pub(crate) struct Simulator {
     pub(crate) world: World,
@@ -43,7 +43,7 @@ fn error_line(error: WorldError) -> &'static [u8]
     }
 }
 
-/// How often a refused event meets want of memory.
+/// How often memory ran out at a refused event.
 fn error_wants(error: WorldError) -> u64
     ensures { result ≡ error_wants error }
 {
@@ -53,7 +53,7 @@ fn error_wants(error: WorldError) -> u64
     }
 }
 
-/// How often the last event met want of memory: once where it was marked, since its node halted.
+/// How often memory ran out at the last event: once if it was marked, since its node halted.
 #[tactic(auto, unfolding(rapid_model::specs::StoredWorld::last_mark))]
 fn last_wants(world: &World) -> u64
     ensures { result ≡ wants_of (last_mark world.now.events) }
@@ -65,7 +65,7 @@ fn last_wants(world: &World) -> u64
     }
 }
 
-/// The sum, where it is a number.
+/// The sum, unless it overflows.
 fn added(met: u64, wants: u64) -> Result<u64, AllocError>
     ensures { IfOk result (λ sum. sum ≡ met + wants) }
 {
@@ -91,7 +91,7 @@ impl Simulator {
         }
     }
 
-    /// Makes an event happen so many times, until one is refused.
+    /// Makes an event happen `count` times, or until one is refused.
     pub(crate) fn repeat(
         &mut self,
         event: &WorldEvent,
@@ -120,7 +120,7 @@ impl Simulator {
         Ok(())
     }
 
-    /// Delivers a packet, and settles it where that is accepted.
+    /// Delivers a packet, and settles it if that is accepted.
     pub(crate) fn deliver(&mut self, packet: u64, output: &mut Vec<u8>) -> Result<(), AllocError>
         requires { 1 ≤ packet }
         ensures { OnOk result (IsDone (DeliveryPrints (simulation_of self.old) packet) (simulation_of self.new) output.old.items output.new.items self.old.met self.new.met) }
@@ -131,8 +131,8 @@ impl Simulator {
         Ok(())
     }
 
-    /// Settles the least packet that is not settled, and delivers it where a node runs at its
-    /// endpoint; whether the flow goes on.
+    /// Settles the least packet that is not settled, and delivers it if a node runs at its
+    /// endpoint; the answer is whether the flow goes on.
     fn pass(&mut self, packet: u64, output: &mut Vec<u8>) -> Result<bool, AllocError>
         requires from_1 { 1 ≤ packet }
         requires least { least_unsettled (simulation_of self.old) ≡ Some packet }
@@ -229,8 +229,8 @@ fn push_failing(
     push_failed(observer, ring, events)
 }
 
-/// Appends four failed probes of an observer on a ring, where it observes the member of an
-/// identifier there.
+/// Appends four failed probes of an observer on a ring, if it observes the member of an identifier
+/// there.
 fn push_where_observed(
     world: &World,
     observer: &ProcessId,
@@ -248,8 +248,8 @@ fn push_where_observed(
     }
 }
 
-/// Appends four failed probes of an observer for each of so many rings on which it observes the
-/// member of an identifier.
+/// Appends four failed probes of an observer for each of the first `rings` rings on which it
+/// observes the member of an identifier.
 fn push_losing(
     world: &World,
     observer: &ProcessId,
@@ -265,8 +265,8 @@ fn push_losing(
     Ok(())
 }
 
-/// Appends the probes by which each of these observers loses the member of an identifier, on so
-/// many rings.
+/// Appends the probes by which each of these observers loses the member of an identifier, on the
+/// first `rings` rings.
 fn push_each(
     world: &World,
     observers: &[ProcessId],

@@ -17,7 +17,7 @@ use std::alloc::AllocError;
 /// Why a line is refused.
 #[derive(Clone, Copy, Debug)]
 pub(crate) enum Refusal {
-    /// It is not in the grammar, or there is nothing more to be said like it.
+    /// It is not in the grammar, or it repeats what can be said once.
     BadLine,
     /// Parameters or founders were not taken yet.
     NoParams,
@@ -31,7 +31,7 @@ pub(crate) enum Refusal {
     NoSuchNode,
     /// No packet with this number was sent.
     NoSuchPacket,
-    /// The node observes nobody on the ring.
+    /// The node observes no member on the ring.
     NotObserved,
     /// No further event is accepted.
     EventsFull,
