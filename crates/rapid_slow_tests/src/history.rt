@@ -19,7 +19,7 @@ fn founder(rt: &impl Abort, alloc: Global) -> Result<Box<Node>, Fail> {
     Ok(Box::new(alloc, Node::seed(alloc, &founding, me)?)?)
 }
 
-/// The message that the cut of process 2 is decided in the configuration that a node shows.
+/// The message that the cut of process 2 is decided in the configuration of a node.
 fn decision(rt: &impl Abort, alloc: Global, node: &Node) -> Result<Event, Fail> {
     let shown = node.configuration().expect(rt, "a configuration").id();
     let cut = Cut::new(Vec::from_array(alloc, [process(2)])?)?;
@@ -43,7 +43,7 @@ fn install(rt: &impl Abort, alloc: Global, node: &mut Node, count: usize) -> Res
 }
 
 /// Checks that a node has installed 65,536 views, of all heights in order, with one and two members
-/// in turn, and shows the last.
+/// in turn, and has the last.
 fn assert_full(rt: &impl Abort, node: &Node) {
     assert!(rt; node.installed().len() == MOST_VIEWS);
     for (place, stamp) in node.installed().iter().enumerate() {
