@@ -63,7 +63,7 @@ number_step limit v false low e h = refl
 number_step limit v true true e h = refl
 number_step limit v true false e h = let big : nat_le v limit ≡ false = grind (arith, nat_tests) in rw big refl
 
--- A word of 1 to 20 bytes without a needless zero is read digit by digit.
+-- A word of 1 to 20 bytes without leading zeros is read digit by digit.
 pub number_is : (limit : ℕ) (w : List ℕ) → limit < 2 ^ 64 → 0 < length w → length w ≤ 20 → has_no_needless_zero w ≡ true
     → number_up_to limit w ≡ up_to limit (spelled_from 0 w)
 number_is limit w h low high zero =

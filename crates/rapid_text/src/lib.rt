@@ -1,5 +1,5 @@
-//! Lines of an input and what they print: blocks of bytes are read, each line that ends in them is
-//! answered by an engine, and what it prints is written.
+//! Lines of an input and what they print. Blocks of bytes are read, an engine answers each line
+//! that ends in them, and what it prints is written.
 #![tactic(auto)]
 
 mod engine;

@@ -90,7 +90,7 @@ pub fn one_word(line: &[u8]) -> Option<&[u8]>
 /// How many digits the greatest number below 2^64 has.
 const MOST_DIGITS: usize = 20;
 
-/// The number that a word spells, without a needless zero in front, if it is one up to the limit.
+/// The number that a word spells without leading zeros, if it is one up to the limit.
 pub fn number(word: &[u8], limit: u64) -> Option<u64>
     ensures value { result ≡ number_up_to limit word.now }
     ensures small { IfSome result (λ n. n ≤ limit) }

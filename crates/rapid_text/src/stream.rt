@@ -1,5 +1,5 @@
 // From the bytes of an input to those of an output, a block at a time. What a block prints is
-// written before the next is read, so that a terminal shows each answer at once.
+// written before the next is read, so a terminal has each answer at once.
 
 ghost use Rattle.std.specs.Prelude.{◌≡◌, ◌<◌, ◌≤◌, ℕ, List, [], ◌∷◌, ◌++◌, true, length, take, MatchOption, IfSome, OnOk, OnErr, IfOk};
 ghost use Rattle.std.specs.Io.KnownBytes.{Appends, Consumes, IsAtEnd, Keeps};
@@ -211,8 +211,8 @@ fn answer_all<E: Engine, R: Read, W: Write>(
 }
 
 /// Answers the lines of an input, which the reader gives, and writes what they print and nothing
-/// else. After a fault a beginning of that is written: `Read` if the input could not be read,
-/// `Write` if the output could not be written, `OutOfMemory` if there was no memory.
+/// else. After a fault a beginning of that is written. The fault is `Read` if the input could not
+/// be read, `Write` if the output could not be written, `OutOfMemory` if out of memory.
 pub fn run<E: Engine, R: Read, W: Write>(
     alloc: Global,
     engine: &mut E,
