@@ -1,5 +1,5 @@
 -- Clauses of public calls cite this file.
--- Where peers may be.
+-- The endpoints that a peer may have.
 use Rattle.std.specs.Prelude.{Bool, ◌&&◌, ◌==◌, drop, slice_index, nat_le}
 use Rattle.std.specs.Int.{w16, from_be_bytes}
 use Rattle.rapid_model.specs.Bytes.{Endpoint}

@@ -82,7 +82,7 @@ const TOO_MANY_IN_SYSTEM: i32 = 23;
 
 const TOO_MANY_OPEN: i32 = 24;
 
-/// Whether no file descriptor was to be had.
+/// Whether there was no file descriptor.
 pub(crate) fn is_exhausted(error: &io::Error) -> bool {
     matches!(
         error.raw_os_error(),
@@ -112,7 +112,7 @@ impl Connections {
         }
     }
 
-    /// Where the connection to this endpoint stands.
+    /// The place of the connection to this endpoint in the list.
     fn place(&self, to: Endpoint) -> Option<usize>
         ensures { IfSome result (λ place. place < vec_len self.now.all) }
     {
@@ -136,7 +136,7 @@ impl Connections {
 
     /// Sends a frame by the open connection to this endpoint, and closes the connection if that
     /// fails. None if no connection is open, or if the peer has closed it: a write would take the
-    /// frame nevertheless, and nobody would get it.
+    /// frame nevertheless, and it would be lost.
     fn send_by_open<R: Clock>(&mut self, rt: &R, to: Endpoint, frame: &Bytes) -> Option<Outcome> {
         let place = self.place(to)?;
         if is_closed(&self.all[place].stream).unwrap_or(true) {

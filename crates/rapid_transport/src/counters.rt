@@ -6,7 +6,7 @@ use std::sync::atomic::{AtomicU64, Ordering};
 /// What the peers of a node have done so far.
 #[derive(Clone, Copy, Debug, PartialEq, Eq)]
 pub struct Counters {
-    /// Frames that came, and were handed on as messages.
+    /// Frames that came, and were given to the inbox as messages.
     pub frames_in: u64,
     /// Frames that were sent without a fault.
     pub frames_out: u64,
@@ -14,12 +14,12 @@ pub struct Counters {
     pub losses: u64,
     /// Incoming connections that were closed since something came that is no frame.
     pub wire_faults: u64,
-    /// Incoming connections that were closed at once, since 256 were read already, or no second
-    /// handle, no memory or no thread was to be had for one.
+    /// Incoming connections that were closed at once, since 256 were read already, or there was no
+    /// second handle, no memory or no thread for one.
     pub refused: u64,
     /// Incoming connections that were closed since a frame took too long.
     pub late: u64,
-    /// How often no file descriptor was to be had for a connection.
+    /// How often there was no file descriptor for a connection.
     pub exhausted: u64,
 }
 

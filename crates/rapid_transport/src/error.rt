@@ -49,7 +49,7 @@ impl TransportError {
 /// Why there are no peers.
 #[derive(Clone, Copy, Debug, PartialEq, Eq, Error)]
 pub enum ListenError {
-    /// The port was not to be had.
+    /// The port could not be bound.
     #[error("the port is not to be had")]
     NoPort,
     /// There was no memory, or no thread.

@@ -1,4 +1,4 @@
-// Where peers may be.
+// The endpoints that a peer may have.
 
 ghost use Rattle.std.specs.Prelude.{◌≡◌};
 ghost use Rattle.rapid_transport.specs.Local.{is_local};

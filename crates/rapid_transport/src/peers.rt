@@ -37,7 +37,7 @@ const CAPACITY: usize = 4_096;
 /// does not spin while there is no descriptor.
 const AFTER_A_FAULT: u64 = 50;
 
-/// The queue of a sender, and what wakes it where there is a frame in it.
+/// The queue of a sender, and what wakes it if there is a frame in it.
 #[derive(Drop)]
 struct Lane {
     queue: Mutex<SenderQueue>,
@@ -65,7 +65,8 @@ fn make_lane(alloc: Global, ends: &mut Vec<SenderEnd>) -> Result<Lane, AllocErro
     })
 }
 
-/// Reads messages and hands them on, until the connection ends or fails, or a frame takes too long.
+/// Reads messages and gives them to the inbox, until the connection ends or fails, or a frame takes
+/// too long.
 fn read_all<R, I>(rt: &R, alloc: Global, stream: &TcpStream, inbox: &I, meters: &Meters)
 where
     R: Wait + Clock,
@@ -95,7 +96,7 @@ impl Peers {
     ///
     /// # Errors
     ///
-    /// `NoPort` if the port was not to be had, and `OutOfMemory`.
+    /// `NoPort` if the port could not be bound, and `OutOfMemory`.
     pub fn listen<R>(
         rt: &R,
         alloc: Global,
@@ -172,7 +173,7 @@ impl Peers {
         stops
     }
 
-    /// Accepts connections, hands the messages that come by them to the inbox, and sends what is
+    /// Accepts connections, gives the messages that come by them to the inbox, and sends what is
     /// posted, until `stop`. The caller's thread is the acceptor. The readers, at most 256, and the
     /// senders have threads of their own, all of which have ended when it returns. The ends are
     /// those that `listen` gave. A connection beyond 256 is closed at once, and so is one by which
@@ -182,7 +183,7 @@ impl Peers {
     ///
     /// # Errors
     ///
-    /// `OutOfMemory` if a sender's thread was not to be had: nothing runs then.
+    /// `OutOfMemory` if a sender's thread could not be started: nothing runs then.
     pub fn run<R, I>(
         &self,
         rt: &R,
@@ -223,7 +224,7 @@ impl Peers {
         })
     }
 
-    /// Counts an error by which no file descriptor was to be had.
+    /// Counts an error that says that there was no file descriptor.
     fn note(&self, error: &io::Error) {
         if is_exhausted(error) {
             self.meters.exhausted.raise();
@@ -267,10 +268,10 @@ impl Peers {
         Some((number, stream))
     }
 
-    /// Ends `run`: the acceptor and the readers at once, the senders when what is queued is sent, or
-    /// after 0.3 seconds where that takes longer; a frame that is under way takes up to 0.3 seconds
-    /// more. It may be called by any thread, also before `run`, and calls after the first do nothing.
-    /// It needs no file descriptor.
+    /// Ends `run`: the acceptor and the readers at once, the senders when what is queued is sent,
+    /// or after 0.3 seconds if that takes longer. A frame that is under way takes up to 0.3 seconds
+    /// more. It may be called by any thread, also before `run`, and calls after the first do
+    /// nothing. It needs no file descriptor.
     pub fn stop<R: Wait>(&self, rt: &R) {
         if self.stop_senders() {
             return;

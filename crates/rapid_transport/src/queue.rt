@@ -120,7 +120,7 @@ impl SenderQueue {
 }
 
 impl SenderEnd {
-    /// Takes the oldest frame, and where it goes; none if there is none.
+    /// Takes the oldest frame and its endpoint; none if there is none.
     pub fn take<R: Wait>(&mut self, rt: &R) -> Option<(Endpoint, Bytes)>
         ensures queue { self.new.queue ≡ self.old.queue }
         ensures taken { MatchOption result (self.new.taken ≡ self.old.taken) (λ frame. self.new.taken ≡ self.old.taken ++ frame ∷ []) }
@@ -135,6 +135,7 @@ impl SenderEnd {
         ensures same { (self.new.queue ≡ self.old.queue) × (self.new.taken ≡ self.old.taken) }
     {
         self.failed = self.failed.saturating_add(1);
+        // a store suffices: no other thread writes this word
         self.told.store(self.failed, Ordering::SeqCst);
     }
 }

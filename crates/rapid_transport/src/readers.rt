@@ -33,7 +33,7 @@ impl Readers {
     }
 
     /// Takes in a connection that is to be read, by a second handle of it, and gives its number;
-    /// none if 256 are read already, or if no memory for that was to be had.
+    /// none if 256 are read already, or if out of memory.
     pub(crate) fn admit(&mut self, stream: TcpStream) -> Option<u64> {
         if self.all.len() >= MOST_READERS {
             return None;
@@ -52,7 +52,7 @@ impl Readers {
         }
     }
 
-    /// Where the connection with this number stands.
+    /// The place of the connection with this number in the list.
     fn place(&self, number: u64) -> Option<usize>
         ensures { IfSome result (λ place. place < vec_len self.now.all) }
     {

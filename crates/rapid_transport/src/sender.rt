@@ -64,7 +64,7 @@ impl Idling {
     }
 
     /// Passes some time, and says whether it is time to look which connections have ended. A frame
-    /// that is put while nobody waits ends the next wait at once, so none is missed.
+    /// that is put while the sender does not wait ends the next wait at once, so none is missed.
     fn pass<R: Wait + Clock>(&mut self, rt: &R, parker: &Parker) -> bool {
         if !self.backoff.is_completed() {
             self.backoff.snooze();
@@ -82,6 +82,7 @@ impl Idling {
 /// told to stop.
 fn is_over<R: Clock>(rt: &R, stopped: &mut Option<Instant>) -> bool {
     let Ok(now) = Instant::now(rt) else {
+        // without a clock the sender must not wait for ever
         return true;
     };
     match stopped {

@@ -6,8 +6,8 @@ use rapid_endpoint::Endpoint;
 use std::alloc::Global;
 use std::time::{Clock, Duration, Instant};
 
-/// How long a peer that was too slow is left alone at first, in milliseconds: half a round of
-/// probes at ticks of 10, since four rounds without an answer expel a peer.
+/// How long a peer that was too slow is left alone at first, in milliseconds. It is half a round of
+/// probes at ticks of 10 milliseconds, since four rounds without an answer expel a peer.
 const FIRST_PAUSE: u64 = 50;
 
 /// How long a peer is left alone at most, in milliseconds. The pause doubles each time that it is

@@ -46,6 +46,7 @@ impl<R: Clock> Write for Timed<'_, R> {
         let mut stream = self.stream;
         let written = stream.write(buf);
         if let Err(error) = &written {
+            // the stream's own time limit for one write has gone by
             self.late = error.kind() == ErrorKind::WouldBlock;
         }
         written
