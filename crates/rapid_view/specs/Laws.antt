@@ -9,8 +9,8 @@ use Rattle.rapid_model.specs.PublishedList.{IsPublished}
 use Rattle.rapid_view.specs.declared.known.Known.{Known}
 use Rattle.rapid_view.specs.CellRule.{Kept}
 
--- Whenever the rule holds there is a list that is published: word 0 of the cell is its length, its heights rise by one, and each seat,
--- the one that writes among them, has seen a beginning of it.
+-- Whenever the rule holds there is a list that is published. Word 0 of the cell is its length, and its heights rise by
+-- one. Each seat, also the writer's, has seen a beginning of it.
 abbrev pub CellsArePublished : Type 0
 CellsArePublished =
     (room : ℕ) (s : State (Unit {0}) Known) (seat : ℕ) (v : Known) → Kept room s → get_elem? s.views seat ≡ some v →

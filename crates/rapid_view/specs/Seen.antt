@@ -1,5 +1,5 @@
 -- Clauses of public calls cite this file.
--- What the writer and the seats of a cell show.
+-- What the writer and the seats of a cell know.
 use Rattle.std.specs.Prelude.{◌≡◌, ◌≢◌, ℕ, ◌+◌, ◌-◌, ◌<◌, List, [], ◌∷◌, length, slice_get, Option, Some}
 use Rattle.atomic_table.specs.Seated.{TableId}
 use Rattle.rapid_model.specs.Configuration.{Configuration, Stamp}
@@ -18,7 +18,7 @@ pub record Written : Type 0 where
   pub seen : List Stamp
 
 -- Which cell the writer writes, for how many views it has room, the list that is published, and the view that readers
--- find; none if even a copy that shares its members was refused.
+-- find. There is no such view if even a copy that shares its members was refused.
 pub record Publishing : Type 0 where
   pub cell : TableId
   pub room : ℕ

@@ -38,7 +38,7 @@ fn seats_of(
     let mut all = Vec::with_capacity(alloc, seats)?;
     for _ in 0..seats {
         let stamps = writer.reader()?;
-        // the library does not tell a lack of places from a lack of memory
+        // the library does not distinguish a lack of places from a lack of memory
         let Ok(list) = list.handle() else {
             return Err(ViewError::NoPlace);
         };

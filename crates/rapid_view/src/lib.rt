@@ -24,8 +24,8 @@ pub use seat::ViewSeat;
 pub use view::View;
 pub use writer::ViewWriter;
 
-/// Whenever the rule of a cell holds, which each of its steps keeps, its words are a published list:
-/// word 0 is its length, its heights rise by one, and each seat has seen a beginning of it.
+/// Whenever the rule of a cell holds, which each of its steps keeps, its words are a published
+/// list. Word 0 is its length, its heights rise by one, and each seat has seen a beginning of it.
 pub fn cells_are_published()
     ensures { CellsArePublished }
 {}

@@ -59,8 +59,8 @@ impl ViewSeat {
         ViewSeat { stamps, list }
     }
 
-    /// The last stamp of a published list that begins with all that this seat had seen. Afterwards
-    /// the seat has seen that list. It takes no lock and waits for nobody.
+    /// The last stamp of a published list that begins with all that this seat had seen: it never
+    /// goes back. Afterwards the seat has seen that list. It takes no lock and never waits.
     pub fn stamp(&mut self) -> Stamp
         ensures cell { self.new.cell ≡ self.old.cell }
         ensures later { IsBeginning self.old.seen self.new.seen }
@@ -87,7 +87,8 @@ impl ViewSeat {
             // the view first: its stamp was published before it, so the stamp read next is not older
             let found = find(&mut self.list)?;
             let stamp = self.stamps.stamp();
-            // the list goes with its writer: whoever wants the last view keeps the writer
+            // the list is dropped with its writer, so keep the writer as long as the last view is
+            // needed
             let Some(view) = found else {
                 return Err(ViewError::Behind(stamp));
             };

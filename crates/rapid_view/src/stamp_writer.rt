@@ -104,6 +104,7 @@ fn add(cell: &ViewCell, seat: &mut Seat<(), Known>, count: usize, stamp: &Stamp)
     ensures longer { seat.new.me ≡ (writing seat.old.me.0.room (seat.old.me.0.seen ++ stamp.now ∷ []) [], []) }
 {
     let words = words(stamp);
+    // the count last: who loads it finds all words of the stamps that it counts
     store_words(cell, seat, count, &words);
     lengthen(cell, seat, count, stamp);
 }
