@@ -53,13 +53,13 @@ is_lasting code.BadKind = tt
 is_lasting code.BadBody = tt
 is_lasting code.OutOfMemory = tt
 
--- Nothing is left where no bytes are held.
+-- Nothing is left if no bytes are held.
 pub left_none : (bytes : List ℕ) (o : Option WireFault) → is_some o ≡ false → ((length bytes == 0) ≡ true) ↔ (end_of bytes o ≡ Left [])
 left_none [] None h = (λ e. refl, λ e. refl)
 left_none (x ∷ xs) None h = (λ e. absurd (grind (arith, nat_tests)), λ e. absurd cc)
 left_none bytes (Some e) h = absurd cc
 
--- Where there was a fault, it is not nothing that is left.
+-- If there was a fault, something is left.
 pub fault_left : (bytes : List ℕ) (o : Option WireFault) → is_some o ≡ true → IsLasting o → (false ≡ true) ↔ (end_of bytes o ≡ Left [])
 fault_left bytes None h l = absurd cc
 fault_left bytes (Some code.TooLong) h l = (λ e. absurd cc, λ e. absurd cc)

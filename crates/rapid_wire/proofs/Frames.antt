@@ -118,7 +118,7 @@ same_payload m n h k e =
     let make : Process → Body → Message = λ s b. record { sender = s; body = b } in
     ap2 make m.sender n.sender m.body n.body senders bodies
 
--- a list that goes on by more is that list only where there is no more
+-- a list followed by more is that list only if there is no more
 no_more : (xs ys rest : List ℕ) → length xs ≡ length ys → xs ++ rest ≡ ys → (rest ≡ []) × (xs ≡ ys)
 no_more xs ys rest l e =
     let sizes_same = length-append xs rest in

@@ -1,4 +1,4 @@
--- The parts of frames are read exactly where they are spelt.
+-- The parts of frames are read exactly if they are spelt.
 use Rattle.std.proofs.Common.{◌≡◌, ℕ, ◌^◌, ◌<◌, ◌≤◌, ◌⊎◌, inl, inr, Bool, true, false, not, ◌&&◌, ◌||◌, cond, eqb, List, [], ◌∷◌, ◌++◌, length, Option, Some, None, refl, sym, ap, subst, ◌∙◌, arith}
 use Rattle.std.specs.Prelude.{All, map, is_none, nat_lt, nat_le}
 use Rattle.std.specs.List.{concat}

@@ -1,4 +1,4 @@
--- Messages are read exactly where they are spelt.
+-- Messages are read exactly if they are spelt.
 use Rattle.std.proofs.Common.{◌≡◌, ℕ, ◌<◌, true, cond, eqb, List, [], ◌∷◌, ◌++◌, length, Option, Some, None, refl, sym, ap, subst, ◌∙◌, append_assoc, append-nil}
 use Rattle.std.specs.Prelude.{map, is_none}
 use Rattle.std.specs.List.{concat}

@@ -20,7 +20,7 @@ one_frame bytes v w r s h k =
     let parts = split size size' (v ++ r) (w ++ s) refl same in
     split v w r s (same_32 (length v) (length w) (omega (arith, fits)) (omega (arith, fits')) parts.0) parts.1
 
--- No whole frame stands where the length is too great.
+-- There is no whole frame if the length is too great.
 not_too_long : (bytes whole rest : List ℕ) → BeginsWith bytes whole rest → IsTooLong bytes → ⊥
 not_too_long bytes whole rest h k =
     let announced = begins_long bytes whole rest h in

@@ -13,7 +13,7 @@ code_of BadKind = 3
 code_of BadBody = 4
 code_of OutOfMemory = 99
 
--- A part that cannot be read makes the body a bad one; want of memory says nothing.
+-- A part that cannot be read makes the body a bad one; out of memory says nothing of it.
 abbrev pub Fails : {Y : Type 0} → WireFault → Option Y → Type 0
 Fails TooLong read = ⊥
 Fails BadVersion read = ⊥
@@ -26,7 +26,7 @@ abbrev pub Gives : {X Y : Type 0} → (X → Y) → Result X WireFault → Optio
 Gives view (Ok x) read = read ≡ Some (view x)
 Gives view (Err e) read = Fails e read
 
--- The fault of a whole frame after its length; want of memory says nothing.
+-- The fault of a whole frame after its length; out of memory says nothing of it.
 abbrev pub IsFaultOf : List ℕ → WireFault → Type 0
 IsFaultOf whole TooLong = ⊥
 IsFaultOf whole BadVersion = model.HasFault whole model.BadVersion

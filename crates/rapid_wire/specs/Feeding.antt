@@ -16,7 +16,7 @@ IsLasting (Some BadKind) = Unit {0}
 IsLasting (Some BadBody) = Unit {0}
 IsLasting (Some OutOfMemory) = ⊥
 
--- The fault, where it is one of the stream.
+-- The fault, if it is one of the stream.
 abbrev pub lasting_of : WireFault → Option WireFault
 lasting_of TooLong = Some TooLong
 lasting_of BadVersion = Some BadVersion
@@ -38,7 +38,7 @@ abbrev pub fed : StreamEnd → List ℕ → StreamEnd
 fed (Left bytes) piece = Left (bytes ++ piece)
 fed (Fault f) piece = Fault f
 
--- The fault stands in front of the bytes; want of memory says nothing.
+-- The fault stands in front of the bytes; out of memory says nothing of them.
 abbrev pub IsFrontFault : List ℕ → WireFault → Type 0
 IsFrontFault bytes TooLong = IsFront bytes (Faulty model.TooLong)
 IsFrontFault bytes BadVersion = IsFront bytes (Faulty model.BadVersion)

@@ -16,8 +16,8 @@ NoFrameBeginsAnother = (bytes rest : List ℕ) (m n : Message) → IsFrame bytes
 abbrev pub EveryMessageFits : Type 0
 EveryMessageFits = (m : Message) → IsMessage m → length (payload m) ≤ 65536
 
--- However a stream is cut: the messages of its beginning, and then those of what was left with the bytes that follow, are
--- those of the whole, with its end; and a fault in its beginning is the fault of the whole.
+-- However a stream is cut, its messages are the same. Those of its beginning, and then those of what was left with the
+-- bytes that follow, are those of the whole, with its end. A fault in its beginning is the fault of the whole.
 abbrev pub CuttingChangesNothing : Type 0
 CuttingChangesNothing =
     (bytes more : List ℕ) (ms : List Message) →

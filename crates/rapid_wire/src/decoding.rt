@@ -48,8 +48,8 @@ fn read_message(alloc: Global, kind: u8, bytes: &[u8]) -> Result<Message, WireFa
 }
 
 /// The kind of a whole frame, and what follows it. The first that holds: `BadBody` below two bytes,
-/// `BadVersion` where the first is not the version of this format, `BadKind` where the second is no
-/// kind of a message.
+/// `BadVersion` if the first is not the version of this format, `BadKind` if the second is no kind
+/// of a message.
 #[tactic(auto, using(crate::proofs::Fronts::short_fault, crate::proofs::Fronts::version_fault, crate::proofs::Fronts::kind_fault, crate::proofs::Fronts::opened))]
 fn open_frame(whole: &[u8]) -> Result<(u8, &[u8]), WireFault>
     ensures kind { IfOk result (λ x. IsKind x.0) }
@@ -69,7 +69,7 @@ fn open_frame(whole: &[u8]) -> Result<(u8, &[u8]), WireFault>
 }
 
 /// The message of a whole frame, after its length. The faults of its first two bytes come first,
-/// then `BadBody` where the rest is not spelt as a message of this kind is.
+/// then `BadBody` if the rest is not spelt as a message of this kind is.
 pub(crate) fn decode(alloc: Global, whole: &[u8]) -> Result<Message, WireFault>
     ensures valid { IfOk result IsMessage }
     ensures spelt { IfOk result (λ m. whole.now ≡ payload m) }

@@ -20,13 +20,13 @@ const LENGTH_BYTES: usize = 4;
 const MOST_BYTES: usize = 65_536;
 
 /// The messages of a stream of bytes that comes in pieces. A feed holds the bytes that were fed and
-/// not yet answered as messages; whoever asks for messages until there is none before the next
-/// piece comes has it hold no more than one frame and that piece. A fault is for good.
+/// not yet answered as messages. If messages are taken until there is none before each next piece,
+/// it never holds more than one frame and one piece. A fault is for good.
 ///
-/// A byte is copied as it is fed, and again at most where the bytes that are held move to the front
-/// of the buffer, which they do only where at least as many were answered, or where the buffer
-/// grows, which at least doubles it. So feeding a stream byte by byte takes linear time, and once
-/// the buffer has its size each byte is copied at most twice.
+/// A byte is copied as it is fed. It is copied again only if the bytes that are held move to the
+/// front of the buffer, which happens once at least as many were answered, or if the buffer grows,
+/// which at least doubles it. So feeding a stream byte by byte takes linear time, and once the
+/// buffer has its size each byte is copied at most twice.
 #[derive(Debug, Drop)]
 pub struct Feed {
     held: BytesMut,
@@ -46,7 +46,7 @@ impl Model for Feed {
 }
 
 /// The whole frame in front of the bytes, after its length, and how many bytes it has with that;
-/// none where no whole frame is there.
+/// none if no whole frame is there.
 #[tactic(auto, using(crate::proofs::Fronts::begins_at, crate::proofs::Fronts::too_long_at, crate::proofs::Fronts::not_whole_at))]
 fn first_frame(bytes: &[u8]) -> Result<Option<(&[u8], usize)>, WireFault>
     ensures whole { IfOk result (λ o. IfSome o (λ x. BeginsWith bytes.now x.0.now (drop x.1 bytes.now))) }
@@ -70,8 +70,8 @@ fn first_frame(bytes: &[u8]) -> Result<Option<(&[u8], usize)>, WireFault>
     Ok(Some((whole, LENGTH_BYTES + length)))
 }
 
-/// The message in front of the bytes and how many bytes its frame has, none where no whole frame is
-/// there; or the fault that stands in its place.
+/// The message in front of the bytes and how many bytes its frame has; none if no whole frame is
+/// there. Or the fault that stands in its place.
 #[tactic(auto, using(crate::proofs::Fronts::fault_in_front, crate::proofs::Fronts::length_fault, crate::proofs::Fronts::message_in_front))]
 fn front(alloc: Global, bytes: &[u8]) -> Result<Option<(Message, usize)>, WireFault>
     ensures whole { IfOk result (λ o. IfSome o (λ x. IsFront bytes.now (Whole x.0 (drop x.1 bytes.now)))) }
@@ -88,7 +88,7 @@ fn front(alloc: Global, bytes: &[u8]) -> Result<Option<(Message, usize)>, WireFa
     }
 }
 
-/// The fault, where it is one of the stream.
+/// The fault, if it is one of the stream.
 fn lasting(fault: WireFault) -> Option<WireFault>
     ensures { result ≡ lasting_of fault }
 {
@@ -110,8 +110,8 @@ impl Feed {
         }
     }
 
-    /// Takes the next piece of the stream, which is passed over after a fault. Want of memory
-    /// leaves the feed as it was.
+    /// Takes the next piece of the stream, which is ignored after a fault. If out of memory the
+    /// feed is as it was.
     #[tactic(auto, using(crate::proofs::Feeds::fed_open, crate::proofs::Feeds::fed_failed))]
     pub fn feed(&mut self, piece: &[u8]) -> Result<(), AllocError>
         ensures fed { OnOk result (self.new ≡ fed self.old piece.now) }
@@ -135,11 +135,11 @@ impl Feed {
         self.held.is_empty()
     }
 
-    /// The next message of the stream, none where no whole frame is there. The first fault that
-    /// stands in a message's place is answered then and at each later call: `TooLong` as soon as
-    /// the four bytes of a length are there that is above 65,536, the others once the whole frame
-    /// is there, in this order: `BadBody` where it has no kind, `BadVersion`, `BadKind`, `BadBody`
-    /// where it is spelt as no message is. `OutOfMemory` leaves the feed as it was.
+    /// The next message of the stream; none if no whole frame is there. The first fault that stands
+    /// in a message's place is answered then and at each later call. The fault is `TooLong` as soon
+    /// as the four bytes of a length above 65,536 are there. The others come once the whole frame
+    /// is there, in this order: `BadBody` if it has no kind, `BadVersion`, `BadKind`, `BadBody` if
+    /// it is not spelt as a message is. `OutOfMemory` leaves the feed as it was.
     #[tactic(auto, using(crate::proofs::Feeds::same_fault, crate::proofs::Feeds::next_none, crate::proofs::Feeds::next_some, crate::proofs::Feeds::next_fault, crate::proofs::Feeds::is_lasting))]
     pub fn next(&mut self) -> Result<Option<Message>, WireFault>
         ensures { IsNext self.old self.new result }

@@ -30,7 +30,7 @@ pub fn every_message_fits()
     ensures { EveryMessageFits }
 {}
 
-/// However a stream is cut, its messages and its end are the same: what a feed answers of its
+/// However a stream is cut, its messages and its end are the same. What a feed answers of its
 /// beginning, and then of what it held with the bytes that follow, is what the whole stream says.
 pub fn cutting_changes_nothing()
     ensures { CuttingChangesNothing }
@@ -47,9 +47,9 @@ pub fn frames_are_read_again()
     ensures { FramesAreReadAgain }
 {}
 
-/// Whatever pieces a feed was given, and whenever it was asked: what it answered, and then what the
-/// bytes that it holds say, is what all its pieces say as one stream; a fault that it answers is
-/// that stream's.
+/// It does not matter which pieces a feed was given and when it was asked. What it answered, and
+/// then what the bytes that it holds say, is what all its pieces say as one stream. A fault that it
+/// answers is that stream's.
 pub fn feeds_answer_their_stream()
     ensures { FeedsAnswerTheirStream }
 {}

@@ -8,8 +8,8 @@ use crate::{Feed, WireFault};
 use rapid_message::Message;
 use std::alloc::{AllocError, Global};
 
-/// The message whose frame these bytes are, read by a feed of its own. The caller sees that they are
-/// the one spelling of a message, so only memory can be wanting.
+/// The message whose frame these bytes are, read by a feed of its own. The caller ensures that they
+/// are the one spelling of a message, so only memory can be missing.
 #[tactic(auto, using(crate::proofs::Alone::its_message, crate::proofs::Alone::never_none, crate::proofs::Alone::never_faulty))]
 pub fn read_frame(alloc: Global, frame: &[u8]) -> Result<Message, AllocError>
     requires { (m : ModelMessage) × IsFrame frame.now m }
