@@ -105,7 +105,7 @@ pub not_observed : (s : StoredWorld) (id : List ℕ) (k : ℕ) (ok : Bool) (i : 
     event_refusal s (Probe id k ok) ≡ Some NotObserved
 not_observed s id k ok i p isopen e at none = probe_refusal s id k ok i p isopen e at ∙ ap (λ o. cond (is_some o) None (Some NotObserved)) none
 
--- where memory is wanting to see whom a node observes
+-- if memory runs out before it is seen whom a node observes
 pub probe_unseen : (s : StoredWorld) (id : List ℕ) (k : ℕ) (ok : Bool) (i : ℕ) → Open s → running_under (world_of s) id ≡ Some i →
     (event_refusal s (Probe id k ok) ≡ None) ⊎ (event_refusal s (Probe id k ok) ≡ Some NotObserved)
 probe_unseen s id k ok i isopen e =

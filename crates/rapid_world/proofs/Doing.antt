@@ -119,7 +119,7 @@ pub new_acts : (log : List Entry) (n : Node) (a : Act) (acts : List Act) → rep
     reports_of (drop (length log) (log ++ map (entry n) (a ∷ acts))) ≡ reports_of (map (entry n) acts)
 new_acts log n a acts quiet = ap reports_of (behind log (map (entry n) (a ∷ acts))) ∙ ap (λ r. r ++ reports_of (map (entry n) acts)) quiet
 
--- what is read off a world, where the peer at a place was replaced
+-- what is read off a world in which the peer at a place was replaced
 pub record Read (w v : World) (i : ℕ) (d : Handed) : Type 0 where
   pub peers : v.peers ≡ slice_set w.peers i d.peer
   pub packets : v.packets ≡ w.packets ++ d.packets

@@ -107,7 +107,7 @@ other f xs place x only at fails j y h ok =
     let same : x ≡ y = some_is (at ∙ ap (There xs) (only j y h ok) ∙ h) in
     differ (ap f same ∙ ok) fails
 
--- nobody stands there
+-- no peer is at that place
 nowhere : {A : Type 0} (f : A → Bool) (xs : List A) (place : Option ℕ) → IsOnlyAt f xs place → None ≡ There xs place → NonePasses f xs
 nowhere f xs place only at j y h ok = let no : None ≡ Some y = at ∙ ap (There xs) (only j y h ok) ∙ h in cc
 

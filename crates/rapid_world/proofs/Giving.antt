@@ -82,7 +82,7 @@ pub nothing_more : (ps : List FramedPacket) → ps ≡ ps ++ []
 nothing_more [] = refl
 nothing_more (p ∷ ps) = ap (λ l. p ∷ l) (nothing_more ps)
 
--- a step that says nothing
+-- a step that sends nothing
 pub none_more : (sent : List FramedPacket) (ps : List Packet) → ps ≡ [] → sent ≡ sent ++ map framed_packet ps
 none_more sent ps none = nothing_more sent ∙ sym (ap (λ (l : List Packet). sent ++ map framed_packet l) none)
 

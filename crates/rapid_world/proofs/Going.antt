@@ -198,7 +198,7 @@ settles n s w keeps room = by w.decided
     by None = refl
     by (Some v) = ap (λ b. is_some (cond b None (Some (put_before w.effects (install n w.state v))))) full
 
--- where an edge goes down nothing is decided
+-- if an edge goes down nothing is decided
 pub edge_goes : (n : Node) (id : ConfigurationId) (k : ℕ) (q : Process) → is_some (node_step n (EdgeDown id k q)) ≡ true
 unfolding node_step settle
 edge_goes n id k q = by n.phase

@@ -1,4 +1,4 @@
--- A node of a run keeps what it shows, unless it installs something.
+-- A node of a run keeps its configuration, unless it installs something.
 use Rattle.std.proofs.Common.{◌≡◌, ℕ, Bool, true, false, List, [], ◌∷◌, ◌++◌, length, refl, sym, ap, subst, ◌∙◌, Option, Some, None}
 use Rattle.std.specs.Prelude.{nat_lt}
 use Rattle.rapid_model.specs.Configuration.{Configuration, Stamp, stamp}
@@ -13,7 +13,7 @@ use Rattle.rapid_safety.proofs.Lived.{JoinerSteps, joins_still, joins, joiner_st
 use Rattle.rapid_safety.proofs.Steps.{StandsAt, Comes}
 use Rattle.rapid_world.specs.Handed.{Keeps, KeepsAt}
 
--- where it shows the same, it would halt the same
+-- if its configuration is the same, it would halt the same
 halts_alike : (n : Node) {c d : Option Configuration} → c ≡ d → record n { phase = Halted c } ≡ record n { phase = Halted d }
 halts_alike n e = ap (λ c. record n { phase = Halted c }) e
 

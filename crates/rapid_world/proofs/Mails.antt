@@ -78,7 +78,7 @@ rest : (k : ℕ) (s : Sent) (ss : List Sent) (i : ℕ) → Parts k (s ∷ ss) (s
 unfolding Parts
 rest k s ss i h = (λ j d l. h.0 (suc j) d (omega arith), λ j d le l. h.1 (suc j) d (omega arith) (omega arith))
 
--- where no step is left, or the next begins after the packet, the packet is none of the rest
+-- if no step is left, or the next begins after the packet, the packet is none of the rest
 none_after : (n k : ℕ) (ss : List Sent) (total : ℕ) (m : ℕ) → AreNumbered n ss total → n < k → Parts k ss 0 → slice_get (all_packets ss) m ≡ None
 unfolding Parts
 none_after n k [] total m h l p = refl
@@ -120,7 +120,7 @@ zero_or_not k x h = by (k == 0) refl
     by true e = refl
     by false e = h (Prim.grind (arith, e))
 
--- where no step begins before the packet, there is none
+-- if no step begins before the packet, there is none
 pub none_before : (ss : List Sent) (total k i : ℕ) → AreNumbered 0 ss total → Points k ss i → i ≡ 0 → numbered_packet (all_packets ss) k ≡ None
 none_before ss total k i h p e = zero_or_not k _ (λ some. none_after 0 k ss total (k - 1) h some (subst (Parts k ss) e (parts k ss i p)))
 

@@ -61,6 +61,6 @@ pub stops : (rs : List Process) (os : List FramedOutput) (i : ℕ) (d : FramedOu
     slice_get (made rs (drop i os)) n ≡ slice_get (frames_of rs (get_or os i d)) n
 stops rs os i d n h within = ap (λ l. slice_get l n) (made_more rs os i d h) ∙ get_left (frames_of rs (get_or os i d)) (made rs (drop (i + 1) os)) n within
 
--- and none where no output is left
+-- and none if no output is left
 pub none_left : (rs : List Process) (os : List FramedOutput) (i n : ℕ) → length os ≤ i → slice_get (made rs (drop i os)) n ≡ None
 none_left rs os i n h = ap (λ l. slice_get (made rs l) n) (drop_all i os h)

@@ -36,7 +36,7 @@ whom_observed c me k d o e h = subst (λ x. o ≡ option_map (λ (y : Configurat
 
 -- ---- what becomes of the edge
 
--- where there is a window it is the one that is probed
+-- if there is a window, it is the one that is probed
 pub probed_here : (m : Monitors) (k : ℕ) (ok : Bool) (e : Edge) → edge_at m k ≡ Some e → probed_at m k ok ≡ slice_set m k (Some (probed (edge_on m k) ok))
 probed_here m k ok e h =
     ap (λ o. slice_set m k (option_map (λ (x : Edge). probed x ok) o)) h
@@ -64,7 +64,7 @@ fresh_left b n k e = by n.phase b
     by (Member s) true t g = refl
     by (Member s) false t g = cc
 
--- the peer after a probe, where its windows were these
+-- the peer after a probe, if its windows were these
 pub probed_peer : (ws : Windows) (n : Node) (crashed : Bool) (m after : Monitors) (p : Peer) (k : ℕ) (ok : Bool) → peer_of n crashed ws ≡ p →
     m ≡ windows_of ws n → after ≡ slice_set m k (Some (probed (edge_on m k) ok)) → peer_of n crashed (Kept after) ≡ with_edge p k (probed (edge_on p.edges k) ok)
 probed_peer ws n crashed m after p k ok v is h =

@@ -61,7 +61,7 @@ pub one_taken : (s t u : StoredWorld) (es : List model.WorldEvent) (n w wants : 
     RunsTo s (es ++ e ∷ []) (n + 1) (w + wants) u
 one_taken s t u es n w wants e r run stores is = subst (λ k. RunsTo s (es ++ e ∷ []) (n + 1) (w + k) u) (sym (is ∙ ap wants_of (mark_stored t u e r stores))) (one_accepted s t u es n w e r run stores)
 
--- an event more that is passed over
+-- an event more that is skipped
 pub one_passed : (s t : StoredWorld) (es : List model.WorldEvent) (n w : ℕ) (e : model.WorldEvent) (why : WorldError) → RunsTo s es n w t → Refuses (event_refusal t e) why → RunsTo s (es ++ e ∷ []) (n + 0) (w + error_wants why) t
 one_passed s t es n w e why run bars = by why bars
   where
@@ -77,7 +77,7 @@ one_passed s t es n w e why run bars = by why bars
     by EventsFull h = refused refusal.EventsFull h
     by OutOfMemory h = counted s t (es ++ e ∷ []) n (n + 0) (w + 1) (w + 1) (omega arith) refl (one_lacking s t es n w e run h)
 
--- ---- where memory was refused 0 times
+-- ---- if memory ran out 0 times
 
 pub run_exact : (s t : StoredWorld) (es : List model.WorldEvent) (n w : ℕ) → RunsTo s es n w t → w ≡ 0 → t ≡ run_by s es
 run_exact _ _ _ _ _ (ends s) z = refl

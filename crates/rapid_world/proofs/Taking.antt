@@ -172,7 +172,7 @@ none_framed p e h stops = subst (All HasFrame) (sym (no_packets p e h stops)) (A
 pub tells_halt : (p : Peer) (e : Event) (h : Bool) (id : List ℕ) (rep : List WorldReport) → handed p e h ≡ stopped p → id ≡ identifier p.node.me → rep ≡ ReportHalted id ∷ [] → rep ≡ (handed p e h).reports
 tells_halt p e h id rep stops is made = made ∙ ap (λ i. ReportHalted i ∷ []) is ∙ sym (ap (λ (x : Handed). x.reports) stops)
 
--- ---- a step that says nothing
+-- ---- a step that sends nothing
 
 -- nothing is sent or reported
 pub quiet_step : (p : Peer) (e : Event) (n new : Node) (sent : List Output) → n ≡ p.node → There n e new sent → IsQuiet p.node e → (sent ≡ []) × (has_installed n new ≡ false)

@@ -38,8 +38,8 @@ code_of NotObserved = 5
 code_of EventsFull = 6
 code_of OutOfMemory = 7
 
--- The error says exactly why the event is refused. Want of memory of the world itself is answered only where the event is not
--- refused, or where nobody is observed, which takes memory to see.
+-- The error says exactly why the event is refused. Out of memory means that the world itself had none. It is answered
+-- only if the event is not refused, or if no process is observed, which takes memory to see.
 abbrev pub Refuses : Option refusal.WorldRefusal → WorldError → Type 0
 Refuses r IdentifierUsed = r ≡ Some refusal.IdentifierUsed
 Refuses r EndpointBusy = r ≡ Some refusal.EndpointBusy

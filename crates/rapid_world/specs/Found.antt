@@ -1,4 +1,4 @@
--- By what the peers of a world are found.
+-- The keys by which the peers of a world are found.
 use Rattle.std.proofs.Common.{ap}
 use Rattle.std.specs.Prelude.{◌≡◌, ℕ, Bool, true, List, [], ◌∷◌, IsTrue, slice_get, Option, Some}
 use Rattle.std.specs.Coded.{Coded, coded_ℕ}

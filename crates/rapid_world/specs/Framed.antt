@@ -47,12 +47,12 @@ frames_to others bytes (To e) = frame_to bytes e ∷ []
 frames_to others bytes Others = map (λ p. frame_to bytes (endpoint p)) others
 frames_to others bytes Itself = []
 
--- The packets of a framed output, where these are the other members.
+-- The packets of a framed output; what goes to the others goes to these members.
 abbrev pub frames_of : List Process → FramedOutput → List FramedPacket
 frames_of others o = frames_to others o.bytes o.to
 
--- An endpoint and bytes are where a packet goes and the frame of its message, that is the one spelling of it; there are none
--- where there is no such packet.
+-- The endpoint to which a packet goes, and the frame of its message, which is the one spelling of it; none if there is
+-- no such packet.
 abbrev pub IsFrameOf : Option Packet → Option (Endpoint × List ℕ) → Type 0
 IsFrameOf None None = Unit {0}
 IsFrameOf None (Some x) = ⊥

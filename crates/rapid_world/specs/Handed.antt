@@ -23,7 +23,7 @@ pub record Handed : Type 0 where
 abbrev pub sent_by : Node → List Output → List Packet
 sent_by n os = flat_map (packets_of (other_members (member_in n) n.me)) os
 
--- Its node halts, and says nothing.
+-- Its node halts, and sends nothing.
 abbrev pub stopped : Peer → Handed
 stopped p = record { peer = record p { node = halt p.node }; packets = []; reports = ReportHalted (identifier p.node.me) ∷ [] }
 
@@ -41,12 +41,12 @@ abbrev pub stepped : Peer → Option Outcome → Handed
 stepped p None = stopped p
 stepped p (Some o) = went_on p o
 
--- Its node takes an event, unless it halts for want of memory.
+-- Its node takes an event, unless it halts because it is out of memory.
 unfoldable pub handed : Peer → Event → Bool → Handed
 handed p e halts = if halts then stopped p else stepped p (node_step p.node e)
 
--- A node keeps its process, and unless it installs something it goes on to show, and to be a member in, the same configuration,
--- and would halt as it would have halted before.
+-- A node keeps its process. Unless it installs something, it keeps its configuration, is a member in the same one, and
+-- would halt as it would have halted before.
 pub record Keeps (old new : Node) : Type 0 where
   pub me : new.me ≡ old.me
   pub shown : has_installed old new ≡ false → configuration_of new ≡ configuration_of old
@@ -57,13 +57,13 @@ pub record Keeps (old new : Node) : Type 0 where
 abbrev pub KeepsAt : Node → Event → Type 0
 KeepsAt n e = (o : Outcome) → node_step n e ≡ Some o → Keeps n o.node
 
--- The fault is want of memory.
+-- The fault is out of memory.
 abbrev pub wants_memory : NodeFault → Bool
 wants_memory fault.Halted = false
 wants_memory fault.OutOfMemory = true
 wants_memory fault.HistoryFull = false
 
--- A peer with a further result of a probe on a ring; where the edge is down its node is told.
+-- A peer with a further result of a probe on a ring; if the edge is down, its node is told.
 unfoldable pub told : Peer → ℕ → Bool → Event → Bool → Handed
 told p k ok down halts =
     if (probed (edge_on p.edges k) ok).is_down then handed (with_edge p k (probed (edge_on p.edges k) ok)) down halts

@@ -1,4 +1,4 @@
--- To whom a node's words to the others go.
+-- The recipients of what a node sends to the others.
 use Rattle.std.specs.Prelude.{ℕ, suc, List, [], ◌++◌, take, drop, length, ◌<◌, Option, Some, None}
 use Rattle.rapid_model.specs.Process.{Process}
 use Rattle.rapid_model.specs.Configuration.{Configuration}

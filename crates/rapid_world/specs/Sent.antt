@@ -12,7 +12,8 @@ pub record Sent : Type 0 where
 abbrev pub all_packets : List Sent → List FramedPacket
 all_packets ss = flat_map (λ s. s.packets) ss
 
--- After n packets these steps follow, each of which begins where the one before ends; so many were sent in the end.
+-- After n packets these steps follow, each of which begins where the one before ends. The last number is how many were
+-- sent in the end.
 abbrev pub AreNumbered : ℕ → List Sent → ℕ → Type 0
 AreNumbered n [] total = total ≡ n
 AreNumbered n (s ∷ ss) total = (s.first ≡ n) × AreNumbered (n + length s.packets) ss total

@@ -21,6 +21,6 @@ pub record IsRunOf (s : StoredWorld) (ps : List Peer) (sent : List FramedPacket)
 abbrev pub observed_by : World → List ℕ → ℕ → Option Process
 observed_by w id k = option_map (λ x. x.1) (option_and_then (λ p. observed p k) (peer_at w (running_under w id)))
 
--- The identifier of a peer, where it runs.
+-- The identifier of a peer, if it runs.
 abbrev pub running_id : Peer → List (List ℕ)
 running_id p = if is_running p then identifier p.node.me ∷ [] else []

@@ -22,7 +22,7 @@ pub enum WorldError {
     /// No packet with this number was sent.
     #[error("no such packet was sent")]
     NoSuchPacket,
-    /// The node observes nobody on the ring.
+    /// The node observes no member on the ring.
     #[error("the node observes nobody on the ring")]
     NotObserved,
     /// 1,000,000 events were accepted.

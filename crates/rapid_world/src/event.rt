@@ -8,8 +8,8 @@ use rapid_endpoint::{Endpoint, Process, ProcessId};
 pub enum WorldEvent {
     /// The process starts to join by the seed at this endpoint.
     Start(Process, Endpoint),
-    /// The node has this result of a probe of whom it observes on the ring, from 0: whether it was
-    /// answered.
+    /// A probe by the node of the member that it observes on this ring, from 0, has finished. The
+    /// result is whether it was answered.
     Probe(ProcessId, u8, bool),
     /// The clock of the node ticks.
     Tick(ProcessId),

@@ -46,7 +46,7 @@ fn founders_of(
 impl World {
     #[tactic(auto, using(crate::proofs::Founders::founded_run))]
     /// A world of these founders, in the configuration of height 0 with these parameters. The
-    /// caller sees that they can be founders: at least one, at most 1,024, with ascending
+    /// caller ensures that they can be founders: at least one, at most 1,024, with ascending
     /// identifiers and no endpoint twice.
     pub fn new(alloc: Global, params: Params, founders: &[Process]) -> Result<World, AllocError>
         requires some { 1 ≤ length founders.now }

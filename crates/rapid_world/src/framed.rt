@@ -10,8 +10,8 @@ use rapid_wire::encode;
 use std::alloc::{AllocError, Global};
 use std::marker::Model;
 
-/// A frame that goes out, and where it goes. A frame does not say to whom it goes, so one serves
-/// for all to whom a message goes.
+/// A frame that goes out, and its destination. A frame does not name its recipient, so one frame
+/// serves for all recipients of a message.
 #[derive(Debug, Drop)]
 pub(crate) struct FramedOutput {
     to: Destination,
@@ -49,8 +49,8 @@ fn frame_of(bytes: Vec<u8>, last: Option<&Bytes>) -> Result<Bytes, AllocError>
 }
 
 impl FramedOutput {
-    /// The output with the frame of its message, which shares the memory of the last frame where
-    /// they are equal.
+    /// The output with the frame of its message, which shares the memory of the last frame if they
+    /// are equal.
     #[tactic(auto, using(crate::proofs::Framing::framed_is, crate::proofs::Framing::can_be_framed))]
     fn of(alloc: Global, output: &Output, last: Option<&Bytes>) -> Result<FramedOutput, AllocError>
         ensures value { IfOk result (λ framed. framed ≡ framed_output output.now) }
@@ -64,7 +64,7 @@ impl FramedOutput {
         })
     }
 
-    /// Where the frame goes.
+    /// The destination of the frame.
     pub(crate) fn to(&self) -> Destination
         ensures { destination_of result ≡ self.now.to }
     {
@@ -86,7 +86,7 @@ impl FramedOutput {
     }
 }
 
-/// These outputs with the frames of their messages. A frame shares the memory of the last one where
+/// These outputs with the frames of their messages. A frame shares the memory of the last one if
 /// they are equal.
 pub(crate) fn frame_all(
     alloc: Global,

@@ -80,8 +80,8 @@ pub(crate) fn hand(
     speak(alloc, views, peer, mail, event)
 }
 
-/// A peer has a further result of a probe of its edge to a process; where the edge is down its node
-/// is told, which says nothing by it.
+/// A peer has a further result of a probe of its edge to a process. If the edge is down, its node
+/// is told, and sends nothing at that.
 #[tactic(auto, unfolding(crate::specs::Handed::told))]
 pub(crate) fn probe(
     alloc: Global,

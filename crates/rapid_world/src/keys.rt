@@ -1,4 +1,4 @@
-// What nodes are found by.
+// The keys by which nodes are found.
 
 ghost use Rattle.std.specs.Prelude.{◌≡◌, [], ◌∷◌};
 ghost use Rattle.std.specs.Cmp.{partial_equiv_from_equiv};

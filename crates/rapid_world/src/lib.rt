@@ -1,5 +1,5 @@
 //! A world of many nodes and the packets between them: a deterministic simulator of a whole
-//! cluster, on whose every run the agreement of the service (Rapid, USENIX ATC 2018) holds by
+//! cluster. The agreement of the service (Rapid, USENIX ATC 2018) holds on each of its runs, by
 //! contract.
 #![tactic(auto)]
 

@@ -120,7 +120,7 @@ pub(crate) fn find_under<'a>(
     }
 }
 
-/// Appends the identifier of the peer, where it runs.
+/// Appends the identifier of the peer, if it runs.
 fn push_running(ids: &mut Vec<ProcessId>, peer: &Peer) -> Result<(), AllocError>
     ensures { OnOk result (ids.new.items ≡ ids.old.items ++ running_id peer.now) }
 {

@@ -86,7 +86,7 @@ impl Mail {
         push_within(&mut self.sendings, sending);
     }
 
-    /// The packet with a number: where it goes, and its frame.
+    /// The packet with a number: its endpoint and its frame.
     pub(crate) fn packet(&self, number: u64) -> Option<(Endpoint, &[u8])>
         ensures { option_map (λ x. frame_to x.1.now x.0) result ≡ numbered_packet self.now.packets number }
     {

@@ -46,7 +46,8 @@ pub(crate) fn has_outcome(node: &Node, event: &Event) -> Result<bool, AllocError
     }
 }
 
-/// Whether an event is marked by which a node halted or not: it has an outcome without the mark.
+/// Whether the event by which a node halted is marked: it is if the node has an outcome without the
+/// mark.
 pub(crate) fn is_marked(halts: bool, has_outcome: bool) -> bool
     ensures { result ≡ (halts && has_outcome) }
 {

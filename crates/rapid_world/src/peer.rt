@@ -33,7 +33,7 @@ pub(crate) struct Peer {
     node: Node,
     crashed: bool,
     windows: Windows,
-    // the frame that it sent last: who is late is told the same again and again
+    // the frame that it sent last: a node that is late is sent the same decision again and again
     last: Option<Bytes>,
 }
 
@@ -71,7 +71,7 @@ fn keep_last(last: &mut Option<Bytes>, sent: Option<Bytes>) {
     }
 }
 
-/// Whether a node halted for want of memory.
+/// Whether a node halted because it was out of memory.
 fn is_want_of_memory(fault: NodeFault) -> bool
     ensures { result ≡ wants_memory fault }
 {
@@ -136,7 +136,7 @@ impl Peer {
         self.crashed = true;
     }
 
-    /// Its node takes an event by which it says nothing, by views that nodes share. It takes no
+    /// Its node takes an event at which it sends nothing, by views that nodes share. It takes no
     /// memory but the node's own.
     pub(crate) fn take_quietly(&mut self, views: &mut Views, event: &Event) -> Told
         requires runs { model.is_halted self.old.node ≡ false }
@@ -160,9 +160,9 @@ impl Peer {
         }
     }
 
-    /// Its node takes an event, after so many packets were sent, by views that nodes share. A copy
-    /// makes the step, and takes the node's place once the frames of what it sends are there: want
-    /// of memory for these changes nothing.
+    /// Its node takes an event, after `first` packets were sent, by views that nodes share. A copy
+    /// makes the step, and takes the node's place once the frames of what it sends are there. So if
+    /// there is no memory for these, nothing has changed.
     pub(crate) fn take(
         &mut self,
         alloc: Global,
@@ -214,8 +214,8 @@ impl Peer {
         }
     }
 
-    /// Its probe of whom its node observes on a ring has this result. Says whether the edge is
-    /// down.
+    /// Takes the result of a probe of the member that its node observes on a ring. The answer is
+    /// whether the edge is down.
     #[tactic(auto)]
     pub(crate) fn probe(&mut self, alloc: Global, ring: u8, ok: bool) -> Result<bool, AllocError>
         requires member { is_some (model.member_in self.old.node) ≡ true }
@@ -232,7 +232,7 @@ impl Peer {
     }
 }
 
-/// The windows of a member's node, which are made where they are fresh.
+/// The windows of a member's node; they are made if they are still fresh.
 #[tactic(auto, using(crate::proofs::Probing::fresh_left))]
 fn monitors_of(alloc: Global, windows: Windows, node: &Node) -> Result<Monitors, AllocError>
     requires member { is_some (model.member_in node.now) ≡ true }

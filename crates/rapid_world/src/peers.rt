@@ -58,7 +58,7 @@ impl Model for Peers {
 }
 
 impl Peers {
-    /// Nobody.
+    /// No peer.
     #[tactic(auto, using(crate::proofs::Finding::none_found))]
     pub(crate) fn new(alloc: Global) -> Peers
         ensures { result ≡ [] }
@@ -111,7 +111,7 @@ impl Peers {
         find_under(self.peers.as_slice(), self.by_id.get(id), id)
     }
 
-    /// Adds one. Want of memory changes nothing that is seen.
+    /// Adds one. If out of memory, nothing changes for the caller.
     pub(crate) fn add(&mut self, peer: Peer) -> Result<(), AllocError>
         requires { IsNew self.old peer }
         ensures added { OnOk result (self.new ≡ self.old ++ peer ∷ []) }
@@ -165,8 +165,8 @@ impl Peers {
         Ok(told)
     }
 
-    /// The one at a place has a further result of a probe of its edge to a process; where the edge
-    /// is down its node is told.
+    /// The one at a place has a further result of a probe of its edge to a process; if the edge is
+    /// down, its node is told.
     pub(crate) fn probe(
         &mut self,
         place: usize,

@@ -43,7 +43,7 @@ impl PlacesById {
         self.places.get(&IdKey::new(*id)).copied()
     }
 
-    /// Sets the place by an identifier. Want of memory leaves the places as they were.
+    /// Sets the place by an identifier. If out of memory the places are as they were.
     pub(crate) fn insert(&mut self, id: ProcessId, place: usize) -> Result<(), AllocError>
         ensures ok { OnOk result (self.new ≡ finmap.insert self.old id place) }
         ensures unchanged { OnErr result (self.new ≡ self.old) }
@@ -87,7 +87,7 @@ impl PlacesByEndpoint {
         self.places.get(&EndpointKey::new(*endpoint)).copied()
     }
 
-    /// Sets the place by an endpoint. Want of memory leaves the places as they were.
+    /// Sets the place by an endpoint. If out of memory the places are as they were.
     pub(crate) fn insert(&mut self, endpoint: Endpoint, place: usize) -> Result<(), AllocError>
         ensures ok { OnOk result (self.new ≡ finmap.insert self.old endpoint place) }
         ensures unchanged { OnErr result (self.new ≡ self.old) }

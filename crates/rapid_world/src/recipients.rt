@@ -1,4 +1,4 @@
-// To whom a node's words to the others go.
+// The recipients of what a node sends to the others.
 
 ghost use Rattle.std.specs.Prelude.{◌≡◌, ◌<◌, ◌^◌, length, slice_get, suc, Some, IfOk};
 ghost use Rattle.std.specs.Option.{option_map};
@@ -12,11 +12,11 @@ use rapid_node::{Node, Phase};
 use std::alloc::{AllocError, Global};
 use std::marker::Model;
 
-/// To whom a node's words to the others go: the members of its configuration, which is shared,
-/// without the node itself.
+/// The recipients of what a node sends to the others: the members of its configuration, which is
+/// shared, without the node itself.
 #[derive(Debug, Drop)]
 pub(crate) struct Recipients {
-    // none where the node is no member
+    // none if the node is no member
     configuration: Option<Configuration>,
     // the place of the node itself
     left_out: Option<usize>,
@@ -45,7 +45,7 @@ pub(crate) fn member_configuration(node: &Node) -> Option<&Configuration>
 }
 
 impl Recipients {
-    /// To whom the words of this node go that are for the others.
+    /// The recipients of what this node sends to the others.
     pub(crate) fn of(alloc: Global, node: &Node) -> Result<Recipients, AllocError>
         ensures { IfOk result (λ recipients. recipients ≡ other_members (member_in node.now) node.now.me) }
     {
@@ -102,7 +102,7 @@ impl Recipients {
     }
 }
 
-/// The member at a place, where one at another place is left out.
+/// The member at a place, if the one at another place is left out.
 #[tactic(auto, using(crate::proofs::Others::gets_below, crate::proofs::Others::gets_above))]
 fn member_at(members: &[Process], left_out: Option<usize>, place: usize) -> Option<Process>
     ensures { result ≡ slice_get (without members.now left_out) place }

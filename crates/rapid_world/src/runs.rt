@@ -15,9 +15,8 @@ use std::mem;
 pub struct Ran {
     /// How many were accepted.
     pub accepted: usize,
-    /// How often memory was refused: to the world, which then passes over the event, or to the node
-    /// whose step it was, which halts. If it is 0, the world passed over no event but those that it
-    /// refuses.
+    /// How often memory ran out: in the world, which then skips the event, or in the step of a
+    /// node, which halts. If it is 0, the world skipped only events that it refuses.
     pub wanted: usize,
 }
 
@@ -82,10 +81,10 @@ impl World {
         ran
     }
 
-    /// Steps by these events in order, and says how many were accepted, and how often memory was
-    /// refused. An event that is not accepted is passed over and changes nothing: the world refuses
-    /// it, or had no memory for it, which is counted. If memory was refused 0 times, the world is
-    /// just what the definitions make of these events.
+    /// Steps by these events in order, and says how many were accepted, and how often memory ran
+    /// out. An event that is not accepted is skipped and changes nothing: the world refuses it, or
+    /// had no memory for it, which is counted. If memory ran out 0 times, the world is just what
+    /// the definitions make of these events.
     pub fn run_counted(&mut self, events: &[WorldEvent]) -> Ran
         ensures run { RunsTo self.old (map event_of events.now) result.accepted result.wanted self.new }
         ensures exact { result.wanted ≡ 0 → self.new ≡ run_by self.old (map event_of events.now) }
@@ -96,9 +95,9 @@ impl World {
         ran
     }
 
-    /// Steps by these events in order, and says how many were accepted. The others are passed over:
-    /// each changes nothing. That no other was passed over than those that the world refuses,
-    /// [`World::run_counted`] says.
+    /// Steps by these events in order, and says how many were accepted. The others are skipped:
+    /// each changes nothing. It does not say whether an event was skipped because memory ran out:
+    /// [`World::run_counted`] does.
     pub fn run(&mut self, events: &[WorldEvent]) -> usize
         ensures run { (wanted : ℕ) × RunsTo self.old (map event_of events.now) result wanted self.new }
         ensures holds { NoCollision (world_of self.new) → RunHolds (world_of self.new) }

@@ -47,7 +47,7 @@ fn count_of(output: &FramedOutput, recipients: &Recipients) -> u64
     }
 }
 
-/// How many packets these outputs make; none where they are too many for a number.
+/// How many packets these outputs make; none if there are too many for the number.
 #[tactic(auto, using(crate::proofs::Packets::count_more))]
 fn count_all(outputs: &[FramedOutput], recipients: &Recipients) -> Option<u64>
     ensures { IfSome result (λ count. count ≡ length (flat_map (frames_of recipients.now) outputs.now)) }
@@ -59,7 +59,7 @@ fn count_all(outputs: &[FramedOutput], recipients: &Recipients) -> Option<u64>
     Some(count)
 }
 
-/// The packet of an output at a place among those that it makes: where it goes, and its frame.
+/// The packet of an output at a place among those that it makes: its endpoint and its frame.
 #[tactic(auto, using(crate::proofs::Packets::to_others, crate::proofs::Packets::to_one))]
 fn packet_at<'a>(
     output: &'a FramedOutput,
@@ -99,7 +99,7 @@ fn find_packet<'a>(
 }
 
 impl Sending {
-    /// What was sent in a step, after so many packets; none where there are too many for a number.
+    /// What was sent in a step, after `first` packets; none if there are too many for the number.
     pub(crate) fn new(
         first: u64,
         recipients: Recipients,
@@ -131,7 +131,7 @@ impl Sending {
         self.first + self.count
     }
 
-    /// The packet at a place among these: where it goes, and its frame.
+    /// The packet at a place among these: its endpoint and its frame.
     pub(crate) fn packet(&self, place: u64) -> Option<(Endpoint, &[u8])>
         ensures { option_map (λ x. frame_to x.1.now x.0) result ≡ slice_get self.now.packets place }
     {

@@ -163,7 +163,7 @@ impl World {
         }
     }
 
-    /// A node has a result of a probe of whom it observes on a ring.
+    /// A node has the result of a probe of the member that it observes on a ring.
     fn probe(&mut self, id: ProcessId, ring: u8, ok: bool) -> Result<Vec<Report>, WorldError>
         requires { nat_lt (accepted self.old) 1000000 ≡ true }
         ensures stored { IfOk result (λ reports. StoresEvent self.old self.new (model.Probe id ring ok) (map report_of reports.items)) }
@@ -182,18 +182,18 @@ impl World {
         }
     }
 
-    /// One step by an event, and what it reports. A node that halts in it, for want of memory or
-    /// room for a further view, is no error: the event is accepted.
+    /// One step by an event, and what it reports. A node that halts in it, since it is out of
+    /// memory or has no room for a further view, is no error: the event is accepted.
     ///
     /// # Errors
     ///
-    /// `EventsFull` where 1,000,000 events were accepted, which is tested first. At a start
-    /// `IdentifierUsed` where a node ever had the identifier, then `EndpointBusy` where one runs at
-    /// the endpoint. `NoSuchNode` where none runs under the identifier, or at the endpoint of the
-    /// packet; before the latter `NoSuchPacket` where none with the number was sent. `NotObserved`
-    /// where the node observes nobody on the ring. `OutOfMemory` where the world itself has no
-    /// memory for the event, to read the frame of a packet or to write those that its node sends,
-    /// or to see whom the node observes. Each leaves the world as it was.
+    /// `EventsFull` if 1,000,000 events were accepted, which is tested first. At a start
+    /// `IdentifierUsed` if a node ever had the identifier, then `EndpointBusy` if one runs at the
+    /// endpoint. `NoSuchNode` if none runs under the identifier, or at the endpoint of the packet;
+    /// before the latter `NoSuchPacket` if none with the number was sent. `NotObserved` if the node
+    /// observes no member on the ring. `OutOfMemory` if the world itself has no memory: for the
+    /// event, to read the frame of a packet, to write those that its node sends, or to see whom the
+    /// node observes. Each leaves the world as it was.
     pub fn step(&mut self, event: &WorldEvent) -> Result<Vec<Report>, WorldError>
         ensures stored { IfOk result (λ reports. StoresEvent self.old self.new (event_of event.now) (map report_of reports.items)) }
         ensures refused { IfErr result (Refuses (event_refusal self.old (event_of event.now))) }

@@ -20,7 +20,8 @@ use rapid_message::Output;
 use rapid_node::Node;
 use std::alloc::{AllocError, Global};
 
-/// What comes of an event: whether the node halts in it for want of memory, and what it reports.
+/// What comes of an event: whether the node halts in it because it is out of memory, and what it
+/// reports.
 #[derive(Debug, Drop)]
 pub(crate) struct Told {
     pub(crate) halts: bool,
@@ -39,7 +40,7 @@ impl Told {
         }
     }
 
-    /// The node halts, for want of memory or not.
+    /// The node halts, because it is out of memory or for another reason.
     pub(crate) fn halted(id: ProcessId, halts: bool) -> Told
         ensures halts { result.halts ≡ halts }
         ensures report { option_to_list (option_map report_of result.report) ≡ ReportHalted id ∷ [] }
@@ -58,8 +59,8 @@ pub(crate) struct Taken {
     pub(crate) sending: Option<Sending>,
 }
 
-/// What a node sends by these outputs, after so many packets, if it sends anything. A frame shares
-/// the memory of the last one where they are equal.
+/// What a node sends by these outputs, if it sends anything; `first` packets were sent before. A
+/// frame shares the memory of the last one if they are equal.
 #[tactic(auto, using(crate::proofs::Framing::frames_are, crate::proofs::Framing::have_frames))]
 fn sending_of(
     alloc: Global,
@@ -83,7 +84,7 @@ fn sending_of(
     }
 }
 
-/// What a node reports that had installed so many views before its step.
+/// What a node reports that had installed `before` views before its step.
 fn report_after(alloc: Global, node: &Node, before: usize) -> Result<Option<Report>, AllocError>
     ensures { IfOk result (λ report. option_to_list (option_map report_of report)
         ≡ (if nat_lt before (length node.now.installed) then installed_report node.now (configuration_of node.now) else [])) }
@@ -101,7 +102,7 @@ fn report_after(alloc: Global, node: &Node, before: usize) -> Result<Option<Repo
 }
 
 impl Taken {
-    /// What comes of it where the node halts, for want of memory or not.
+    /// What comes of it if the node halts, because it is out of memory or for another reason.
     pub(crate) fn halted(id: ProcessId, halts: bool) -> Taken
         ensures halts { result.told.halts ≡ halts }
         ensures report { option_to_list (option_map report_of result.told.report) ≡ ReportHalted id ∷ [] }
@@ -114,8 +115,8 @@ impl Taken {
         }
     }
 
-    /// What comes of it where the node makes a step from one state to another: it sends by these
-    /// outputs, after so many packets. A frame shares the memory of the last one where they are
+    /// What comes of it if the node makes a step from one state to another and has these outputs;
+    /// `first` packets were sent before. A frame shares the memory of the last one if they are
     /// equal.
     pub(crate) fn of(
         alloc: Global,

@@ -1,4 +1,4 @@
-// What a world shows.
+// What can be read off a world.
 
 ghost use Rattle.std.specs.Prelude.{◌≡◌, length, slice_get, IfOk};
 ghost use Rattle.std.specs.List.{find};
@@ -16,8 +16,8 @@ use rapid_node::Node;
 use std::alloc::AllocError;
 
 impl World {
-    /// An event that it accepted, from 0 in order, and whether its node halted in it for want of
-    /// memory.
+    /// An event that it accepted, from 0 in order, and whether its node halted in it because it was
+    /// out of memory.
     pub fn event(&self, i: usize) -> Option<(WorldEvent, bool)>
         ensures { option_map marked_of result ≡ slice_get self.now.events i }
     {
@@ -46,8 +46,8 @@ impl World {
         self.mail().sent()
     }
 
-    /// The packet with this number, from 1: the endpoint to which it goes, and its frame, the one
-    /// spelling of its message; none where no packet with the number was sent.
+    /// The packet with this number, from 1: the endpoint to which it goes, and its frame, which is
+    /// the one spelling of its message. None if no packet with the number was sent.
     #[tactic(auto, using(crate::proofs::Framing::frame_of_packet))]
     pub fn frame(&self, packet: u64) -> Option<(Endpoint, &[u8])>
         ensures { IsFrameOf (model.packet (world_of self.now) packet) (option_map (λ x. (x.0, x.1.now)) result) }
@@ -65,8 +65,8 @@ impl World {
         }
     }
 
-    /// The member that a node observes on a ring, from 0; none where no node runs under the
-    /// identifier, or it observes nobody.
+    /// The member that a node observes on a ring, from 0; none if no node runs under the
+    /// identifier, or if it observes no member there.
     pub fn observed(&self, id: &ProcessId, ring: u8) -> Result<Option<Process>, AllocError>
         ensures { IfOk result (λ subject. subject ≡ observed_by (world_of self.now) id.now ring) }
     {

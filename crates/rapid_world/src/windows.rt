@@ -8,7 +8,7 @@ use rapid_monitor::Monitors;
 /// The probe windows of a peer. They are made when its first probe in a configuration comes.
 #[derive(Drop)]
 pub(crate) enum Windows {
-    /// As they are where its node has come to.
+    /// As they are when its node enters a configuration.
     Fresh,
     /// As they were when its node halted, a member or not.
     Left(bool),

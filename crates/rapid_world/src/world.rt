@@ -37,7 +37,7 @@ const MOST_EVENTS: usize = 1_000_000;
 
 /// A world of many nodes and the packets between them, which runs by events. Its value is how it
 /// was founded and the events that it accepted, each with the mark whether its node halted in it
-/// for want of memory.
+/// because it was out of memory.
 #[derive(Drop)]
 pub struct World {
     founding: Configuration,
@@ -80,7 +80,7 @@ impl World {
         }
     }
 
-    /// What is promised of each world: its founders can be founders, and where no two different
+    /// What is promised of each world. Its founders can be founders. If no two different
     /// configurations that nodes installed share an identifier, all that holds of runs holds of its
     /// run. It does nothing: what it ensures is for proofs.
     #[tactic(auto, using(crate::proofs::Holding::run_holds))]
@@ -122,7 +122,7 @@ impl World {
         &self.founding
     }
 
-    /// Where it takes memory from.
+    /// The allocator of its memory.
     pub(crate) fn alloc(&self) -> Global {
         self.alloc
     }
