@@ -13,7 +13,7 @@ use std::sync::{Mutex, Wait};
 use std::test::*;
 
 /// Of these jobs, which a clerk of this ledger was given in a world of process 1: how many it did,
-/// how many it passed over, and why it ended.
+/// how many it skipped, and why it ended.
 fn told_in<L: Ledger, R: Wait>(
     rt: &R,
     alloc: Global,
@@ -42,7 +42,7 @@ fn told<R: Wait>(
     told_in::<Brand, R>(rt, alloc, Blank::new(33), door, jobs)
 }
 
-/// A packet that was never sent is passed over.
+/// A packet that was never sent is skipped.
 #[test]
 fn a_clerk_that_came_to_all_its_jobs_is_through(rt: HostRuntime) -> Result<(), Fail> {
     let jobs = [joins(), Job::Event(Deliver(1)), Job::Turn];

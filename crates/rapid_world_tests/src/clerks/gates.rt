@@ -55,7 +55,7 @@ pub(crate) struct Meeting {
 }
 
 impl Meeting {
-    /// A meeting to which nobody came yet.
+    /// A meeting to which no thread came yet.
     pub(crate) fn new() -> Meeting {
         Meeting {
             first: AtomicU64::new(0),

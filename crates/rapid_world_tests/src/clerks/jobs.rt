@@ -45,7 +45,7 @@ fn turns_are_taken(rt: HostRuntime) -> Result<(), Fail> {
     Ok(())
 }
 
-/// A clerk goes on after an event that is refused and a turn that nobody can take, and not if the
+/// A clerk goes on after an event that is refused and a turn that no node can take, and not if the
 /// gate does not let it in.
 #[test]
 fn refused_jobs_are_not_counted(rt: HostRuntime) -> Result<(), Fail> {

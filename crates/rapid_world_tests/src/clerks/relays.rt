@@ -15,9 +15,9 @@ use std::thread::Threads;
 /// How often one who waits looks at most.
 const MOST_LOOKS: u64 = 100_000_000;
 
-/// Worker 1 comes to its first turn once worker 0 has left its own, and worker 0 does not go on
-/// from there before worker 1 comes to its second turn. So a turn of worker 1 is taken while worker
-/// 0 is at the gate, which is in vain if that holds the lock.
+/// Worker 1 comes to its first turn once worker 0 has left its own. Worker 0 does not go on from
+/// there before worker 1 comes to its second turn. So a turn of worker 1 is taken while worker 0 is
+/// at the gate, which is in vain if that holds the lock.
 #[derive(Drop)]
 struct Relay {
     first_left: AtomicU64,
@@ -26,7 +26,7 @@ struct Relay {
 }
 
 impl Relay {
-    /// A relay to which nobody came yet.
+    /// A relay to which no thread came yet.
     fn new() -> Relay {
         Relay {
             first_left: AtomicU64::new(0),

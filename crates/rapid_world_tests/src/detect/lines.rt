@@ -50,7 +50,7 @@ fn reads_lines_by_their_rules(rt: HostRuntime) -> Result<(), Fail> {
 
 #[test]
 fn measures_lines(rt: HostRuntime) -> Result<(), Fail> {
-    // the length of a comment, what stands at its end, and whether it is passed over
+    // the length of a comment, what stands at its end, and whether it is skipped
     let rows: [(usize, &[u8], bool); 7] = [
         (256, b"\n", true),
         (257, b"\n", false),

@@ -1,4 +1,4 @@
-// Worked inputs of `sim`, in none of which memory is wanted.
+// Worked inputs of `sim`, in none of which memory runs out.
 
 use rapid_sim::run_sim;
 use std::alloc::{AllocError, Global};
@@ -119,7 +119,7 @@ fn refuses_lines_by_their_rules(rt: HostRuntime) -> Result<(), Fail> {
     Ok(())
 }
 
-/// A packet that is dropped, or delivered once, is passed over by later flows; it can still be
+/// A packet that is dropped, or delivered once, is skipped by later flows; it can still be
 /// delivered.
 #[test]
 fn settles_packets(rt: HostRuntime) -> Result<(), Fail> {

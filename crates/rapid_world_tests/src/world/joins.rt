@@ -55,7 +55,7 @@ fn events_are_kept_and_refused(rt: HostRuntime) -> Result<(), Fail> {
     Ok(())
 }
 
-/// With memory nothing is passed over but what is refused, of each kind of event.
+/// With memory nothing is skipped but what is refused, of each kind of event.
 #[test]
 fn only_refused_events_are_passed_over(rt: HostRuntime) -> Result<(), Fail> {
     let mut world = alone(rt.alloc())?;

@@ -10,7 +10,7 @@ use std::test::Fail;
 /// A world of these founders, with 3 rings and the marks 3 and 1.
 pub fn founded(alloc: Global, founders: &[Process]) -> Result<World, Fail> {
     let params = Params::new(3, 3, 1)?;
-    // that there is such a configuration is what a world wants of its founders
+    // a world requires of its founders that there is such a configuration
     let _configuration = Configuration::seed(alloc, params, founders)?;
     Ok(World::new(alloc, params, founders)?)
 }
