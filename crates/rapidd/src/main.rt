@@ -1,6 +1,6 @@
 //! The program of the membership service (Rapid, USENIX ATC 2018): `rapidd detect` reads who
-//! observes whom and alerts, and prints the cuts that they make; `rapidd sim` drives a simulated
-//! cluster by lines, and prints its views; `rapidd cluster` lets many threads drive one; `rapidd
+//! observes whom and alerts, and prints the cuts that they make. `rapidd sim` drives a simulated
+//! cluster by lines, and prints its views. `rapidd cluster` lets many threads drive one. `rapidd
 //! node` runs a member of a cluster over loopback TCP.
 #![tactic(auto)]
 
