@@ -6,8 +6,9 @@
   docs/surface.py --check   ends with status 1 if one of them is not what the sources say
 
 A function stands on a page if its crate's lib.rt names it or its type in a `pub use`. What it does
-is the first sentence of its docstring, what its caller shows are its clauses `requires`, and the
-numbers of refusals are those of the method `code`.
+is how its docstring begins: whole sentences of the first paragraph, up to some 40 words, and of a
+law all of it. What its caller shows are its clauses `requires`, and the numbers of refusals are
+those of the method `code`.
 """
 import re
 import sys
@@ -18,6 +19,7 @@ TOP = Path(__file__).resolve().parent.parent
 PAGE = TOP / "docs/SURFACE.md"
 FOLDER = TOP / "docs/surface"
 WIDTH = 120
+LEAD = 40
 LAWS = {"rapid_model", "rapid_agreement", "rapid_safety", "rapid_histories"}
 NO_LIBRARIES = {
     "rapidd",
@@ -31,8 +33,8 @@ HEAD = """# The public surface
 Written by `docs/surface.py` from the sources; `docs/surface.py --check` says whether it still is what they say. A page \
 a crate, lowest first. How to read one:
 
-- Behind each function stands the first sentence of its docstring. What a call ensures stands in its contract: \
-[PROMISES.md](PROMISES.md) retells it.
+- Behind each function stands how its docstring begins: its first sentences, up to some 40 words. What a call ensures \
+stands in its contract: [PROMISES.md](PROMISES.md) retells it.
 - *shows* is what its caller has to show, if anything: its clauses `requires`.
 - *errors* is what the docstring says of them.
 - A list of refusals (or replies) has for each the number that `code()` answers, and when it comes. 99 is out of memory, \
@@ -51,21 +53,34 @@ class Item:
         self.doc, self.head, self.shows = doc, head, shows
 
     def sentences(self):
-        """The sentences of the docstring before `# Errors`."""
-        text = " ".join(self.doc.split("# Errors")[0].split())
-        return re.split(r"(?<=[.!?]) (?=[A-Z`\[])", text)
+        """The sentences of the docstring before `# Errors`, by paragraphs."""
+        said = [" ".join(p.split()) for p in self.doc.split("# Errors")[0].split("  ")]
+        return [re.split(r"(?<=[.!?]) (?=[A-Z`\[])", p) for p in said if p]
 
-    def first(self):
-        """The first sentence of the docstring."""
-        return self.sentences()[0]
+    def parts(self):
+        """The sentences with which the docstring begins, and those that follow."""
+        first, *others = self.sentences() or [[""]]
+        is_law = re.match(r"fn \w+(<.*>)?\(\)$", self.head)
+        count = 1
+        while count < len(first) and not self.names_error(first[count]):
+            if not is_law and len(" ".join(first[: count + 1]).split()) > LEAD:
+                break
+            count += 1
+        return first[:count], first[count:] + [s for p in others for s in p]
+
+    def lead(self):
+        """How the docstring begins."""
+        return " ".join(self.parts()[0])
+
+    def names_error(self, sentence):
+        """Whether a sentence of a function that can fail names an error."""
+        names = r"`(?!None|Some|Ok)[A-Z]\w+`|error|[Oo]ut of memory"
+        return "Result<" in self.head and re.search(names, sentence)
 
     def errors(self):
         """What the docstring says under `# Errors`, else its sentences that name an error."""
         said = " ".join(self.doc.partition("# Errors")[2].split())
-        if said or "Result<" not in self.head:
-            return said
-        names = re.compile(r"`(?!None|Some|Ok)[A-Z]\w+`|error")
-        return " ".join(s for s in self.sentences()[1:] if names.search(s))
+        return said or " ".join(s for s in self.parts()[1] if self.names_error(s))
 
 
 class Type:
@@ -182,7 +197,7 @@ def read_crate(name):
 def print_item(item, out, owner=""):
     """One line for an item, and what its caller shows and is refused."""
     name = re.sub(r"^(fn|const) ", "", item.head)
-    out.append(f"- `{owner}{name}`: {item.first()}" if item.doc else f"- `{owner}{name}`")
+    out.append(f"- `{owner}{name}`: {item.lead()}" if item.doc else f"- `{owner}{name}`")
     if item.shows:
         out.append("  - *shows*: " + "; ".join(f"`{s}`" for s in item.shows))
     if item.errors():
@@ -193,7 +208,7 @@ def print_type(found, out):
     """A type, its functions, and a list of its refusals if it has some."""
     traits = [t for t in dict.fromkeys(found.traits) if t not in ("Drop", "From", "Error")]
     has = f" ({', '.join(traits)})" if traits else ""
-    doc = Item(found.doc, "", []).first()
+    doc = Item(found.doc, "", []).lead()
     out.extend(["", f"**{found.kind} `{found.name}`**{has}: {doc}", ""])
     if found.variants and (found.codes or found.name.endswith(("Error", "Fault"))):
         for name, _, when in found.variants:
@@ -233,7 +248,7 @@ def crate_page(name):
     """The page of a crate."""
     lib, types, functions, others = read_crate(name)
     said = re.findall(r"^//! ?(.*)$", lib, re.M)
-    out = [f"# {name}", "", Item(" ".join(said), "", []).first()]
+    out = [f"# {name}", "", Item(" ".join(said), "", []).lead()]
     if others:
         out.extend(["", "Names again: " + ", ".join(f"`{n}`" for n in others) + "."])
     for found in types.values():
