@@ -1,7 +1,7 @@
 """Tries the mutants crates/NAME/must-fail/*.edit: the prover has to refuse each.
 
-All twins of a crate (twins.py) are tried by one check of these alone, which tells of each whether it
-is proved. A twin with the body as it is stands among them and has to be proved, or the twins show
+All twins of a crate (twins.py) are tried by one check of these alone, which says of each whether it
+is proved. A twin with the body as it is stands among them and has to be proved, or the twins prove
 nothing. A mutant without a twin, or whose twin is not refused, is tried alone.
 
 mutants.txt has a line for each crate: how many mutants were refused, and a sum of all that this rests

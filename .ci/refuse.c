@@ -1,6 +1,6 @@
 /* Loaded before the C library, it refuses one allocation: the one whose number is in REFUSE, from 1
    on; with none or 0 it refuses none. Into the file that REFUSE_LOG names it writes the number of
-   the allocation that it refused, or, where it is to refuse none, how many there were so far. */
+   the allocation that it refused, or, if it is to refuse none, how many there were so far. */
 #define _GNU_SOURCE
 #include <dlfcn.h>
 #include <errno.h>
@@ -19,7 +19,7 @@ static void *(*next_realloc)(void *, size_t);
 static void *(*next_aligned_alloc)(size_t, size_t);
 static int (*next_posix_memalign)(void **, size_t, size_t);
 
-/* Runs before main, and at the first allocation where one comes before that. */
+/* Runs before main, and at the first allocation if one comes before that. */
 __attribute__((constructor)) static void begin(void) {
     if (next_malloc)
         return;

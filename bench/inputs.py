@@ -3,7 +3,7 @@
 
 detect_noise    16,384 edges of 1,024 members, and 100 batches of 16,384 alerts; nobody has L
                 reports before the last
-detect_grow     the same, where ever more members, at last 300, are unstable until the last batch
+detect_grow     the same, but more and more members, at last 300, are unstable until the last batch
 detect_edges    16,384 edges, and 1,024 alerts that are never handed over
 detect_worst    the same with their batch: L = 1 and H = 16, so that 1,024 first reports imply all
                 16,384

@@ -138,7 +138,7 @@ fn next_rings(old: &[Ring], gone: &Process, new: &Process) -> Vec<Ring> {
         .collect()
 }
 
-/// Reads a configuration, with its identifier; none where it is refused.
+/// Reads a configuration, with its identifier; none if it is refused.
 fn from_bytes(bytes: &[u8]) -> Option<Configuration> {
     if bytes.len() < 49 || &bytes[..4] != b"RPC1" {
         return None;
@@ -170,8 +170,8 @@ fn from_bytes(bytes: &[u8]) -> Option<Configuration> {
     })
 }
 
-/// Prints how many nanoseconds one unit of the work takes, of which each run does so many, in the
-/// fastest of so many runs.
+/// Prints how many nanoseconds one unit of the work takes, of which each run does `units`, in the
+/// fastest of the runs.
 fn measure(name: &str, units: u128, runs: u32, mut work: impl FnMut()) {
     work();
     let mut least = u128::MAX;

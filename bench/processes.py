@@ -5,7 +5,7 @@
 
 It prints how long the nodes took to come to one view, how long the survivors took from the kill to
 one view without those that were killed, how many views they entered on the way, and what a node
-used meanwhile: processor time, memory, threads, and bytes sent where the command ss tells them. It
+used meanwhile: processor time, memory, threads, and bytes sent if the command ss reports them. It
 is no part of the gate. The nodes end with it."""
 import argparse
 import os

@@ -41,7 +41,7 @@ class Mixed:
         self.later.append((time.monotonic() + seconds, action))
 
     def member(self, losing=False):
-        """Some member that is up; where it is to be lost, none unless more than half are left."""
+        """Some member that is up; if it is to be lost, none unless more than half are left."""
         steady = self.it.steady()
         size = len(self.it.views[max(self.it.views)])
         if losing and 2 * (len(steady) - 1) <= size or not steady:

@@ -166,7 +166,7 @@ class Node:
         return socket.create_connection((HOST, self.port), timeout=5)
 
     def send(self, frames):
-        """Sends bytes by one connection; false where that was cut off or nothing took them."""
+        """Sends bytes by one connection; false if that was cut off or nothing took them."""
         try:
             with self.connect() as stream:
                 for part in frames:

@@ -212,7 +212,7 @@ def tick10_nine_nodes(it):
 
 
 def quit_hangs(it):
-    """`quit` where nobody reads the output, and where a node has five descriptors or four and no more."""
+    """`quit` while nobody reads the output, and of a node with only five descriptors or four."""
     took, said = [], []
     for limit, unread in ((None, True), (5, False), (4, False)):
         node = it.start(limit=limit)
@@ -293,7 +293,7 @@ def is_taken(port):
 
 
 def self_connect(it):
-    """Joiners at a port where nothing listens ask, so that a node connects there ever again."""
+    """Joiners at a port at which nothing listens ask, so that a node connects there again and again."""
     node = it.form(1)[0]
     with socket.create_server((HOST, 0)) as free:
         port = free.getsockname()[1] & ~1
