@@ -35,10 +35,10 @@ a crate, lowest first. How to read one:
 
 - Behind each function stands how its docstring begins: its first sentences, up to some 40 words. What a call ensures \
 stands in its contract: [PROMISES.md](PROMISES.md) retells it.
-- *shows* is what its caller has to show, if anything: its clauses `requires`.
+- *shows* is what its caller has to show, if anything (its clauses `requires`).
 - *errors* is what the docstring says of them.
-- A list of refusals (or replies) has for each the number that `code()` answers, and when it comes. 99 is out of memory, \
-which is answered only if a growth was really refused.
+- A list of refusals (or replies) has for each the number that `code()` answers, and when it comes. Out of memory is \
+99, except in `rapid_node` and `rapid_desk` (2) and `rapid_world` (7). It is answered only if a growth was really refused.
 - A function named `tell` does nothing: what it ensures is for proofs.
 
 ## The crates
