@@ -5,7 +5,8 @@ is proved. A twin with the body as it is stands among them and has to be proved,
 nothing. A mutant without a twin, or whose twin is not refused, is tried alone.
 
 mutants.txt has a line for each crate: how many mutants were refused, and a sum of all that this rests
-on: the crate's files, those of the crates that it stands on but for their proofs, and the kit's name."""
+on: the crate's files, those of the crates that it stands on but for their proofs, and the kit's name. Lines
+of comment don't count."""
 import re
 import shutil
 import tempfile
@@ -17,6 +18,7 @@ import twins
 
 RECORD = tree.TOP / "mutants.txt"
 STATEMENTS = ("src", "specs")
+COMMENT = re.compile(rb"\s*(//|--)")
 ONLY = re.compile(r"only=\d+ proved=\d+")
 VERDICT = re.compile(r"^fn (?:\S+::)?(\w+): (proved|not proved|no proof)\b", re.M)
 
@@ -26,7 +28,7 @@ def mutants_of(name):
 
 
 def line_of(name):
-    summed = tree.sum_of(name, (*tree.SOURCES, "must-fail"), STATEMENTS)
+    summed = tree.sum_of(name, (*tree.SOURCES, "must-fail"), STATEMENTS, COMMENT)
     return f"{name} {len(mutants_of(name))} {summed}"
 
 

@@ -73,11 +73,13 @@ def write_tree(tree, names, parts=SOURCES, copy=os.link):
 
 
 @functools.lru_cache(maxsize=None)
-def sum_of_files(folder):
-    """A SHA-256 of the files below a folder, with their names."""
+def sum_of_files(folder, is_comment=None):
+    """A SHA-256 of the files below a folder, with their names, but for the lines that are comments."""
     found = hashlib.sha256()
     for file in sorted(it for it in folder.rglob("*") if it.is_file()):
-        found.update(f"{file.relative_to(folder)}\n".encode() + hashlib.sha256(file.read_bytes()).digest())
+        lines = file.read_bytes().split(b"\n")
+        text = b"\n".join(it for it in lines if not (is_comment and is_comment.match(it)))
+        found.update(f"{file.relative_to(folder)}\n".encode() + hashlib.sha256(text).digest())
     return found.digest()
 
 
@@ -86,13 +88,13 @@ def kit():
     return rt(["version"], TOP).stdout
 
 
-def sum_of(name, parts=SOURCES, parts_below=SOURCES):
+def sum_of(name, parts=SOURCES, parts_below=SOURCES, is_comment=None):
     """A SHA-256 of a crate's files, of those of the crates that it stands on, and of the kit's name."""
     found = hashlib.sha256(kit().encode())
     for crate in [*below(name), name]:
         found.update(LINES[crate].encode())
         for part in parts if crate == name else parts_below:
-            found.update(sum_of_files(TOP / "crates" / crate / part))
+            found.update(sum_of_files(TOP / "crates" / crate / part, is_comment))
     return found.hexdigest()
 
 
