@@ -7,7 +7,7 @@ use rapid_config::{ConfigId, Configuration, Cut, Params};
 use rapid_endpoint::{Endpoint, Process, ProcessId};
 use rapid_join::Reply;
 use rapid_message::{Body, Message};
-use rapid_service::{Post, Repeats, Service};
+use rapid_service::{Post, Received, Repeats, Service};
 use std::alloc::Global;
 use std::process::Abort;
 use std::sync::Wait;
@@ -154,15 +154,28 @@ fn repeats_by_the_hundred_thousand_leave_a_running_node(rt: HostRuntime) -> Resu
     let alloc = rt.alloc();
     let here = three(alloc)?.id();
     let mut service = member(&rt, alloc)?;
-    for _ in 0..200_000 {
-        assert!(rt; service.receive(question(4)?).is_ok());
+    assert_eq!(rt; service.receive(question(4)?), Ok(Received::Taken));
+    for _ in 1..200_000 {
+        assert_eq!(rt; service.receive(question(4)?), Ok(Received::Dropped));
     }
     assert_eq!(rt; service.post().frames, 1);
-    for _ in 0..200_000 {
-        assert!(rt; service.receive(batch(alloc, 2, here, 4)?).is_ok());
+    assert_eq!(rt; service.receive(batch(alloc, 2, here, 4)?), Ok(Received::Taken));
+    for _ in 1..200_000 {
+        assert_eq!(rt; service.receive(batch(alloc, 2, here, 4)?), Ok(Received::Dropped));
     }
     assert_eq!(rt; service.post().frames, 1);
     assert!(rt; service.tick().is_ok());
+    Ok(())
+}
+
+#[test]
+fn before_the_first_view_nothing_is_dropped(rt: HostRuntime) -> Result<(), Fail> {
+    let alloc = rt.alloc();
+    let seed = process(2).endpoint();
+    let mut service = Service::join(&rt, alloc, process(1), seed, Count { frames: 0 })?;
+    for _ in 0..3 {
+        assert_eq!(rt; service.receive(question(4)?), Ok(Received::Taken));
+    }
     Ok(())
 }
 
@@ -176,7 +189,8 @@ fn a_node_goes_on_past_a_full_journal(rt: HostRuntime) -> Result<(), Fail> {
     let mut service = Service::found(&rt, alloc, params, process(1), Count { frames: 0 })?;
     for _ in 0..EVENTS {
         let reply = Body::Reply(process(3), Reply::TooManyJoiners);
-        assert!(rt; service.receive(Message::new(process(2), reply)?).is_ok());
+        let received = service.receive(Message::new(process(2), reply)?);
+        assert_eq!(rt; received, Ok(Received::Taken));
     }
     assert!(rt; service.tick().is_ok());
     assert_eq!(rt;
