@@ -114,6 +114,31 @@ fn requests_are_taken_once_and_questions_each_tenth_tick(rt: HostRuntime) -> Res
     Ok(())
 }
 
+/// The question of the joiner of this number.
+fn question_of(number: u16) -> Result<Message, Fail> {
+    let [high, low] = number.to_be_bytes();
+    let id = [1, 0, 0, 0, 0, 0, 0, 0, 0, 0, 0, 0, 0, 0, high, low];
+    let joiner = Process::new(
+        ProcessId::new(id),
+        Endpoint::new([127, 0, 0, 1], 7_600),
+    );
+    Ok(Message::new(joiner, Body::PreJoin)?)
+}
+
+#[test]
+fn questions_of_4096_joiners_are_kept(rt: HostRuntime) -> Result<(), Fail> {
+    let configuration = three(rt.alloc())?;
+    let mut repeats = Repeats::new(rt.alloc(), &configuration)?;
+    for number in 0..4_096 {
+        assert!(rt; repeats.admits(&question_of(number)?));
+    }
+    for _ in 0..2 {
+        assert!(rt; repeats.admits(&question_of(4_096)?));
+        assert!(rt; !repeats.admits(&question_of(4_095)?));
+    }
+    Ok(())
+}
+
 #[test]
 fn other_messages_are_taken_each_time(rt: HostRuntime) -> Result<(), Fail> {
     let configuration = three(rt.alloc())?;
