@@ -118,10 +118,7 @@ fn requests_are_taken_once_and_questions_each_tenth_tick(rt: HostRuntime) -> Res
 fn question_of(number: u16) -> Result<Message, Fail> {
     let [high, low] = number.to_be_bytes();
     let id = [1, 0, 0, 0, 0, 0, 0, 0, 0, 0, 0, 0, 0, 0, high, low];
-    let joiner = Process::new(
-        ProcessId::new(id),
-        Endpoint::new([127, 0, 0, 1], 7_600),
-    );
+    let joiner = Process::new(ProcessId::new(id), Endpoint::new([127, 0, 0, 1], 7_600));
     Ok(Message::new(joiner, Body::PreJoin)?)
 }
 
@@ -184,9 +181,15 @@ fn repeats_by_the_hundred_thousand_leave_a_running_node(rt: HostRuntime) -> Resu
         assert_eq!(rt; service.receive(question(4)?), Ok(Received::Dropped));
     }
     assert_eq!(rt; service.post().frames, 1);
-    assert_eq!(rt; service.receive(batch(alloc, 2, here, 4)?), Ok(Received::Taken));
+    assert_eq!(rt;
+        service.receive(batch(alloc, 2, here, 4)?),
+        Ok(Received::Taken)
+    );
     for _ in 1..200_000 {
-        assert_eq!(rt; service.receive(batch(alloc, 2, here, 4)?), Ok(Received::Dropped));
+        assert_eq!(rt;
+            service.receive(batch(alloc, 2, here, 4)?),
+            Ok(Received::Dropped)
+        );
     }
     assert_eq!(rt; service.post().frames, 1);
     assert!(rt; service.tick().is_ok());
