@@ -462,6 +462,8 @@ const HELPS: [(&str, &[&str]); 6] = [
             "  NoSuchPacket ",
             "  NotObserved ",
             "  EventsFull ",
+            "  OutOfMemory ",
+            "node N halted",
         ],
     ),
     (
