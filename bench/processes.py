@@ -1,16 +1,18 @@
 #!/usr/bin/env python3
 """Runs nodes as processes on loopback, kills some of them with SIGKILL, and prints times.
 
-  bench/processes.py [--nodes 30] [--kill 1] [--tick-ms 100] [--probers 1] [--settle 10] [--program FILE]
+  bench/processes.py [--nodes 30] [--kill 1] [--tick-ms 100] [--probers 1] [--settle 10] [--times 1] [--program FILE]
 
 It prints how long the nodes took to come to one view, how long the survivors took from the kill to
-one view without those that were killed, how many views they entered on the way, and what a node
-used meanwhile: processor time, memory, threads, and bytes sent if the command ss reports them. It
-is no part of the gate. The nodes end with it."""
+one view of exactly those that were not killed, how many views they entered on the way, and what a
+node used meanwhile: processor time, memory, threads, and bytes sent where the command ss tells them
+(nothing of that with --settle 0). With --times it does all of it again and again, and prints last
+how often that went well. It is no part of the gate. The nodes end with it."""
 import argparse
 import os
 import re
 import shutil
+import statistics
 import subprocess
 import sys
 import time
@@ -74,7 +76,9 @@ def sent(nodes):
 
 
 def used(label, nodes, seconds):
-    """Prints what a node uses in this many seconds in which nothing happens."""
+    """Prints what a node uses in this many seconds in which nothing happens, if there are any."""
+    if seconds == 0:
+        return
     before, bytes_before = [it.cpu() for it in nodes], sent(nodes)
     time.sleep(seconds)
     after, bytes_after = [it.cpu() for it in nodes], sent(nodes)
@@ -91,17 +95,17 @@ def used(label, nodes, seconds):
 
 
 def measure(nodes, kill, settle):
-    """Forms the cluster, kills this many, and prints the times; whether all went well."""
+    """Forms the cluster, kills this many, and prints the times; how long the last survivor took, if all went well."""
     names = [f"127.0.0.1:{it.port}" for it in nodes]
     took = wait_for(nodes, frozenset(names), 120)
     if took is None:
         print("the nodes have not come to one view")
-        return False
+        return None
     count = len(nodes[0].views())
     print(f"{len(nodes)} nodes came to one view in {took:.2f} s; the founder entered {count} views")
     used("all nodes", nodes, settle)
     if kill == 0:
-        return True
+        return 0
     gone, stay = nodes[-kill:], nodes[:-kill]
     before = [len(it.views()) for it in stay]
     for node in gone:
@@ -109,12 +113,25 @@ def measure(nodes, kill, settle):
     took = wait_for(stay, frozenset(names[:-kill]), 300)
     if took is None:
         print("the survivors have not come to one view")
-        return False
+        return None
     views = [len(it.views()) - count for it, count in zip(stay, before)]
     print(f"{kill} were killed; the last survivor's new view came after {took:.2f} s")
     print(f"views on the way: {max(views)}")
     used("survivors", stay, settle)
-    return True
+    return took
+
+
+def attempt(given):
+    """Runs nodes once; how long the last survivor took, if all went well."""
+    first, nodes = given.first_port, []
+    try:
+        for number in range(given.nodes):
+            nodes.append(Node(given.program, first + number, first, given))
+        return measure(nodes, given.kill, given.settle)
+    finally:
+        for node in nodes:
+            node.ran.kill()
+            node.ran.wait()
 
 
 def main():
@@ -124,22 +141,19 @@ def main():
     parser.add_argument("--tick-ms", type=int, default=100)
     parser.add_argument("--probers", type=int, default=1)
     parser.add_argument("--settle", type=float, default=10)
+    parser.add_argument("--times", type=int, default=1)
     parser.add_argument("--first-port", type=int, default=17000)
     parser.add_argument("--program", default=str(TOP / "crates/rapidd/out/rapidd"))
     given = parser.parse_args()
     if not os.access(given.program, os.X_OK):
         print(f"{given.program} is not built: run ./check program", file=sys.stderr)
         return 2
-    first = given.first_port
-    nodes = []
-    try:
-        for number in range(given.nodes):
-            nodes.append(Node(given.program, first + number, first, given))
-        return 0 if measure(nodes, given.kill, given.settle) else 1
-    finally:
-        for node in nodes:
-            node.ran.kill()
-            node.ran.wait()
+    all_took = [attempt(given) for _ in range(given.times)]
+    well = [took for took in all_took if took is not None]
+    if given.times > 1 and well:
+        print(f"{len(well)} of {given.times} times all went well; the last new view came after "
+              f"{min(well):.2f} to {max(well):.2f} s, in the median {statistics.median(well):.2f} s")
+    return 0 if len(well) == given.times else 1
 
 
 if __name__ == "__main__":

@@ -16,7 +16,7 @@ from pathlib import Path
 
 HOST = "127.0.0.1"
 PAGE = os.sysconf("SC_PAGE_SIZE")
-BATCH, VOTE, PREPARE, PRE_JOIN, REPLY = 1, 2, 3, 8, 9
+BATCH, VOTE, PREPARE, PRE_JOIN, REPLY, JOIN_REQUEST = 1, 2, 3, 8, 9, 10
 REMOVE, JOIN = 1, 2
 GREATEST = 65_536  # the greatest length of a frame, after its length field
 RINGS, L = 10, 3  # of the nodes started here, which take the program's defaults

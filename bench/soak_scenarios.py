@@ -1,6 +1,7 @@
 """The single scenarios of soak.py. Each takes a cluster without nodes, ends within a minute or so,
 answers in words what was seen, and fails with what was not as it has to be."""
 import itertools
+import os
 import shutil
 import signal
 import socket
@@ -10,9 +11,10 @@ import tempfile
 from pathlib import Path
 from types import SimpleNamespace
 
-from soak_cluster import (BATCH, GREATEST, HOST, JOIN, L, PRE_JOIN, REMOVE, RINGS, Failed, batch,
+from soak_cluster import (BATCH, GREATEST, HOST, JOIN, JOIN_REQUEST, L, PRE_JOIN, REMOVE, RINGS, Failed, batch,
                           frame, is_closed, observer_of, process)
 
+TOP = Path(__file__).resolve().parent.parent
 FLOOD = 200_000  # frames of a flood
 ANSWERS = 40_000  # each at the next source port of one parity, of which Linux has some 14,000
 MOST_MEMORY = 64 * 1024  # kilobytes that a node holds at most while it is ill-treated
@@ -171,6 +173,31 @@ def stopped_process_goes_on(it):
     return f"it learnt {took:.1f} s after it went on: {target.errors.decode().strip()}"
 
 
+def stopped_majority(it):
+    """Four of seven are stopped for 80 ticks, and go on: the others enter no view meanwhile, and then all agree."""
+    nodes = it.form(7)
+    height, stopped = nodes[0].views[-1][0], nodes[3:]
+    for node in stopped:
+        it.excuse(node, "stopped for long")
+        node.popen.send_signal(signal.SIGSTOP)
+    it.rest(80 * it.tick)
+    keeps(it, nodes[:3], height)
+    for node in stopped:
+        node.popen.send_signal(signal.SIGCONT)
+
+    def agreed():
+        for node in stopped:
+            node.may_end = node.is_out()
+        return nodes[0].views[-1][0] > height and it.agreed()
+
+    took = it.until(agreed, 60, "the nodes have not come to one view")
+    out = [node for node in stopped if node.is_out()]
+    it.rest(2)
+    if any(node.errors.count(b"note: this node was removed") != 1 for node in out):
+        raise Failed(f"those that are out said {[node.errors for node in out]}")
+    return f"one view {took:.1f} s after they went on, without {len(out)} of the four, each of which says so"
+
+
 def stop(it, node, ticks):
     """Stops a node for this many ticks."""
     node.popen.send_signal(signal.SIGSTOP)
@@ -272,6 +299,104 @@ def without_ticks(it):
     return f"both said: {joiner.errors.decode().strip()}"
 
 
+def one_without_ticks(it):
+    """Of five, one has no ticks but those typed until it is a member; another is killed: no view comes in 10 s."""
+    nodes = it.form(4, tick_ms=20)
+    fifth = it.start(nodes[0], tick_ms=0)
+    it.until(lambda: fifth.views or not fifth.type("tick 1\n"), 30, "it is no member")
+    it.agree(10)
+    height = nodes[0].views[-1][0]
+    it.kill(nodes[3])
+    it.rest(10)
+    return f"none came; {keeps(it, nodes[:3] + [fifth], height)}"
+
+
+def two_members(it):
+    """One of two quits: the other says nothing and keeps its view, and a joiner learns that it is not let in."""
+    nodes = it.form(2)
+    height = nodes[0].views[-1][0]
+    it.excuse(nodes[1], "quit")
+    nodes[1].may_end = True
+    nodes[1].type("quit\n")
+    it.until(lambda: nodes[1].gone, 5, "it has not quit")
+    joiner = it.start(nodes[0])
+    answer = "it may join; see that most members run, with ticks"
+    for number in (1, 10):
+        text = f"note: no view after question {number} to {nodes[0].name}; last answer: {answer}\n".encode()
+        it.until(lambda: text in joiner.errors, 30, f"no note: {text}; but {joiner.errors}")
+    joiner.may_end = True
+    joiner.type("quit\n")
+    if nodes[0].errors:
+        raise Failed(f"the one that is left said {nodes[0].errors}")
+    return f"{answer}; {keeps(it, nodes[:1], height)}"
+
+
+def signals(it):
+    """SIGTERM, SIGINT and SIGHUP end a member at once, by the signal; the others expel it as one that crashed."""
+    nodes = it.form(5)
+    for node, number in zip(nodes[2:], (signal.SIGTERM, signal.SIGINT, signal.SIGHUP)):
+        it.excuse(node, "killed")
+        node.may_end = True
+        node.popen.send_signal(number)
+        it.until(lambda: node.gone, 1, f"signal {number} has not ended it")
+        if node.popen.returncode != -number or node.errors:
+            raise Failed(f"signal {number}: status {node.popen.returncode}, {node.errors}")
+        it.agree(30)
+    return f"each was expelled; {keeps(it, nodes[:2], nodes[0].views[-1][0])}"
+
+
+def child_of(it, pid):
+    """The node that a script runs."""
+    for child in Path(f"/proc/{pid}/task/{pid}/children").read_text().split():
+        name = Path(f"/proc/{child}/comm")
+        if name.exists() and name.read_text().strip() == Path(it.given.program).name[:15]:
+            return int(child)
+    raise Failed("the script runs no node")
+
+
+def supervised(it):
+    """supervise.sh runs a member: another comes after SIGKILL, and after it was expelled; none after SIGTERM."""
+    nodes, port = it.form(3), it.port
+    it.port += 1
+    node = SimpleNamespace(name=f"{HOST}:{port}")
+    words = [TOP / "examples/supervise.sh", "--listen", node.name, "--join", nodes[0].name]
+    words += ["--tick-ms", str(it.given.tick_ms)]
+    is_in = lambda: node.name in nodes[0].views[-1][1]
+    with tempfile.TemporaryFile() as errors:
+        script = subprocess.Popen(words, stdin=subprocess.DEVNULL, stdout=subprocess.DEVNULL, stderr=errors,
+                                  start_new_session=True, env={**os.environ, "RAPIDD": it.given.program})
+        try:
+            it.until(is_in, 30, "it is no member")
+            it.excuse(node, "killed")
+            os.kill(child_of(it, script.pid), signal.SIGKILL)
+            replaced(it, is_in, "killed")
+            it.excuse(node, "stopped for long")
+            child = child_of(it, script.pid)
+            os.kill(child, signal.SIGSTOP)
+            it.rest(80 * it.tick)
+            os.kill(child, signal.SIGCONT)
+            replaced(it, is_in, "expelled")
+            it.excuse(node, "quit")
+            script.send_signal(signal.SIGTERM)
+            it.until(lambda: script.poll() is not None, 5, "the script has not ended")
+        finally:
+            if script.poll() is None:
+                os.killpg(script.pid, signal.SIGKILL)
+        errors.seek(0)
+        said = [line for line in errors.read().decode().splitlines() if line.startswith("supervise: ")]
+    wanted = ["ended with status 137", "was removed from its cluster"]
+    if script.returncode != 0 or len(said) != 2 or not all(want in line for want, line in zip(wanted, said)):
+        raise Failed(f"status {script.returncode}, {said}")
+    it.until(lambda: not is_in(), 30, "the node that quit is a member yet")
+    return f"status 0; {'; '.join(said)}"
+
+
+def replaced(it, is_in, how):
+    """Waits until the member is out, and another is in its place."""
+    it.until(lambda: not is_in(), 30, f"{how}, it is a member yet")
+    it.until(is_in, 60, f"{how}, none came in its place")
+
+
 def fault_ends_process(it):
     """The reader of a node's output goes away, and its input stays open and quiet."""
     founder = it.start()
@@ -307,7 +432,7 @@ def self_connect(it):
 
 
 def foreign_sender(it):
-    """Joiners ask by endpoints that are not 127.x.x.x with a port from 1."""
+    """Joiners ask by endpoints that are not 127.x.x.x with a port from 1: none is dialled, and none is let in."""
     fake, words = it.fake(), ()
     with tempfile.TemporaryDirectory() as room:
         calls = Path(room) / "connects"
@@ -318,6 +443,9 @@ def foreign_sender(it):
         # be had: no packet leaves the machine, whatever the node does.
         for host, port in (("0.0.0.0", fake.port), ("224.0.0.1", 9), (HOST, 0)):
             node.send([frame(PRE_JOIN, process(it.draw(), port, host))])
+        _, config, _ = it.ask(node)
+        joiner = process(it.draw(), fake.port, "10.0.0.1")
+        node.send([frame(JOIN_REQUEST, joiner, config + bytes([ring])) for ring in range(RINGS)])
         it.rest(3)
         told = calls.read_text() if words else ""
     dialled = [line for line in told.splitlines() if '"127.' not in line or "htons(0)" in line]
@@ -327,5 +455,6 @@ def foreign_sender(it):
 
 
 ALL = [pair_without_quorum, flapping_edge, used_identifier, prejoin_flood, batch_flood, silent_256, half_frame,
-       sixty_five_destinations, restart_same_endpoint, stopped_process_goes_on, stopped_stdout,
-       tick10_nine_nodes, quit_hangs, joiners_in_vain, without_ticks, fault_ends_process, self_connect, foreign_sender]
+       sixty_five_destinations, restart_same_endpoint, stopped_process_goes_on, stopped_majority,
+       stopped_stdout, tick10_nine_nodes, quit_hangs, joiners_in_vain, without_ticks, one_without_ticks, two_members,
+       signals, supervised, fault_ends_process, self_connect, foreign_sender]

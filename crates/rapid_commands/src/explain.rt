@@ -64,6 +64,7 @@ fn wanted_of(command: &str, option: &str) -> Option<Wanted> {
             60_000,
             "a number of milliseconds from 0 to 60000 is wanted, such as 100",
         ),
+        ("node", "probers") => number(1, 16, "a number from 1 to 16 is wanted, such as 4"),
         ("node", "listen" | "join") => text("ENDPOINT", ENDPOINT),
         ("node", "id") => text("UUID", IDENTIFIER),
         _ => None,

@@ -59,6 +59,8 @@ stands. The run goes on, and its status stays 0. NAME is one of
   NoSuchPacket     no packet P was sent
   NotObserved      node N observes nobody on the ring
   EventsFull       1000000 events were accepted
+  OutOfMemory      there was no memory for the event
+A node that has halted, out of memory or after 65536 views, prints node N halted.
 
 Status: 0 at the end of the input and after help, 1 if standard input or output failed, 2 if the words
 were refused, 3 if memory ran out.";

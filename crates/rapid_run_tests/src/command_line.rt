@@ -17,7 +17,7 @@ type Row = (&'static str, u8, &'static str, &'static str);
 const NO_TICKS: &str =
     "note: with --tick-ms 0 only lines tick this node: it joins nobody, sees no crash, and may hold up its cluster\n";
 
-const ROWS: [Row; 38] = [
+const ROWS: [Row; 43] = [
     ("--version", 0, "rapidd 0.1.0\n", ""),
     ("-V", 0, "rapidd 0.1.0\n", ""),
     ("detect", 0, "", ""),
@@ -114,6 +114,51 @@ For more information, try 'rapidd node --help'.
         2,
         "",
         "error: invalid value '256' for '--k <NUMBER>': 1 <= L <= H <= K <= 16 is wanted
+
+For more information, try 'rapidd node --help'.
+",
+    ),
+    (
+        "node --listen 127.0.0.1:7441 --k ten",
+        2,
+        "",
+        "error: invalid value 'ten' for '--k <NUMBER>': 1 <= L <= H <= K <= 16 is wanted
+
+For more information, try 'rapidd node --help'.
+",
+    ),
+    (
+        "node --listen 127.0.0.1:7441 --probers 0",
+        2,
+        "",
+        "error: invalid value '0' for '--probers <NUMBER>': a number from 1 to 16 is wanted, such as 4
+
+For more information, try 'rapidd node --help'.
+",
+    ),
+    (
+        "node --probers=17 --listen 127.0.0.1:7441",
+        2,
+        "",
+        "error: invalid value '17' for '--probers <NUMBER>': a number from 1 to 16 is wanted, such as 4
+
+For more information, try 'rapidd node --help'.
+",
+    ),
+    (
+        "node --listen 127.0.0.1:7441 --probers many",
+        2,
+        "",
+        "error: invalid value 'many' for '--probers <NUMBER>': a number from 1 to 16 is wanted, such as 4
+
+For more information, try 'rapidd node --help'.
+",
+    ),
+    (
+        "node --listen 127.0.0.1:7441 --probers",
+        2,
+        "",
+        "error: no value for '--probers <NUMBER>': a number from 1 to 16 is wanted, such as 4
 
 For more information, try 'rapidd node --help'.
 ",
@@ -417,6 +462,8 @@ const HELPS: [(&str, &[&str]); 6] = [
             "  NoSuchPacket ",
             "  NotObserved ",
             "  EventsFull ",
+            "  OutOfMemory ",
+            "node N halted",
         ],
     ),
     (
@@ -439,6 +486,7 @@ const HELPS: [(&str, &[&str]); 6] = [
             "without it the node founds a cluster",
             "0 to 60000",
             "[default: 0]",
+            "1 to 16 [default: 1]",
             "With --tick-ms 0, the default, only the lines tick make it tick",
             "SIGTERM, SIGINT and SIGHUP",
             "H to 16 [default: 10]",

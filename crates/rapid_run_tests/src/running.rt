@@ -1,6 +1,7 @@
 // Tests of running nodes.
 
 mod clusters;
+mod consoles;
 mod devices;
 mod ends;
 mod notes;
@@ -8,3 +9,4 @@ mod probing;
 mod repeats;
 mod rows;
 mod scarce;
+mod strangers;

@@ -1,6 +1,8 @@
 // One node at its desk, with its probes.
 
-ghost use Rattle.std.specs.Prelude.{◌≡◌, ◌<◌};
+ghost use Rattle.std.specs.Prelude.{◌≡◌, ◌<◌, [], false, IfOk, IsSomeAnd, OnErr};
+ghost use Rattle.rapid_service.specs.Remembering.{IsRepeatFor};
+ghost use Rattle.rapid_service.specs.declared.received.Received.TheVariants.{Dropped};
 
 use crate::asking::Asking;
 use crate::edge_text::EdgeState;
@@ -9,6 +11,7 @@ use crate::journal::shorten;
 use crate::note::{Note, Notes};
 use crate::part::{MOST_RINGS, Part, PartRound};
 use crate::post::Post;
+use crate::received::Received;
 use crate::repeats::Repeats;
 use crate::rounds::Rounds;
 use crate::view_text::write_view;
@@ -200,20 +203,28 @@ impl<R: Wait + Copy + Drop, P: Post + Drop> Service<R, P> {
         }
     }
 
-    /// A message has come. It is dropped if it repeats one that came before in the current view and
-    /// changes nothing: a step would only take room in the journal of the desk.
-    pub fn receive(&mut self, message: Message) -> Result<(), NodeFault> {
+    /// A message has come. It is dropped if it repeats one that came before in the present view and
+    /// changes nothing: a step would only take room in the journal of the desk, which stays as it is
+    /// then.
+    pub fn receive(&mut self, message: Message) -> Result<Received, NodeFault>
+        ensures repeats { IfOk result (λ received. received ≡ Dropped → IsSomeAnd self.old.present (λ present. IsRepeatFor present.repeats message)) }
+        ensures desk { IfOk result (λ received. received ≡ Dropped → self.new.desk ≡ self.old.desk) }
+    {
         if let Body::Reply(joiner, reply) = message.body() {
             self.hear(joiner, reply);
         }
         if !self.admits(&message) {
-            return Ok(());
+            return Ok(Received::Dropped);
         }
-        self.step(Event::Receive(message))
+        self.step(Event::Receive(message))?;
+        Ok(Received::Taken)
     }
 
-    /// Whether a message is given to the desk: before the first view each is.
-    fn admits(&mut self, message: &Message) -> bool {
+    /// Whether a message is handed to the desk: before the first view each is.
+    fn admits(&mut self, message: &Message) -> bool
+        ensures repeats { result ≡ false → IsSomeAnd self.old.present (λ present. IsRepeatFor present.repeats message.now) }
+        ensures desk { self.new.desk ≡ self.old.desk }
+    {
         match &mut self.present {
             Some(present) => present.repeats.admits(message),
             None => true,
@@ -238,7 +249,10 @@ impl<R: Wait + Copy + Drop, P: Post + Drop> Service<R, P> {
     }
 
     /// A host has replied to a joiner.
-    fn hear(&mut self, joiner: &Process, reply: &Reply) {
+    fn hear(&mut self, joiner: &Process, reply: &Reply)
+        ensures present { self.new.present ≡ self.old.present }
+        ensures desk { self.new.desk ≡ self.old.desk }
+    {
         if let Some(asking) = &mut self.asking
             && *joiner == self.me
         {
@@ -276,10 +290,11 @@ impl<R: Wait + Copy + Drop, P: Post + Drop> Service<R, P> {
         self.follow()
     }
 
-    /// One event at the desk, whose journal is begun anew before if it is long. If the desk does
-    /// not go on, its subscribers learn it: they get what was put for them, and then that it is
-    /// closed.
-    fn at_desk(&mut self, event: Event) -> Result<Outputs, NodeFault> {
+    /// One event at the desk, whose journal is begun anew before if it is long. If the desk does not
+    /// go on its subscribers are told: they get what was put for them, and then that it is closed.
+    fn at_desk(&mut self, event: Event) -> Result<Outputs, NodeFault>
+        ensures closed { OnErr result (self.new.desk.subscriptions ≡ []) }
+    {
         // a journal for which there is no memory now grows on, and the next step tries again
         let _ = shorten(&mut self.desk);
         match self.desk.step(event) {

@@ -181,7 +181,8 @@ impl<R: Wait + Copy + Drop, P: Post + Drop> Shared<R, P> {
         let mut service = self.service.lock(rt);
         let done = service.receive(message);
         self.show(rt, &mut service)?;
-        done
+        done?;
+        Ok(())
     }
 
     /// Writes the lines of the observed edges: those of one view, each up or down as it is now.

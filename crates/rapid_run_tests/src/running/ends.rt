@@ -11,10 +11,10 @@ use std::test::Fail;
 use std::time::{Duration, Instant};
 
 /// How many lines are asked for: what they print is more than a pipe has room for.
-const LINES: u32 = 4_000;
+const LINES: u32 = 2_500;
 
 /// Within how many milliseconds a node ends. It takes far less, but the machine may be busy.
-const SOON: u64 = 5_000;
+const SOON: u64 = 10_000;
 
 #[test]
 fn a_fault_ends_a_node_whose_input_is_open(rt: HostRuntime) -> Result<(), Fail> {

@@ -7,7 +7,7 @@ use rapid_config::{ConfigId, Configuration, Cut, Params};
 use rapid_endpoint::{Endpoint, Process, ProcessId};
 use rapid_join::Reply;
 use rapid_message::{Body, Message};
-use rapid_service::{Post, Repeats, Service};
+use rapid_service::{Post, Received, Repeats, Service};
 use std::alloc::Global;
 use std::process::Abort;
 use std::sync::Wait;
@@ -114,6 +114,28 @@ fn requests_are_taken_once_and_questions_each_tenth_tick(rt: HostRuntime) -> Res
     Ok(())
 }
 
+/// The question of the joiner of this number.
+fn question_of(number: u16) -> Result<Message, Fail> {
+    let [high, low] = number.to_be_bytes();
+    let id = [1, 0, 0, 0, 0, 0, 0, 0, 0, 0, 0, 0, 0, 0, high, low];
+    let joiner = Process::new(ProcessId::new(id), Endpoint::new([127, 0, 0, 1], 7_600));
+    Ok(Message::new(joiner, Body::PreJoin)?)
+}
+
+#[test]
+fn questions_of_4096_joiners_are_kept(rt: HostRuntime) -> Result<(), Fail> {
+    let configuration = three(rt.alloc())?;
+    let mut repeats = Repeats::new(rt.alloc(), &configuration)?;
+    for number in 0..4_096 {
+        assert!(rt; repeats.admits(&question_of(number)?));
+    }
+    for _ in 0..2 {
+        assert!(rt; repeats.admits(&question_of(4_096)?));
+        assert!(rt; !repeats.admits(&question_of(4_095)?));
+    }
+    Ok(())
+}
+
 #[test]
 fn other_messages_are_taken_each_time(rt: HostRuntime) -> Result<(), Fail> {
     let configuration = three(rt.alloc())?;
@@ -154,15 +176,34 @@ fn repeats_by_the_hundred_thousand_leave_a_running_node(rt: HostRuntime) -> Resu
     let alloc = rt.alloc();
     let here = three(alloc)?.id();
     let mut service = member(&rt, alloc)?;
-    for _ in 0..200_000 {
-        assert!(rt; service.receive(question(4)?).is_ok());
+    assert_eq!(rt; service.receive(question(4)?), Ok(Received::Taken));
+    for _ in 1..200_000 {
+        assert_eq!(rt; service.receive(question(4)?), Ok(Received::Dropped));
     }
     assert_eq!(rt; service.post().frames, 1);
-    for _ in 0..200_000 {
-        assert!(rt; service.receive(batch(alloc, 2, here, 4)?).is_ok());
+    assert_eq!(rt;
+        service.receive(batch(alloc, 2, here, 4)?),
+        Ok(Received::Taken)
+    );
+    for _ in 1..200_000 {
+        assert_eq!(rt;
+            service.receive(batch(alloc, 2, here, 4)?),
+            Ok(Received::Dropped)
+        );
     }
     assert_eq!(rt; service.post().frames, 1);
     assert!(rt; service.tick().is_ok());
+    Ok(())
+}
+
+#[test]
+fn before_the_first_view_nothing_is_dropped(rt: HostRuntime) -> Result<(), Fail> {
+    let alloc = rt.alloc();
+    let seed = process(2).endpoint();
+    let mut service = Service::join(&rt, alloc, process(1), seed, Count { frames: 0 })?;
+    for _ in 0..3 {
+        assert_eq!(rt; service.receive(question(4)?), Ok(Received::Taken));
+    }
     Ok(())
 }
 
@@ -176,7 +217,8 @@ fn a_node_goes_on_past_a_full_journal(rt: HostRuntime) -> Result<(), Fail> {
     let mut service = Service::found(&rt, alloc, params, process(1), Count { frames: 0 })?;
     for _ in 0..EVENTS {
         let reply = Body::Reply(process(3), Reply::TooManyJoiners);
-        assert!(rt; service.receive(Message::new(process(2), reply)?).is_ok());
+        let received = service.receive(Message::new(process(2), reply)?);
+        assert_eq!(rt; received, Ok(Received::Taken));
     }
     assert!(rt; service.tick().is_ok());
     assert_eq!(rt;

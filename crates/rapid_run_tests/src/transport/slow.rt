@@ -5,12 +5,13 @@ use bytes::Bytes;
 use rapid_endpoint::Endpoint;
 use rapid_transport::{Peers, TransportError};
 use std::alloc::{AllocError, Global};
+use std::io::{self, ErrorKind};
 use std::net::{Ipv4Addr, Net, SocketAddr, SocketAddrV4, TcpListener, TcpStream};
 use std::process::Abort;
 use std::sync::Wait;
 use std::test::Fail;
+use std::thread;
 use std::time::{Clock, Duration, Instant};
-use std::{io, thread};
 
 /// How many bytes a frame of the flood has.
 const LARGE: usize = 60_000;
@@ -175,5 +176,85 @@ fn a_peer_that_reads_nothing_delays_no_other(rt: HostRuntime) -> Result<(), Fail
         "lost {}",
         came.losses
     );
+    Ok(())
+}
+
+/// Within how many milliseconds a peer that was too slow is connected to again. It takes some 50, but
+/// the machine may be busy.
+const AGAIN: u64 = 800;
+
+/// Waits until a frame was lost, for some seconds at most; whether one was.
+fn loses<R: Wait + Clock>(rt: &R, peers: &Peers) -> bool {
+    for _ in 0..1_000 {
+        if peers.losses(rt) > 0 {
+            return true;
+        }
+        thread::sleep(rt, Duration::from_millis(5));
+    }
+    false
+}
+
+/// Posts a frame every ten milliseconds until a connection comes, for some seconds at most; whether
+/// one does.
+fn posts_until_it_comes<R: Wait + Clock>(
+    rt: &R,
+    alloc: Global,
+    peers: &Peers,
+    to: Endpoint,
+    listener: &TcpListener,
+) -> bool {
+    for _ in 0..500 {
+        if post_all(rt, alloc, peers, to, 1).is_err() {
+            return false;
+        }
+        thread::sleep(rt, Duration::from_millis(10));
+        if listener.accept().is_ok() {
+            return true;
+        }
+    }
+    false
+}
+
+/// Floods a peer that reads nothing, and then posts a frame for it now and then. How long it takes
+/// from the first loss until the peer is connected to again. Stops the peers.
+fn tried_again<R>(
+    rt: &R,
+    alloc: Global,
+    peers: &Peers,
+    to: Endpoint,
+    listener: &TcpListener,
+) -> io::Result<Duration>
+where
+    R: Net<Listener = TcpListener, Stream = TcpStream> + Wait + Clock,
+{
+    let frame = large(alloc)?;
+    let flooded = flood(rt, peers, to, &frame, FLOOD).is_ok();
+    let slow = flooded && loses(rt, peers);
+    let begun = Instant::now(rt)?;
+    // the connection of the flood, which the sender has given up
+    let slow = slow && connects(rt, listener, 1);
+    let again = slow && posts_until_it_comes(rt, alloc, peers, to, listener);
+    let spent = begun.elapsed(rt);
+    peers.stop(rt);
+    if !again {
+        return Err(io::Error::from(ErrorKind::TimedOut));
+    }
+    spent
+}
+
+#[test]
+fn a_slow_peer_is_soon_tried_again(rt: HostRuntime) -> Result<(), Fail> {
+    let deaf = Endpoint::new([127, 0, 0, 1], 7_505);
+    let listener = deaf_listener(&rt, 7_505)?;
+    let own = Endpoint::new([127, 0, 0, 1], 7_504);
+    let (peers, ends) = Peers::listen(&rt, rt.alloc(), own)?;
+    let tally = none_asked();
+    let (ran, spent) = thread::join(
+        &rt,
+        || peers.run(&rt, rt.alloc(), ends, &tally),
+        || tried_again(&rt, rt.alloc(), &peers, deaf, &listener),
+    );
+    assert!(rt; ran.is_ok());
+    assert!(rt; spent? < Duration::from_millis(AGAIN));
     Ok(())
 }

@@ -1,0 +1,9 @@
+use Rattle.std.proofs.Common.{IsSomeAnd, sym, subst}
+use Rattle.rapid_service.specs.Remembering.{IsRepeatFor}
+use Rattle.rapid_service.proofs.service.Service.admits.Goals as goal
+
+-- What the filter of the present view does not let through is a repeat.
+pub returns-in-Some-clause-repeats : goal.returns-in-Some-clause-repeats
+returns-in-Some-clause-repeats g c e =
+    subst (λ o. IsSomeAnd o (λ present. IsRepeatFor present.repeats c.args.message.now)) (sym c.in-Some.is)
+    (λ config now passed h. c.admits.ensures.dropped config now passed h e)
