@@ -1,6 +1,7 @@
 // The reports that a set implies.
 
 ghost use Rattle.std.specs.Prelude.{◌≡◌, ℕ, true, not, ◌&&◌, ◌||◌, ◌==◌, ◌<◌, count_by, nat_le, Some, IfOk, OnOk};
+ghost use Rattle.std.specs.List.Sorted.{IsStrictlySortedBy};
 ghost use Rattle.std.specs.Map.{lookup};
 ghost use Rattle.std.specs.BTreeMap.{is_at};
 ghost use Rattle.rapid_model.specs.Process.{Process as Bytes, process_cmp, is_in};
@@ -11,7 +12,7 @@ ghost use Rattle.rapid_cut.specs.Growing.{before};
 ghost use Rattle.rapid_cut.specs.Keeping.{AreKept};
 ghost use Rattle.rapid_cut.specs.Masks.{has_ring};
 
-use crate::ascending::ascending;
+use crate::ascending::merged;
 use crate::growing::GrowingReports;
 use crate::kept::KeptObservers;
 use crate::mask::{Masks, bit, count, has_bit, with};
@@ -28,7 +29,7 @@ pub fn tally<T: ObserverTable>(table: &T, reports: &KnownReports, subject: &Proc
 }
 
 /// The processes with at least L direct reports, ascending: those of before and those that came to
-/// it.
+/// it, both ascending.
 pub fn active_with<T: ObserverTable>(
     alloc: Global,
     table: &T,
@@ -38,13 +39,13 @@ pub fn active_with<T: ObserverTable>(
 ) -> Result<Vec<Process>, AllocError>
     requires rules { AreObservers (T.observers table.now) }
     requires low { (q : Bytes) → model.reaches_low (T.observers table.now) reports.now.direct (Some q) ≡ (is_in before.now q || is_in grown.now q) }
+    requires before { IsStrictlySortedBy process_cmp before.now }
+    requires grown { IsStrictlySortedBy process_cmp grown.now }
     ensures { IfOk result (λ found. found.items ≡ active_of (T.observers table.now) reports.now.direct) }
 {
     let _ = table;
     let _ = reports;
-    let mut found = Vec::from_slice(alloc, before)?;
-    found.extend_from_slice(grown)?;
-    Ok(ascending(found))
+    merged(alloc, before, grown)
 }
 
 /// Whether a process with reports for these rings has at least L.
