@@ -4,7 +4,7 @@ use Rattle.rapid_model.specs.Process.{process_cmp}
 use Rattle.rapid_model.specs.Detector.{taken}
 use Rattle.rapid_alerts.specs.Alerts.{alert_of}
 use Rattle.rapid_cut.specs.Growing.{HaveGrown}
-use Rattle.rapid_cut.proofs.Active.{none_grown, sorted_active, grown_in_order, in_order_ascends, active_same, known_still, known_between, closure_includes, low_among}
+use Rattle.rapid_cut.proofs.Active.{none_grown, sorted_active, grown_in_order, in_order_ascends, active_same, known_still, known_between, closure_includes, low_among, come_since}
 use Rattle.rapid_cut.proofs.detector.take_batch.Goals as goal
 
 pub take_all-requires-clause-known : goal.take_all-requires-clause-known
@@ -34,6 +34,14 @@ settle-requires-clause-active g c =
 pub settle-requires-clause-grown : goal.settle-requires-clause-grown
 settle-requires-clause-grown g c =
     subst (IsStrictlySortedBy process_cmp) (sym c.deref.ensures.value) (in_order_ascends c.in_ok-joiners.field-0.grown.items c.ascending-grown.result.items c.ascending-grown.ensures)
+
+pub settle-requires-clause-come : goal.settle-requires-clause-come
+settle-requires-clause-come g c =
+    let t = g.T.ObserverTable.observers c.args.table.now in
+    let old = c.args.known.now.reports in
+    let new = c.take_all.new.known.reports in
+    come_since t old.direct old.all new.direct new.all c.deref.result.now (taken t old.direct (map alert_of c.args.alerts.now)) c.requires.detecting.rules c.requires.detecting.closure c.in_ok-joiners.ensures.all
+    (subst (HaveGrown t old.direct new.direct) (sym c.deref.ensures.value) (grown_in_order t old.direct new.direct c.in_ok-joiners.field-0.grown.items c.ascending-grown.result.items c.ascending-grown.ensures c.in_ok-joiners.ensures.grown))
 
 pub settle-requires-clause-closed : goal.settle-requires-clause-closed
 settle-requires-clause-closed g c none =
