@@ -72,4 +72,8 @@ impl ObserverTable for SharedRings {
     fn member_and_observer(&self, ring: u8, subject: &Process) -> (bool, Option<Process>) {
         self.rings.member_and_observer(ring, subject)
     }
+
+    fn may_observe(&self, process: &Process) -> bool {
+        self.rings.may_observe(process)
+    }
 }

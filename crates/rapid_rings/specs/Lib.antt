@@ -2,4 +2,5 @@ pub mod Edges
 pub mod Faults
 pub mod Following
 pub mod Held
+pub mod Observing
 pub mod Seats

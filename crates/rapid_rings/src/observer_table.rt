@@ -1,7 +1,8 @@
 // What is asked of rings and tables alike.
 
-ghost use Rattle.std.specs.Prelude.{◌≡◌};
+ghost use Rattle.std.specs.Prelude.{◌≡◌, false};
 ghost use Rattle.rapid_model.specs.Ring.{Observers, AreObservers};
+ghost use Rattle.rapid_rings.specs.Observing.{ObservesNobody};
 
 use rapid_config::{ConfigId, Params};
 use rapid_endpoint::Process;
@@ -37,5 +38,14 @@ pub trait ObserverTable {
         ensures observer { result.1 ≡ (observers self.now).observer ring subject.now }
     {
         (self.is_member(subject), self.observer(ring, subject))
+    }
+
+    /// Whether the process may observe someone. False says that nobody has it as an observer, on
+    /// any ring. True says nothing, and is never wrong.
+    fn may_observe(&self, process: &Process) -> bool
+        ensures { result ≡ false → ObservesNobody (observers self.now) process.now }
+    {
+        let _ = process;
+        true
     }
 }

@@ -200,4 +200,8 @@ impl ObserverTable for Rings {
         let place = self.configuration.position(subject);
         (place.is_some(), self.observer_of(ring, place, subject))
     }
+
+    fn may_observe(&self, process: &Process) -> bool {
+        self.is_member(process)
+    }
 }
