@@ -1,4 +1,4 @@
-use Rattle.std.proofs.Common.{◌≡◌, IfErr, sym, subst}
+use Rattle.std.proofs.Common.{IfErr, sym, subst}
 use Rattle.rapid_line.specs.Line.{Untaken}
 use Rattle.rapid_transport.specs.Queues.{Putting}
 use Rattle.rapid_transport.proofs.queue.SenderQueue.put.Goals.{in-Ok, in-Err}
