@@ -65,14 +65,14 @@ impl World {
         }
     }
 
-    /// The member that a node observes on a ring, from 0; none where no node runs under the
-    /// identifier, or it observes nobody.
-    pub fn observed(&self, id: &ProcessId, ring: u8) -> Result<Option<Process>, AllocError>
-        ensures { IfOk result (λ subject. subject ≡ observed_by (world_of self.now) id.now ring) }
+    /// The member that a node observes on a ring, from 0; none if no node runs under the
+    /// identifier, or it observes nobody. It takes no memory.
+    pub fn observed(&self, id: &ProcessId, ring: u8) -> Option<Process>
+        ensures { result ≡ observed_by (world_of self.now) id.now ring }
     {
         match self.running_under(id) {
             Some(place) => self.peers().as_slice()[place].node().observed(ring),
-            None => Ok(None),
+            None => None,
         }
     }
 }
