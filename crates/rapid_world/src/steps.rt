@@ -97,6 +97,7 @@ impl World {
         ensures refused { IfErr result (Refuses (event_refusal self.old (model.Deliver number))) }
         ensures unchanged { OnErr result (self.new ≡ self.old) }
     {
+        self.seek(number);
         match self.arrival(number) {
             Ok((place, message)) => {
                 self.hand(WorldEvent::Deliver(number), place, &Event::Receive(message))
