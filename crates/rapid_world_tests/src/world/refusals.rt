@@ -67,9 +67,19 @@ fn running_nodes_follow_one_another(rt: HostRuntime) -> Result<(), Fail> {
     let starts = [4, 2, 3].map(|number| Start(process(number), endpoint(1)));
     assert_eq!(rt; world.run(&starts), 3);
     assert_eq!(rt; world.run(&[Crash(id(3))]), 1);
-    let after = [(None, 1), (Some(1), 2), (Some(2), 4), (Some(3), 4), (Some(4), 1), (Some(9), 1)];
+    let after = [
+        (None, 1),
+        (Some(1), 2),
+        (Some(2), 4),
+        (Some(3), 4),
+        (Some(4), 1),
+        (Some(9), 1),
+    ];
     for (last, next) in after {
-        assert!(rt; world.next_running(last.map(id)) == Some(id(next)), "after {last:?}");
+        assert!(rt;
+            world.next_running(last.map(id)) == Some(id(next)),
+            "after {last:?}"
+        );
     }
     assert_eq!(rt; world.run(&[Crash(id(1)), Crash(id(2)), Crash(id(4))]), 3);
     assert!(rt; world.next_running(None).is_none());
@@ -80,7 +90,12 @@ fn running_nodes_follow_one_another(rt: HostRuntime) -> Result<(), Fail> {
 #[test]
 fn the_next_packet_can_be_delivered(rt: HostRuntime) -> Result<(), Fail> {
     let mut world = alone(rt.alloc())?;
-    let starts = [Start(process(2), endpoint(1)), Start(process(3), endpoint(2)), Tick(id(2)), Tick(id(3))];
+    let starts = [
+        Start(process(2), endpoint(1)),
+        Start(process(3), endpoint(2)),
+        Tick(id(2)),
+        Tick(id(3)),
+    ];
     assert_eq!(rt; world.run(&starts), 4);
     assert!(rt; world.packets() == 2);
     assert!(rt; world.next_deliverable(0) == Some(1));
