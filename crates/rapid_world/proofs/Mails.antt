@@ -213,4 +213,4 @@ last_tells ss total k i j h p e l =
 
 -- what is read at the place
 pub read_there : (ss : List Sent) (i : ℕ) (s x : Sent) → slice_get ss i ≡ Some s → x ≡ get_or ss i x → x ≡ s
-read_there ss i s x at is = is ∙ get_or_from_slice_get ss i x s at
+read_there ss i s x at is = is ∙ get_or_from_slice_get ss i s x at

@@ -20,7 +20,7 @@ use Rattle.rapid_world.specs.Found.{Places, AreFound, HasAll, runs, running_of}
 use Rattle.rapid_world.proofs.Finding.{NonePasses, position_none, any_none, none_by_any, none_by_position}
 
 not_both : {A : Type 0} (b : Bool) → b ≡ true → b ≡ false → A
-not_both b h k = let no : true ≡ false = sym h ∙ k in absurd cc
+not_both b h k = let never : true ≡ false = sym h ∙ k in absurd cc
 
 -- ---- the identifiers that are kept
 
@@ -29,7 +29,7 @@ or_right true b h = refl
 or_right false b h = h
 
 pub none_there : (ids : List Identifier) (m : Places) → m ≡ finmap.empty → HasAll ids m
-none_there ids m e = λ q h. let no : is_some (finmap.get m q) ≡ false = ap (λ (x : Places). is_some (finmap.get x q)) e in not_both _ h no
+none_there ids m e = λ q h. let none : is_some (finmap.get m q) ≡ false = ap (λ (x : Places). is_some (finmap.get x q)) e ∙ ap is_some (finmap.get-empty bytes_cmp q) in not_both _ h none
 
 -- one more, which need not be found
 pub kept_more : (ids : List Identifier) (m : Places) (id : Identifier) → HasAll ids m → HasAll (insert_key bytes_cmp ids id) m
@@ -135,7 +135,7 @@ above_runs ids by_id by_endpoint ps last all are sorted =
 -- ---- one after another
 
 pub passed : {A : Type 0} (f : A → Bool) (x : A) (xs ys : List A) → ys ≡ x ∷ xs → f x ≡ false → find f xs ≡ find f ys
-passed f x xs ys e no = sym (ap (find f) e ∙ ap (λ c. cond c (Some x) (find f xs)) no)
+passed f x xs ys e fails = sym (ap (find f) e ∙ ap (λ c. cond c (Some x) (find f xs)) fails)
 
 pub stopped : {A : Type 0} (f : A → Bool) (x : A) (xs ys : List A) → ys ≡ x ∷ xs → f x ≡ true → Some x ≡ find f ys
 stopped f x xs ys e ok = sym (ap (find f) e ∙ ap (λ c. cond c (Some x) (find f xs)) ok)

@@ -156,7 +156,7 @@ impl World {
         self.tell();
         match self.running_under(id) {
             Some(place) => match self.peers().as_slice()[place].observed(ring) {
-                Some((config, subject)) => Ok((place, config, subject)),
+                Some(edge) => Ok((place, edge.0, edge.1)),
                 None => Err(WorldError::NotObserved),
             },
             None => Err(WorldError::NoSuchNode),

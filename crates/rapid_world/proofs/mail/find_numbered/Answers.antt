@@ -10,14 +10,6 @@ bounds-sendings-place c = let t = c.in-Some.ensures.found in let l = slice_get_w
 pub overflow_sub-number : goal.overflow_sub-number
 overflow_sub-number c = let t = c.in-Some.ensures.found in let b = t.begins in omega (arith, b)
 
-pub overflow_sub-number-2 : goal.overflow_sub-number-2
-overflow_sub-number-2 c =
-    let t = c.in-Some.ensures.found in
-    let b = t.begins in
-    let same = ap (λ (s : Sent). s.first) (read_there c.args.sendings.now c.in-Some.place t.sent c.index-sendings-place.result t.at c.index-sendings-place.is) in
-    let first = c.first.ensures in
-    omega (arith, b, same, first)
-
 pub returns-in-Some : goal.returns-in-Some
 returns-in-Some c =
     let t = c.in-Some.ensures.found in

@@ -12,7 +12,7 @@ returns-in-Some-observed-clause-probes c =
     let within : c.in-Some.place < length c.as_slice.result.now = let l = under_within (world_of c.args.self.now) c.args.id.now c.in-Some.place (sym c.in-Some.ensures) in let e = ap length (c.as_slice.ensures ∙ c.peers.ensures) in omega arith in
     let at : slice_get (world_of c.args.self.now).peers c.in-Some.place ≡ Some c.index-as_slice-place.result =
     ap (λ (l : List Peer). slice_get l c.in-Some.place) (sym (c.as_slice.ensures ∙ c.peers.ensures)) ∙ stands_read c.as_slice.result.now c.in-Some.place c.index-as_slice-place.result within c.index-as_slice-place.is in
-    edge_probes c.args.self.now c.args.id.now c.args.ring c.args.ok c.in-Some.place c.index-as_slice-place.result c.in-Some-observed.config c.in-Some-observed.subject c.tell.ensures.members c.requires (sym c.in-Some.ensures) at
+    edge_probes c.args.self.now c.args.id.now c.args.ring c.args.ok c.in-Some.place c.index-as_slice-place.result c.in-Some-observed.edge.0 c.in-Some-observed.edge.1 c.tell.ensures.members c.requires (sym c.in-Some.ensures) at
     c.in-Some-observed.ensures
 
 pub returns-in-None-observed-clause-refused : goal.returns-in-None-observed-clause-refused
