@@ -1,5 +1,5 @@
 -- Runs of a world with an event more.
-use Rattle.std.proofs.Common.{◌≡◌, ◌⊎◌, ℕ, suc, ◌+◌, ◌-◌, Bool, true, false, cond, List, [], ◌∷◌, ◌++◌, length, slice_get, length-append, inl, inr, refl, sym, ap, subst, ◌∙◌, Some, None, arith}
+use Rattle.std.proofs.Common.{◌≡◌, ◌⊎◌, ℕ, suc, ◌+◌, ◌-◌, Bool, true, false, cond, List, [], ◌∷◌, ◌++◌, length, slice_get, length-append, inl, refl, sym, ap, subst, ◌∙◌, Some, None, arith}
 use Rattle.std.specs.Prelude.{is_some}
 use Rattle.rapid_model.specs.World as model
 use Rattle.rapid_model.specs.World.{MarkedEvent}
@@ -75,7 +75,7 @@ one_passed s t es n w e why run bars = by why bars
     by NoSuchPacket h = refused refusal.NoSuchPacket h
     by NotObserved h = refused refusal.NotObserved h
     by EventsFull h = refused refusal.EventsFull h
-    by OutOfMemory h = counted s t (es ++ e ∷ []) n (n + 0) (w + 1) (w + 1) (omega arith) refl (one_lacking s t es n w e run h)
+    by OutOfMemory h = counted s t (es ++ e ∷ []) n (n + 0) (w + 1) (w + 1) (omega arith) refl (one_lacking s t es n w e run (inl h))
 
 -- ---- if memory ran out 0 times
 
