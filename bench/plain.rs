@@ -13,6 +13,8 @@ mod crashes;
 mod detect;
 #[path = "plain/detector.rs"]
 mod detector;
+#[path = "plain/edges.rs"]
+mod edges;
 #[path = "plain/frames.rs"]
 mod frames;
 #[path = "plain/lines.rs"]
@@ -257,6 +259,7 @@ fn main() {
         Some("desks") => steps::measure_desks(),
         Some("worlds") => crashes::measure(number(1), number(2)),
         Some("views") => views::measure_all(),
+        Some("edges") => edges::measure_all(),
         Some(other) => panic!("no figure is called {other}"),
     }
 }

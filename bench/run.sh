@@ -1,6 +1,6 @@
 #!/bin/bash
 # Prints each figure of the proved programs, of the plain Rust body, and the ratio of the two. With
-# words, the figures of those words alone (votes, memory, rings_new, .., worlds, views, desks,
+# words, the figures of those words alone (votes, memory, rings_new, .., views, edges, desks,
 # detect, sim, cluster); with none, all.
 set -e
 cd "$(dirname "${BASH_SOURCE[0]}")/.."
@@ -54,14 +54,14 @@ inner() {
     beside "$room/plain_all" "$room/proved"
 }
 
-all="votes memory rings_new rings_next from_bytes frames steps step_bytes worlds views desks same"
+all="votes memory rings_new rings_next from_bytes frames steps step_bytes worlds views edges desks same"
 # shellcheck disable=SC2086
 [ $# -gt 0 ] || set -- $all detect sim cluster
 printf "%-24s %12s %12s %8s\n" figure proved plain ratio
 for word in "$@"; do
     case $word in
         worlds) worlds ;;
-        views | desks)
+        views | edges | desks)
             bench=$(program rapid_bench)
             "$bench" "$word" >"$room/proved"
             "$room/plain" "$word" >"$room/other"

@@ -8,7 +8,7 @@ use std::time::Instant;
 const STAMPS: u32 = 1_000_000;
 const VIEWS: u32 = 10_000;
 const RUNS: u32 = 20;
-const MOST_THREADS: usize = 4;
+pub const MOST_THREADS: usize = 4;
 
 /// What is read of a configuration where its members are not.
 #[derive(Clone, Copy, PartialEq, Eq)]

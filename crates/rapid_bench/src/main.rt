@@ -1,11 +1,13 @@
-//! Measures the calls that a member makes most, and worlds of founders of which some crash. Also
-//! reads of the published view by one and by four threads, and steps of a desk beside those of its
-//! node. `bench/plain.rs` does the same work in plain Rust, and `bench/README.md` has the figures
-//! of both.
+//! Measures the calls that a member makes most, worlds of founders of which some crash, reads of the
+//! published view by one and by four threads, probe windows that they share, and steps of a desk
+//! beside those of its node.
+//! `bench/plain.rs` does the same work in plain Rust, and `bench/README.md` has the figures of both.
 #![tactic(auto)]
 
 mod cluster;
 mod desks;
+mod edge_readers;
+mod edges;
 mod figure;
 mod founders;
 mod frames;
@@ -43,8 +45,10 @@ const USAGE: &str = "rapid_bench WORD.. prints figures, a line each: NAME, a spa
   step_bytes    bytes that are held after a step or a copy and were not before
   world_200, world_1000    so many founders of which two or ten crash, until all others have installed the next view:
             nanoseconds an event, how many events, nanoseconds of the founding, and the most bytes that the process held
-  views     nanoseconds of a hundred reads of a stamp, and of the view of 1,000 processes, by 1 and by 4 threads
-            at a time; and of the same under a lock
+  views     nanoseconds of a hundred reads of a stamp, of a copy of the view of 1,000 processes, and of this view where a
+            seat keeps it, by 1 and by 4 threads at a time; and of the first two under a lock
+  edges     nanoseconds of a hundred results of a probe, each by the seat of its edge, and of a hundred looks at sixteen
+            edges, by 1 and by 4 threads at a time; and of the same under a lock of all windows
   desks     nanoseconds of a vote and a tick among 1,000 processes, at a node and at a desk";
 
 /// Prints the figures of a word.
@@ -59,6 +63,7 @@ fn print_figures<R: Print + Clock + Files + Alloc + Threads + Wait + Sync>(
         "rings_new" => rings_new::print(rt, alloc),
         "rings_next" => rings_next::print(rt, alloc),
         "views" => views::print(rt, alloc),
+        "edges" => edges::print(rt, alloc),
         "desks" => desks::print(rt, alloc),
         other => print_more(rt, alloc, other),
     }

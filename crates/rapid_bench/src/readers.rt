@@ -54,6 +54,22 @@ impl Reader for MemberSeat {
     }
 }
 
+/// Reads the published view where its seat keeps it.
+#[derive(Drop)]
+pub struct KeptSeat {
+    pub seat: ViewSeat,
+}
+
+impl Reader for KeptSeat {
+    fn read<R: Wait>(&mut self, rt: &R, times: u32) -> Result<()> {
+        for _ in 0..times {
+            self.seat.refresh(rt)?;
+            let _ = black_box(self.seat.view());
+        }
+        Ok(())
+    }
+}
+
 /// Reads a stamp under a lock, and compares it with that of the time before.
 #[derive(Drop)]
 pub struct LockedStamp<'a> {

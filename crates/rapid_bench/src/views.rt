@@ -1,6 +1,6 @@
 // Reads of the published view, and the same under a lock.
 use crate::figure::nanoseconds_since;
-use crate::readers::{LockedStamp, LockedView, MemberSeat, Reader, StampSeat};
+use crate::readers::{KeptSeat, LockedStamp, LockedView, MemberSeat, Reader, StampSeat};
 use crate::thousand::founded;
 use anyhow::Result;
 use rapid_config::Configuration;
@@ -21,7 +21,7 @@ const VIEWS: u32 = 10_000;
 const RUNS: u32 = 20;
 
 /// The most threads.
-const MOST_THREADS: usize = 4;
+pub const MOST_THREADS: usize = 4;
 
 /// Reads this often; nobody else reads by this reader.
 fn read<T: Reader, R: Wait>(rt: &R, reader: &Mutex<T>, times: u32) {
@@ -49,7 +49,7 @@ fn time<T: Reader + Send, R: Clock + Threads + Wait + Sync>(
 }
 
 /// Prints the nanoseconds of a hundred reads of each, by one reader and by all.
-fn measure<T: Reader + Send, R: Print + Clock + Threads + Wait + Sync>(
+pub fn measure<T: Reader + Send, R: Print + Clock + Threads + Wait + Sync>(
     rt: &R,
     name: &str,
     readers: &[Mutex<T>],
@@ -90,6 +90,15 @@ fn member_seats(alloc: Global, seats: Vec<ViewSeat>) -> Result<Vec<Mutex<MemberS
     Ok(readers)
 }
 
+/// Readers of the published view where these seats keep it.
+fn kept_seats(alloc: Global, seats: Vec<ViewSeat>) -> Result<Vec<Mutex<KeptSeat>>> {
+    let mut readers = Vec::new(alloc);
+    for seat in seats {
+        readers.push(Mutex::new(KeptSeat { seat }))?;
+    }
+    Ok(readers)
+}
+
 /// Prints the figures of the stamp.
 fn print_stamps<R: Print + Clock + Threads + Wait + Sync>(
     rt: &R,
@@ -112,6 +121,18 @@ fn print_views<R: Print + Clock + Threads + Wait + Sync>(
     let (_writer, seats) = ViewCell::new(rt, alloc, view, MOST_THREADS, 16)?;
     let readers = member_seats(alloc, seats)?;
     measure(rt, "members", readers.as_slice(), VIEWS)
+}
+
+/// Prints the figures of the view where a seat keeps it.
+fn print_kept_views<R: Print + Clock + Threads + Wait + Sync>(
+    rt: &R,
+    alloc: Global,
+    configuration: &Configuration,
+) -> Result<()> {
+    let view = view_of(alloc, configuration)?;
+    let (_writer, seats) = ViewCell::new(rt, alloc, view, MOST_THREADS, 16)?;
+    let readers = kept_seats(alloc, seats)?;
+    measure(rt, "kept", readers.as_slice(), STAMPS)
 }
 
 /// Prints the figures of a stamp under a lock.
@@ -146,11 +167,12 @@ fn print_locked_views<R: Print + Clock + Threads + Wait + Sync>(
 }
 
 /// Prints the figures `stamp_1`, `stamp_4`, `locked_stamp_1` and so on, of `stamp`, `locked_stamp`,
-/// `members` and `locked_members`.
+/// `members`, `kept` and `locked_members`.
 pub fn print<R: Print + Clock + Threads + Wait + Sync>(rt: &R, alloc: Global) -> Result<()> {
     let configuration = founded(alloc)?;
     print_stamps(rt, alloc, &configuration)?;
     print_locked_stamps(rt, alloc, &configuration)?;
     print_views(rt, alloc, &configuration)?;
+    print_kept_views(rt, alloc, &configuration)?;
     print_locked_views(rt, alloc, &configuration)
 }

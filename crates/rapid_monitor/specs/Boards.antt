@@ -1,6 +1,6 @@
 -- Clauses of public calls cite this file.
--- What the watchers and the seats of a board know.
-use Rattle.std.specs.Prelude.{ℕ, Bool, ◌≤◌, List, [], if◌then◌else◌}
+-- What the watchers and the seats of a board show.
+use Rattle.std.specs.Prelude.{ℕ, Bool, true, false, ◌≤◌, List, [], if◌then◌else◌}
 use Rattle.atomic_table.specs.Seated.{TableId}
 use Rattle.rapid_monitor.specs.BoardRule.{is_down_after}
 use Rattle.rapid_monitor.specs.declared.edge.Verdict.{Verdict}
@@ -31,6 +31,11 @@ fresh_seat board edge = record { board = board; edge = edge; results = [] }
 -- The verdict of an edge that had these results, in order.
 abbrev pub verdict_after : List Bool → Verdict
 verdict_after oks = if is_down_after oks then Down else Up
+
+-- Whether a verdict is Down.
+abbrev pub is_down_verdict : Verdict → Bool
+is_down_verdict Up = false
+is_down_verdict Down = true
 
 -- There are boards with as many edges and watchers.
 abbrev pub IsSize : ℕ → ℕ → Type 0

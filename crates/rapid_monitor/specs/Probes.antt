@@ -1,7 +1,8 @@
 -- Clauses of public calls cite this file.
 -- The probes of a member: whom it observes, and who has acknowledged since the last round.
-use Rattle.std.specs.Prelude.{ℕ, ◌%◌, ◌==◌, Bool, false, ◌||◌, List, [], ◌∷◌, ◌++◌, map, filter, if◌then◌else◌, Option, Some, None}
+use Rattle.std.specs.Prelude.{ℕ, ◌%◌, ◌==◌, Bool, false, not, ◌||◌, ◌&&◌, List, [], ◌∷◌, ◌++◌, map, filter, if◌then◌else◌, Option, Some, None}
 use Rattle.rapid_model.specs.Process.{Process, same_bytes, is_in}
+use Rattle.rapid_monitor.specs.BoardRule.{is_down_after}
 use Rattle.rapid_monitor.specs.Boards.{Owned}
 use Rattle.rapid_monitor.specs.declared.probe_book.Watched.{Watched}
 use Rattle.rapid_monitor.specs.declared.probe_book.Probing.{Probing}
@@ -54,3 +55,19 @@ abbrev pub all_judged : List Owned → List Probing → List Owned
 all_judged [] probings = []
 all_judged (s ∷ seats) [] = s ∷ seats
 all_judged (s ∷ seats) (p ∷ probings) = judged s p.answered ∷ all_judged seats probings
+
+-- The edge of a seat goes down by an answer: with it the edge is down, and without it was not.
+abbrev pub goes_down : Owned → Option Bool → Bool
+goes_down s None = false
+goes_down s (Some ok) = is_down_after (s.results ++ ok ∷ []) && not (is_down_after s.results)
+
+-- A sink, by what it is and what a probe and an edge that goes down make of it, after it was told of one edge of a round: that it goes
+-- down, if it does, and then to probe its subject.
+abbrev pub told_of : {X : Type 0} → (X → ℕ → Process → X) → (X → ℕ → Process → X) → X → Owned → Probing → X
+told_of probed went_down x s p = probed (if goes_down s p.answered then went_down x p.ring p.subject else x) p.ring p.subject
+
+-- The same after it was told of all edges of a round, in order.
+abbrev pub all_told : {X : Type 0} → (X → ℕ → Process → X) → (X → ℕ → Process → X) → X → List Owned → List Probing → X
+all_told probed went_down x [] probings = x
+all_told probed went_down x (s ∷ seats) [] = x
+all_told probed went_down x (s ∷ seats) (p ∷ probings) = all_told probed went_down (told_of probed went_down x s p) seats probings

@@ -6,3 +6,4 @@ pub mod EdgeText
 pub mod Repeating
 pub mod Remembering
 pub mod Asking
+pub mod PartRounds

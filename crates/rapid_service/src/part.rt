@@ -1,8 +1,9 @@
 // A part of the probes of a node, and what a round of it asks for.
 
-ghost use Rattle.std.specs.Prelude.{◌≡◌, ℕ, Bool, true, List, [], ◌∷◌, length, vec_len, IfSome, OnOk};
+ghost use Rattle.std.specs.Prelude.{◌≡◌, ℕ, Bool, true, List, [], ◌∷◌, length, vec_len, slice_set, Some, IfSome, IfOk, OnOk};
 ghost use Rattle.rapid_model.specs.Process.{Process as ModelProcess};
-ghost use Rattle.rapid_monitor.specs.Probes.{book_when, round_when, all_judged};
+ghost use Rattle.rapid_monitor.specs.Probes.{book_when, round_when, all_judged, all_told};
+ghost use Rattle.rapid_service.specs.PartRounds.{blank_round, with_probe, with_down};
 
 use rapid_config::ConfigId;
 use rapid_endpoint::Process;
@@ -24,7 +25,10 @@ pub struct PartRound {
 }
 
 /// Notes a process at its ring.
-fn put(slots: &mut [Option<Process>; MOST_RINGS], ring: u8, subject: &Process) {
+#[tactic(auto, using(std::proofs::lemmas::List::set_past))]
+fn put(slots: &mut [Option<Process>; MOST_RINGS], ring: u8, subject: &Process)
+    ensures { slots.new ≡ slice_set slots.old ring (Some subject.now) }
+{
     let place = usize::from(ring);
     if place < MOST_RINGS {
         slots[place] = Some(*subject);
@@ -32,6 +36,14 @@ fn put(slots: &mut [Option<Process>; MOST_RINGS], ring: u8, subject: &Process) {
 }
 
 impl EdgeSink for PartRound {
+    type State = PartRound;
+
+    ghost state = { λ round. round };
+
+    ghost probed = { with_probe };
+
+    ghost went_down = { with_down };
+
     fn probe(&mut self, ring: u8, subject: &Process) {
         put(&mut self.probes, ring, subject);
     }
@@ -71,12 +83,15 @@ impl Part {
         self.book.ack(process);
     }
 
-    /// A round of the part: each seat takes whether its subject has acknowledged since the last.
+    /// A round of the part: each seat takes whether its subject has acknowledged since the last. What
+    /// it asks for is a probe on each ring of the part, and each edge that went down by it.
     pub fn round(&mut self, alloc: Global) -> Result<PartRound, AllocError>
         ensures seats { (subjects : List (ℕ × ModelProcess)) (begun : Bool) (acks : List ModelProcess) → self.old.book ≡ book_when subjects begun acks →
             OnOk result (self.new.seats.items ≡ all_judged self.old.seats.items (round_when subjects begun acks)) }
         ensures book { (subjects : List (ℕ × ModelProcess)) (begun : Bool) (acks : List ModelProcess) → self.old.book ≡ book_when subjects begun acks →
             OnOk result (self.new.book ≡ book_when subjects true []) }
+        ensures asked { (subjects : List (ℕ × ModelProcess)) (begun : Bool) (acks : List ModelProcess) → self.old.book ≡ book_when subjects begun acks →
+            IfOk result (λ round. round ≡ all_told with_probe with_down (blank_round self.old.id) self.old.seats.items (round_when subjects begun acks)) }
     {
         let mut round = PartRound {
             id: self.id,

@@ -6,10 +6,16 @@ use Rattle.rapid_model.specs.Configuration.{Configuration, Stamp}
 use Rattle.rapid_view.specs.declared.error.ViewError.{ViewError}
 use Rattle.rapid_view.specs.declared.error.ViewError.TheVariants.{NotNext, Behind, NoPlace, CellFull, OutOfMemory}
 
--- Which cell a seat reads, and the published list as far as the seat has seen it.
+-- Which cell a reader of stamps reads, and the published list as far as it has seen it.
+pub record Reading : Type 0 where
+  pub cell : TableId
+  pub seen : List Stamp
+
+-- Which cell a seat reads, the published list as far as the seat has seen it, and the view that the seat keeps.
 pub record Watched : Type 0 where
   pub cell : TableId
   pub seen : List Stamp
+  pub kept : Configuration
 
 -- Which cell the writer writes, for how many views it has room, and the list that is published.
 pub record Written : Type 0 where

@@ -22,27 +22,45 @@ pub struct ViewCell {
     pub(crate) table: Table<(), Known, u64, Published, Global>,
 }
 
-/// As many seats of the writer's cell, each with a place at the list of members.
+/// A seat of the writer's cell, with a place at the list of members, which keeps this view.
+fn seat_of(
+    alloc: Global,
+    writer: &mut StampWriter,
+    list: &ReadHandleFactory<Page>,
+    view: &View,
+) -> Result<ViewSeat, ViewError>
+    requires { 0 < length writer.old.seen }
+    ensures same { writer.new ≡ writer.old }
+    ensures seat { IfOk result
+        (λ s. s ≡ record { cell = writer.old.cell; seen = writer.old.seen; kept = view.now }) }
+    ensures refused { IfErr result (λ e. (e ≡ ViewError.NoPlace) ⊎ (e ≡ ViewError.OutOfMemory)) }
+{
+    let kept = view.try_copy(alloc)?;
+    let stamps = writer.reader()?;
+    // the library does not tell a lack of places from a lack of memory
+    let Ok(list) = list.handle() else {
+        return Err(ViewError::NoPlace);
+    };
+    Ok(ViewSeat::new(alloc, stamps, list, kept))
+}
+
+/// As many seats of the writer's cell, each with a place at the list of members and with this view.
 fn seats_of(
     alloc: Global,
     writer: &mut StampWriter,
     list: &ReadHandleFactory<Page>,
+    view: &View,
     seats: usize,
 ) -> Result<Vec<ViewSeat>, ViewError>
     requires { 0 < length writer.old.seen }
     ensures same { writer.new ≡ writer.old }
     ensures seats { IfOk result
-        (λ all. (vec_len all ≡ seats) × All (λ s. (s.cell ≡ writer.old.cell) × (s.seen ≡ writer.old.seen)) all.items) }
+        (λ all. (vec_len all ≡ seats) × All (λ s. (s.cell ≡ writer.old.cell) × (s.seen ≡ writer.old.seen) × (s.kept ≡ view.now)) all.items) }
     ensures refused { IfErr result (λ e. (e ≡ ViewError.NoPlace) ⊎ (e ≡ ViewError.OutOfMemory)) }
 {
     let mut all = Vec::with_capacity(alloc, seats)?;
     for _ in 0..seats {
-        let stamps = writer.reader()?;
-        // the library does not distinguish a lack of places from a lack of memory
-        let Ok(list) = list.handle() else {
-            return Err(ViewError::NoPlace);
-        };
-        all.push(ViewSeat::new(stamps, list))?;
+        all.push(seat_of(alloc, writer, list, view)?)?;
     }
     Ok(all)
 }
@@ -52,7 +70,7 @@ impl ViewCell {
     pub const MOST: usize = 65_536;
 
     /// A cell in which this view is published, with room for this many views: its writer, and its
-    /// seats. `NoPlace` if a seat got no reader's place.
+    /// seats, which keep this view. `NoPlace` if a seat got no reader's place.
     pub fn new<R: Wait + Drop>(
         rt: R,
         alloc: Global,
@@ -67,13 +85,15 @@ impl ViewCell {
         ensures seats { IfOk result (λ r. vec_len r.1 ≡ seats) }
         ensures of_cell { IfOk result (λ r. All (λ s. s.cell ≡ r.0.cell) r.1.items) }
         ensures seen { IfOk result (λ r. All (λ s. s.seen ≡ model.stamp view ∷ []) r.1.items) }
+        ensures kept { IfOk result (λ r. All (λ s. s.kept ≡ view) r.1.items) }
         ensures refused { IfErr result (λ e. (e ≡ ViewError.NoPlace) ⊎ (e ≡ ViewError.OutOfMemory)) }
     {
         let stamp = view.stamp();
+        let kept = view.try_copy(alloc)?;
         let second = Page::of(alloc, view.try_copy(alloc)?);
         let list = WriteHandle::new(alloc, rt, Page::of(alloc, view), second, seats)?;
         let mut stamps = StampWriter::open(alloc, stamp, views)?;
-        let all = seats_of(alloc, &mut stamps, &list.factory()?, seats)?;
+        let all = seats_of(alloc, &mut stamps, &list.factory()?, &kept, seats)?;
         let writer = ViewWriter { stamps, list };
         Ok((writer, all))
     }

@@ -1,8 +1,8 @@
 //! The published view: one writer publishes views, and seats read the last one beside it.
 //!
 //! The stamps of the views stand in a cell of words that are read without a lock (`stamp`). The
-//! view itself is in two copies, of which readers have one while the writer changes the other
-//! (`members`).
+//! view itself is in two copies, of which readers have one while the writer changes the other. A
+//! seat keeps the view that it found last (`refresh`, `view`), and gives copies of it (`members`).
 #![tactic(auto)]
 
 ghost use Rattle.rapid_view.specs.Laws.{CellsArePublished};

@@ -11,16 +11,19 @@ use crate::stamp_writer::StampWriter;
 use crate::{View, ViewError};
 use left_right::ReadHandle;
 use rapid_config::Stamp;
-use std::alloc::AllocError;
+use std::alloc::{AllocError, Global};
 use std::marker::Model;
 use std::sync::Wait;
 
-/// A seat at the published view: it reads the last stamp, and the last view. Contracts see which
-/// cell it reads, and the published list as far as it has seen it.
+/// A seat at the published view: it reads the last stamp, and the last view. It keeps the view that
+/// it found last, so that nobody else is asked while the last stamp stays the same. Contracts see
+/// which cell it reads, the published list as far as it has seen it, and the view that it keeps.
 #[derive(Drop)]
 pub struct ViewSeat {
+    alloc: Global,
     stamps: StampReader,
     list: ReadHandle<Page>,
+    kept: View,
 }
 
 impl Model for ViewSeat {
@@ -28,7 +31,7 @@ impl Model for ViewSeat {
 
     ghost Value = { Watched };
 
-    ghost view = { λ s. s.stamps };
+    ghost view = { λ s. record { cell = s.stamps.cell; seen = s.stamps.seen; kept = s.kept } };
 }
 
 /// Whether these are the same stamp.
@@ -51,12 +54,55 @@ fn find(list: &mut ReadHandle<Page>) -> Result<Option<View>, AllocError> {
     Ok(Some(page.view()?))
 }
 
+/// The view of the last stamp of a published list that begins with all that was seen, out of the
+/// list of members.
+#[tactic(auto, using(crate::proofs::Beginnings::begins_longer))]
+fn look_up<R: Wait>(
+    rt: &R,
+    stamps: &mut StampReader,
+    list: &mut ReadHandle<Page>,
+) -> Result<View, ViewError>
+    ensures cell { stamps.new.cell ≡ stamps.old.cell }
+    ensures later { IsBeginning stamps.old.seen stamps.new.seen }
+    ensures rises { HeightsRise stamps.new.seen }
+    ensures last { IfOk result (λ view. slice_get stamps.new.seen (length stamps.new.seen - 1) ≡ Some (stamp view)) }
+    ensures missed { IfErr result (Missed stamps.new.seen) }
+{
+    stamps.tell();
+    for _ in rt.forever() {
+        // the view first: its stamp was published before it, so the stamp read next is not older
+        let found = find(list)?;
+        let stamp = stamps.stamp();
+        // the list goes with its writer: whoever wants the last view keeps the writer
+        let Some(view) = found else {
+            return Err(ViewError::Behind(stamp));
+        };
+        if is_same(&view.stamp(), &stamp) {
+            return Ok(view);
+        }
+        if view.configuration().height() < stamp.height() {
+            return Err(ViewError::Behind(stamp));
+        }
+    }
+    unreachable!()
+}
+
 impl ViewSeat {
-    /// The seat of this reader of stamps, with this place at the list.
-    pub(crate) fn new(stamps: StampReader, list: ReadHandle<Page>) -> ViewSeat
-        ensures { result ≡ stamps }
+    /// The seat of this reader of stamps, with this place at the list, which keeps this view.
+    pub(crate) fn new(
+        alloc: Global,
+        stamps: StampReader,
+        list: ReadHandle<Page>,
+        kept: View,
+    ) -> ViewSeat
+        ensures { result ≡ record { cell = stamps.cell; seen = stamps.seen; kept = kept } }
     {
-        ViewSeat { stamps, list }
+        ViewSeat {
+            alloc,
+            stamps,
+            list,
+            kept,
+        }
     }
 
     /// The last stamp of a published list that begins with all that this seat had seen: it never
@@ -66,41 +112,65 @@ impl ViewSeat {
         ensures later { IsBeginning self.old.seen self.new.seen }
         ensures rises { HeightsRise self.new.seen }
         ensures last { slice_get self.new.seen (length self.new.seen - 1) ≡ Some result }
+        ensures kept { self.new.kept ≡ self.old.kept }
     {
         self.stamps.stamp()
     }
 
+    /// Sees to it that the view that this seat keeps is that of the last stamp of a published list
+    /// that begins with all that this seat had seen. Afterwards the seat has seen that list, also if
+    /// it answers an error, which leaves the view that it keeps. `Behind` if the view of the last
+    /// stamp is still to be put in the list, or the writer is gone before this seat has found it.
+    ///
+    /// While the last stamp is that of the view kept, it reads this stamp and no more, so it takes
+    /// no memory then, and waits for nobody.
+    pub fn refresh<R: Wait>(&mut self, rt: &R) -> Result<(), ViewError>
+        ensures cell { self.new.cell ≡ self.old.cell }
+        ensures later { IsBeginning self.old.seen self.new.seen }
+        ensures rises { HeightsRise self.new.seen }
+        ensures last { IfOk result (λ _. slice_get self.new.seen (length self.new.seen - 1) ≡ Some (stamp self.new.kept)) }
+        ensures missed { IfErr result (Missed self.new.seen) }
+        ensures unchanged { IfErr result (λ _. self.new.kept ≡ self.old.kept) }
+    {
+        let stamp = self.stamps.stamp();
+        if is_same(&self.kept.stamp(), &stamp) {
+            return Ok(());
+        }
+        self.kept = look_up(rt, &mut self.stamps, &mut self.list)?;
+        Ok(())
+    }
+
+    /// The view that this seat keeps: that which `refresh` or `members` found last, and before that
+    /// the first of its cell. It looks at nothing that others change.
+    pub fn view(&self) -> &View
+        ensures value { result.now ≡ self.now.kept }
+        ensures valid { IsConfiguration self.now.kept }
+    {
+        self.kept.tell();
+        &self.kept
+    }
+
     /// The view of the last stamp of a published list that begins with all that this seat had seen.
     /// Afterwards the seat has seen that list, also if it answers an error. `Behind` if the view of
-    /// the last stamp is still to be put in the list, or the writer is gone.
-    #[tactic(auto, using(crate::proofs::Beginnings::begins_longer))]
+    /// the last stamp is still to be put in the list, or the writer is gone before this seat has
+    /// found it.
+    ///
+    /// It is a copy, to be kept or sent on. All copies of a view share one list and one count of it,
+    /// so where several threads read one view again and again, `refresh` and `view` serve better:
+    /// these count nothing.
     pub fn members<R: Wait>(&mut self, rt: &R) -> Result<View, ViewError>
         ensures cell { self.new.cell ≡ self.old.cell }
         ensures later { IsBeginning self.old.seen self.new.seen }
         ensures rises { HeightsRise self.new.seen }
         ensures valid { IfOk result IsConfiguration }
         ensures last { IfOk result (λ view. slice_get self.new.seen (length self.new.seen - 1) ≡ Some (stamp view)) }
+        ensures kept { IfOk result (λ view. self.new.kept ≡ view) }
         ensures missed { IfErr result (Missed self.new.seen) }
     {
-        self.stamps.tell();
-        for _ in rt.forever() {
-            // the view first: its stamp was published before it, so the stamp read next is not older
-            let found = find(&mut self.list)?;
-            let stamp = self.stamps.stamp();
-            // the list is dropped with its writer, so keep the writer as long as the last view is
-            // needed
-            let Some(view) = found else {
-                return Err(ViewError::Behind(stamp));
-            };
-            if is_same(&view.stamp(), &stamp) {
-                view.tell();
-                return Ok(view);
-            }
-            if view.configuration().height() < stamp.height() {
-                return Err(ViewError::Behind(stamp));
-            }
-        }
-        unreachable!()
+        self.refresh(rt)?;
+        let view = self.kept.try_copy(self.alloc)?;
+        view.tell();
+        Ok(view)
     }
 
     /// From now on what the other seat has seen was seen by this one too. The other is a seat of
@@ -112,6 +182,7 @@ impl ViewSeat {
         ensures mine { IsBeginning self.old.seen self.new.seen }
         ensures told { IsBeginning other.old.seen self.new.seen }
         ensures rises { HeightsRise self.new.seen }
+        ensures kept { self.new.kept ≡ self.old.kept }
     {
         self.stamps.told_by(&mut other.stamps);
     }

@@ -31,9 +31,9 @@ impl Model for StampReader {
     ghost use Rattle.std.specs.Arc.{arc_value};
     ghost use Rattle.rapid_model.specs.PublishedList.{HeightsRise};
     ghost use Rattle.rapid_view.specs.CellRule.{place};
-    ghost use Rattle.rapid_view.specs.Seen.{Watched};
+    ghost use Rattle.rapid_view.specs.Seen.{Reading};
 
-    ghost Value = { Watched };
+    ghost Value = { Reading };
 
     ghost view = { λ s. record { cell = s.seat.table_id; seen = s.seat.me.0.seen } };
 

@@ -41,6 +41,14 @@ fn count(counts: &mut [u32; EDGES], ring: u8) -> bool {
 }
 
 impl EdgeSink for Told {
+    type State = ();
+
+    ghost state = { λ _. tt };
+
+    ghost probed = { λ x _ _. x };
+
+    ghost went_down = { λ x _ _. x };
+
     fn probe(&mut self, ring: u8, subject: &Process) {
         self.of_the_other &= count(&mut self.probes, ring) && *subject == process(2);
     }

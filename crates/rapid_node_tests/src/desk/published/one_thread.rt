@@ -73,6 +73,28 @@ fn an_untold_seat_sees_what_is_published(rt: HostRuntime) -> Result<(), Fail> {
     sees_three(&rt, alloc, &mut writer, &mut seat)
 }
 
+/// The seat keeps the first view until it asks for the last of three more, and then keeps that.
+fn keeps_the_last<R: Wait + Abort>(
+    rt: &R,
+    alloc: Global,
+    writer: &mut ViewWriter<&R>,
+    seat: &mut ViewSeat,
+) -> Result<(), Fail> {
+    let last = publish_three(alloc, writer)?;
+    assert!(rt; seat.view().stamp().height() == 0);
+    seat.refresh(rt)?;
+    assert!(rt; seat.view().configuration().members() == last.members());
+    Ok(())
+}
+
+#[test]
+fn a_seat_keeps_the_view_that_it_found(rt: HostRuntime) -> Result<(), Fail> {
+    let alloc = rt.alloc();
+    let (mut writer, mut seats) = ViewCell::new(&rt, alloc, first_view(alloc)?, 1, 4)?;
+    let mut seat = seats.pop().expect(&rt, "one seat");
+    keeps_the_last(&rt, alloc, &mut writer, &mut seat)
+}
+
 /// The configuration after cuts of processes 2, 3 and 4.
 fn third(alloc: Global) -> Result<Configuration, Fail> {
     let mut configuration = founding(alloc)?;
@@ -134,15 +156,36 @@ fn a_told_seat_has_seen_as_much(rt: HostRuntime) -> Result<(), Fail> {
     has_seen_as_much(&rt, alloc, &mut writer, &mut one, &mut other)
 }
 
+/// A seat that did not find the second view before the writer was gone finds it no more.
+fn finds_no_more<R: Wait + Abort>(
+    rt: &R,
+    alloc: Global,
+    mut writer: ViewWriter<&R>,
+    seat: &mut ViewSeat,
+) -> Result<(), Fail> {
+    publish(alloc, &mut writer, &after(alloc, &founding(alloc)?, 2)?)??;
+    drop(writer);
+    let found = seat.members(rt);
+    assert!(rt; matches!(&found, Err(ViewError::Behind(_))));
+    assert!(rt; seat.stamp().height() == 1);
+    Ok(())
+}
+
 #[test]
 fn no_view_is_found_if_the_writer_is_gone(rt: HostRuntime) -> Result<(), Fail> {
+    let alloc = rt.alloc();
+    let (writer, mut seats) = ViewCell::new(&rt, alloc, first_view(alloc)?, 1, 2)?;
+    let mut seat = seats.pop().expect(&rt, "one seat");
+    finds_no_more(&rt, alloc, writer, &mut seat)
+}
+
+#[test]
+fn a_view_that_is_kept_outlives_its_writer(rt: HostRuntime) -> Result<(), Fail> {
     let alloc = rt.alloc();
     let (writer, mut seats) = ViewCell::new(&rt, alloc, first_view(alloc)?, 1, 1)?;
     let mut seat = seats.pop().expect(&rt, "one seat");
     drop(writer);
-    let found = seat.members(&rt);
-    assert!(rt; matches!(&found, Err(ViewError::Behind(_))));
-    assert!(rt; seat.stamp().height() == 0);
+    assert!(rt; seat.members(&rt)?.stamp().height() == 0);
     Ok(())
 }
 

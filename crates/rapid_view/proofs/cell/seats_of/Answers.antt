@@ -7,8 +7,9 @@ pub loop-preserved : goal.loop-preserved
 loop-preserved c =
     let i = c.loop.invariant in
     let pushed = c.in_ok-push.ensures in
-    let read = c.in_ok-stamps.ensures.reader in
-    let cell = ap (λ (v : Watched). v.cell) c.new.ensures ∙ read.0 ∙ ap (λ (w : Written). w.cell) i.0 in
-    let seen = ap (λ (v : Watched). v.seen) c.new.ensures ∙ read.1 ∙ ap (λ (w : Written). w.seen) i.0 in
-    let Same : Watched → Type 0 = λ s. (s.cell ≡ c.args.writer.now.cell) × (s.seen ≡ c.args.writer.now.seen) in
-    (c.in_ok-stamps.ensures.same ∙ i.0, pushed.len ∙ ap (λ n. n + 1) i.1, All-same Same _ _ pushed.items (All-push Same _ _ i.2 (cell, seen)))
+    let made = c.in_ok-seat_of.ensures.seat in
+    let cell = ap (λ (v : Watched). v.cell) made ∙ ap (λ (w : Written). w.cell) i.0 in
+    let seen = ap (λ (v : Watched). v.seen) made ∙ ap (λ (w : Written). w.seen) i.0 in
+    let kept = ap (λ (v : Watched). v.kept) made in
+    let Same : Watched → Type 0 = λ s. (s.cell ≡ c.args.writer.now.cell) × (s.seen ≡ c.args.writer.now.seen) × (s.kept ≡ c.args.view.now) in
+    (c.in_ok-seat_of.ensures.same ∙ i.0, pushed.len ∙ ap (λ n. n + 1) i.1, All-same Same _ _ pushed.items (All-push Same _ _ i.2 (cell, seen, kept)))

@@ -11,3 +11,6 @@ pub returns-clause-seen : goal.returns-clause-seen
 returns-clause-seen g c =
     let first = c.in_ok-stamps.ensures.0 ∙ ap (λ s. s ∷ []) c.stamp-stamp.ensures in
     λ k d within. (c.in_ok-all.ensures.seats.1 k d within).1 ∙ first
+
+pub returns-clause-kept : goal.returns-clause-kept
+returns-clause-kept g c = λ k d within. (c.in_ok-all.ensures.seats.1 k d within).2 ∙ c.in_ok-kept.ensures
