@@ -4,7 +4,6 @@
 
 mod agreement;
 mod cluster;
-mod output;
 mod report;
 mod text;
 
