@@ -5,6 +5,5 @@
 mod agreement;
 mod cluster;
 mod report;
-mod text;
 
 pub use cluster::run_cluster;

@@ -1,8 +1,23 @@
-// Texts that are written.
+// Texts of numbers, members and nodes, which `sim` and `cluster` write.
 
 use crate::detect::devices::Narrow;
-use rapid_text::{RunFault, write_text};
+use crate::numbered::{id, process};
+use rapid_text::{RunFault, write_members, write_node, write_number, write_text};
 use std::test::Fail;
+
+#[test]
+fn each_is_appended(rt: HostRuntime) -> Result<(), Fail> {
+    let mut output = Vec::new(rt.alloc());
+    write_node(&id(65_535), &mut output)?;
+    write_members(&[process(1), process(20)], &mut output)?;
+    write_members(&[], &mut output)?;
+    write_number(u64::MAX, &mut output)?;
+    assert_eq!(rt;
+        output.as_slice(),
+        b"node 65535 1 2018446744073709551615".as_slice()
+    );
+    Ok(())
+}
 
 #[test]
 fn all_of_a_text_is_written(rt: HostRuntime) -> Result<(), Fail> {
