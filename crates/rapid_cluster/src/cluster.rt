@@ -5,11 +5,10 @@ ghost use Rattle.std.specs.Io.KnownBytes.{Appends};
 ghost use Rattle.rapid_cluster.specs.ClusterText.{IsReport};
 ghost use Rattle.rapid_cluster.specs.Written.{Ended};
 
-use crate::output::write_text;
 use crate::report::report;
 use rapid_clerks::{ClusterBook, Gate, Job, run_clerks};
 use rapid_config::Params;
-use rapid_text::{RunFault, numbered};
+use rapid_text::{RunFault, numbered, write_text};
 use rapid_world::{WorldError, WorldEvent};
 use std::alloc::{AllocError, Global};
 use std::io::Write;

@@ -4,8 +4,6 @@
 
 mod agreement;
 mod cluster;
-mod output;
 mod report;
-mod text;
 
 pub use cluster::run_cluster;

@@ -12,10 +12,10 @@ ghost use Rattle.rapid_cluster.specs.ClusterText as model;
 ghost use Rattle.rapid_cluster.specs.Noting.{Notes};
 
 use crate::agreement::Agreement;
-use crate::text::{write_members, write_node, write_number};
 use rapid_config::Configuration;
 use rapid_endpoint::ProcessId;
 use rapid_node::{Node, Phase};
+use rapid_text::{write_members, write_node, write_number};
 use rapid_world::World;
 use std::alloc::{AllocError, Global};
 

@@ -13,7 +13,7 @@ ghost use Rattle.rapid_text.specs.Underway.{AppendsFront};
 use crate::command::{Asked, Command, Place, read_line};
 use crate::reply::{Refusal, Reply, write_reply};
 use rapid_alerts::{Alert, Kind};
-use rapid_config::{ConfigId, Params};
+use rapid_config::{ConfigId, Cut, Params};
 use rapid_cut::Detector;
 use rapid_endpoint::Process;
 use rapid_rings::{Table, TableError};
@@ -21,9 +21,6 @@ use rapid_text::{Engine, RunFault};
 use std::alloc::{AllocError, Global};
 use std::io::{Read, Write};
 use std::mem;
-
-/// How many joiner lines are taken.
-const MOST_JOINERS: usize = 512;
 
 /// How many edge lines are taken.
 const MOST_EDGES: usize = 16_384;
@@ -117,7 +114,7 @@ impl DetectRun {
             Phase::Unmarked => Ok(Reply::Refused(Refusal::NoWatermarks)),
             Phase::Reporting(_) => Ok(Reply::Refused(Refusal::TooLate)),
             Phase::Building(table) => {
-                if self.joiner_lines >= MOST_JOINERS {
+                if self.joiner_lines >= Cut::MOST_JOINERS {
                     return Ok(Reply::Refused(Refusal::TooMany));
                 }
                 table.joiner(process)?;

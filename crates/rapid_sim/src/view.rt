@@ -1,16 +1,16 @@
 // What `sim` prints.
 
 ghost use Rattle.std.specs.Prelude.{◌≡◌, ◌++◌, ◌∷◌, [], flat_map, map, decimal, codes, OnOk};
-ghost use Rattle.rapid_model.specs.Lines.{line_feed, space};
+ghost use Rattle.rapid_model.specs.Lines.{line_feed};
 ghost use Rattle.rapid_model.specs.Process.{identifier, same_bytes};
-ghost use Rattle.rapid_model.specs.Numbered.{number_under};
 ghost use Rattle.rapid_model.specs.Run.{ReportInstalled};
-ghost use Rattle.rapid_model.specs.SimText.{refusal_line, numbers_text, node_text, is_among, view_text, report_line, reports_text, founding_text};
+ghost use Rattle.rapid_model.specs.SimText.{refusal_line, node_text, is_among, view_text, report_line, reports_text, founding_text};
 ghost use Rattle.rapid_world.specs.Events.{report_of};
 ghost use Rattle.rapid_sim.specs.Replies.{refusal_of};
 
 use rapid_config::Configuration;
 use rapid_endpoint::{Process, ProcessId};
+use rapid_text::{write_members, write_node, write_number};
 use rapid_world::Report;
 use std::alloc::AllocError;
 
@@ -52,50 +52,6 @@ pub(crate) fn refused_line(refusal: Refusal) -> &'static [u8]
         Refusal::NotObserved => b"refused NotObserved\n",
         Refusal::EventsFull => b"refused EventsFull\n",
     }
-}
-
-/// Appends a number.
-fn write_number(number: u64, output: &mut Vec<u8>) -> Result<(), AllocError>
-    ensures { OnOk result (output.new.items ≡ output.old.items ++ decimal number) }
-{
-    let alloc = *output.allocator();
-    let text = number.to_string(alloc)?;
-    output.extend_from_slice(text.as_bytes())
-}
-
-/// Appends the number of an identifier.
-fn write_identifier(id: &ProcessId, output: &mut Vec<u8>) -> Result<(), AllocError>
-    ensures { OnOk result (output.new.items ≡ output.old.items ++ decimal (number_under id.now)) }
-{
-    let alloc = *output.allocator();
-    let text = u128::from_be_bytes(id.bytes()).to_string(alloc)?;
-    output.extend_from_slice(text.as_bytes())
-}
-
-/// Appends the number of a process, with a space before it.
-fn write_member(member: &Process, output: &mut Vec<u8>) -> Result<(), AllocError>
-    ensures { OnOk result (output.new.items ≡ output.old.items ++ (space ∷ decimal (number_under (identifier member.now)))) }
-{
-    output.push(b' ')?;
-    write_identifier(&member.id(), output)
-}
-
-/// Appends the numbers of processes, a space before each.
-fn write_members(members: &[Process], output: &mut Vec<u8>) -> Result<(), AllocError>
-    ensures { OnOk result (output.new.items ≡ output.old.items ++ numbers_text members.now) }
-{
-    for member in members {
-        write_member(member, output)?;
-    }
-    Ok(())
-}
-
-/// Appends a node by its number.
-fn write_node(id: &ProcessId, output: &mut Vec<u8>) -> Result<(), AllocError>
-    ensures { OnOk result (output.new.items ≡ output.old.items ++ node_text id.now) }
-{
-    output.extend_from_slice(b"node ")?;
-    write_identifier(id, output)
 }
 
 /// Whether the process has this identifier.

@@ -7,10 +7,14 @@ mod fault;
 mod line;
 mod line_buffer;
 mod names;
+mod output;
 mod stream;
+mod written;
 
 pub use engine::Engine;
 pub use fault::RunFault;
 pub use line::{is_plain, number, one_word, split_word, three_words};
 pub use names::{byte, numbered, process};
+pub use output::write_text;
 pub use stream::run;
+pub use written::{write_members, write_node, write_number};

@@ -10,6 +10,7 @@ ghost use Rattle.rapid_text.specs.Underway.{EndsLine, Feeds, Says, SaysFront, Ap
 use crate::engine::Engine;
 use crate::fault::RunFault;
 use crate::line_buffer::{LineBuffer, without_return};
+use crate::output::write_all;
 use std::alloc::{AllocError, Global};
 use std::io::{ErrorKind, Read, Write};
 
@@ -109,40 +110,15 @@ fn read_some<R: Read>(reader: &mut R, block: &mut [u8]) -> Result<usize, RunFaul
     Err(RunFault::Read)
 }
 
-/// Writes some of the bytes; none if a signal interrupts it.
-fn write_some<W: Write>(writer: &mut W, bytes: &[u8]) -> Result<usize, RunFault>
-    ensures bound { IfOk result (λ count. count ≤ length bytes.now) }
-    ensures ok { IfOk result (λ count. Appends (W.contents writer.old) (W.contents writer.new) (take count bytes.now)) }
-    ensures unchanged { OnErr result (Appends (W.contents writer.old) (W.contents writer.new) []) }
-{
-    match writer.write(bytes) {
-        Ok(0) => Err(RunFault::Write),
-        Ok(count) => Ok(count),
-        Err(error) => {
-            if error.kind() == ErrorKind::Interrupted {
-                Ok(0)
-            } else {
-                Err(RunFault::Write)
-            }
-        }
-    }
-}
-
 /// Writes the output, and empties it.
 fn write_out<W: Write>(writer: &mut W, output: &mut Vec<u8>) -> Result<(), RunFault>
     ensures ok { OnOk result (Appends (W.contents writer.old) (W.contents writer.new) output.old.items) }
     ensures emptied { OnOk result (output.new.items ≡ []) }
     ensures begun { OnErr result (AppendsFront (W.contents writer.old) (W.contents writer.new) output.old.items) }
 {
-    let mut written = 0;
-    for _ in 0..u64::MAX {
-        if written == output.len() {
-            output.clear();
-            return Ok(());
-        }
-        written += write_some(writer, &output[written..])?;
-    }
-    Err(RunFault::Write)
+    write_all(writer, output.as_slice())?;
+    output.clear();
+    Ok(())
 }
 
 /// Answers a block of the input, and writes what it prints.

@@ -1,6 +1,6 @@
 // Tests of `detect` over readers and writers.
 
-mod devices;
+pub mod devices;
 mod faults;
 mod lines;
 mod worked;

@@ -15,3 +15,5 @@ mod numbered;
 mod sim;
 #[cfg(test)]
 mod world;
+#[cfg(test)]
+mod written;

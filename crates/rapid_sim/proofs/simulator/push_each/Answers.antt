@@ -2,7 +2,7 @@ use Rattle.std.proofs.Common.{arith, map}
 use Rattle.rapid_model.specs.StoredWorld.{world_of}
 use Rattle.rapid_world.specs.Events.{event_of}
 use Rattle.rapid_sim.specs.Losing.{losing_by}
-use Rattle.rapid_sim.proofs.Views.{written_more}
+use Rattle.rapid_text.proofs.Texts.{written_more}
 use Rattle.rapid_sim.proofs.simulator.push_each.Goals as goal
 
 pub loop-observer-preserved : goal.loop-observer-preserved

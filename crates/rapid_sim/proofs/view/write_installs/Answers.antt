@@ -2,7 +2,7 @@ use Rattle.std.proofs.Common.{arith, ◌∙◌, ◌++◌, List, ℕ, ap}
 use Rattle.rapid_model.specs.Process.{Process, identifier}
 use Rattle.rapid_model.specs.Run.{ReportInstalled}
 use Rattle.rapid_model.specs.SimText.{report_line}
-use Rattle.rapid_sim.proofs.Views.{written_more}
+use Rattle.rapid_text.proofs.Texts.{written_more}
 use Rattle.rapid_sim.proofs.view.write_installs.Goals as goal
 
 pub loop-node-preserved : goal.loop-node-preserved

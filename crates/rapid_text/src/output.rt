@@ -5,7 +5,7 @@ ghost use Rattle.std.specs.Io.KnownBytes.{Appends};
 ghost use Rattle.rapid_text.specs.Underway.{AppendsFront};
 ghost use Rattle.rapid_text.specs.declared.fault.RunFault.TheVariants as fault;
 
-use rapid_text::RunFault;
+use crate::fault::RunFault;
 use std::io::{ErrorKind, Write};
 
 /// Writes some of the bytes; none if a signal interrupts it.
@@ -29,7 +29,7 @@ fn write_some<W: Write>(writer: &mut W, bytes: &[u8]) -> Result<usize, RunFault>
 }
 
 /// Writes all of a text.
-fn write_all<W: Write>(writer: &mut W, text: &[u8]) -> Result<(), RunFault>
+pub(crate) fn write_all<W: Write>(writer: &mut W, text: &[u8]) -> Result<(), RunFault>
     ensures ok { OnOk result (Appends (W.contents writer.old) (W.contents writer.new) text.now) }
     ensures fault { IfErr result (λ f. f ≡ fault.Write) }
     ensures begun { OnErr result (AppendsFront (W.contents writer.old) (W.contents writer.new) text.now) }
@@ -44,8 +44,13 @@ fn write_all<W: Write>(writer: &mut W, text: &[u8]) -> Result<(), RunFault>
     Err(RunFault::Write)
 }
 
-/// Writes all of a text, and sends it on.
-pub(crate) fn write_text<W: Write>(writer: &mut W, text: &[u8]) -> Result<(), RunFault>
+/// Writes all of a text, and flushes the writer. A write that a signal interrupts is tried again.
+///
+/// # Errors
+///
+/// `Write` if the text could not be written, or the writer not flushed. A beginning of the text was
+/// written, and nothing else.
+pub fn write_text<W: Write>(writer: &mut W, text: &[u8]) -> Result<(), RunFault>
     ensures ok { OnOk result (Appends (W.contents writer.old) (W.contents writer.new) text.now) }
     ensures fault { IfErr result (λ f. f ≡ fault.Write) }
     ensures begun { OnErr result (AppendsFront (W.contents writer.old) (W.contents writer.new) text.now) }

@@ -1,8 +1,7 @@
-use Rattle.std.proofs.Common.{◌≡◌, ◌-◌, ℕ, length, take, drop, ap, subst, ◌∙◌, arith, length-drop, take_all}
+use Rattle.std.proofs.Common.{◌≡◌, ◌-◌, ℕ, length, take, drop, ap, arith, length-drop}
 use Rattle.std.proofs.lemmas.List.{take_rest}
-use Rattle.std.specs.Io.KnownBytes.{Appends}
 use Rattle.rapid_text.proofs.Streams.{on_err, wrote_more, front_of, front_and_none}
-use Rattle.rapid_cluster.proofs.output.write_all.Goals as goal
+use Rattle.rapid_text.proofs.output.write_all.Goals as goal
 
 pub returns-in_err-written-clause-begun : goal.returns-in_err-written-clause-begun
 returns-in_err-written-clause-begun g c =

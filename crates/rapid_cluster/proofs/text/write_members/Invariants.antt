@@ -1,6 +1,0 @@
-use Rattle.std.proofs.Common.{◌≡◌, ◌++◌, take}
-use Rattle.rapid_model.specs.SimText.{numbers_text}
-use Rattle.rapid_cluster.proofs.text.write_members.Given as goal
-
-abbrev pub invariant-loop-member : goal.invariant-loop-member
-invariant-loop-member l = l.output.items ≡ l.fn.output.items ++ numbers_text (take l.member-index l.members)
