@@ -1,6 +1,7 @@
 // Tests of running nodes.
 
 mod clusters;
+mod console;
 mod devices;
 mod ends;
 mod notes;
