@@ -142,8 +142,11 @@ fn a_cluster_lets_all_nodes_in(rt: HostRuntime) {
 #[test]
 fn a_cluster_has_its_ranges(rt: HostRuntime) {
     for words in [
+        ["rapidd", "cluster", "--nodes", "0"],
         ["rapidd", "cluster", "--nodes", "65"],
+        ["rapidd", "cluster", "--workers", "0"],
         ["rapidd", "cluster", "--workers", "33"],
+        ["rapidd", "cluster", "--turns", "0"],
         ["rapidd", "cluster", "--turns", "10001"],
         ["rapidd", "cluster", "--l", "10"],
     ] {
@@ -180,6 +183,8 @@ fn a_node_has_its_ranges(rt: HostRuntime) {
         node_words("127.0.0.1:7432", "--k", "256"),
         node_words("127.0.0.1:7432", "--l", "10"),
         node_words("127.0.0.1:7432", "--tick-ms", "60001"),
+        node_words("127.0.0.1:7432", "--probers", "0"),
+        node_words("127.0.0.1:7432", "--probers", "17"),
         node_words("127.0.0.1:7432", "--id", "1"),
         node_words("127.0.0.1:7432", "--join", "127.0.0.1:0"),
     ] {

@@ -1,7 +1,7 @@
 // Tests of running nodes.
 
 mod clusters;
-mod consoles;
+mod console;
 mod devices;
 mod ends;
 mod notes;

@@ -1,11 +1,12 @@
 // The journal of a desk, and the numbers of its errors.
 
-use crate::desk::founding::{alone, edge_down, step};
+use crate::desk::founding::{alone, decision, edge_down, founding, step};
 use crate::numbered::process;
 use rapid_config::ConfigId;
 use rapid_desk::{Desk, DeskError};
 use rapid_message::{Body, Message};
 use rapid_node::{Event, NodeFault};
+use std::alloc::Global;
 use std::process::Abort;
 use std::sync::Wait;
 use std::test::*;
@@ -31,31 +32,41 @@ fn is_full_for<R: Wait>(desk: &mut Desk<&R>, event: Event) -> bool {
     matches!(step(desk, event), Err(DeskError::JournalFull))
 }
 
-/// Whether the desk takes this many events that are kept and this many ticks, and then refuses
-/// both.
-fn is_full_after<R: Wait>(
-    desk: &mut Desk<&R>,
-    kept: usize,
-    ticks: usize,
-) -> Result<bool, DeskError> {
-    keep(desk, kept)?;
-    tick(desk, ticks)?;
-    Ok(is_full_for(desk, edge_down()) && is_full_for(desk, Event::Tick))
+/// Whether the desk refuses the decision to let in process 2, by which it would install a view, since its
+/// journal is full.
+fn is_full_for_a_view<R: Wait>(alloc: Global, desk: &mut Desk<&R>) -> Result<bool, Fail> {
+    let decided = decision(alloc, founding(alloc)?.id(), 2)?;
+    Ok(is_full_for(desk, decided))
+}
+
+/// Checks that the desk has a full journal, of which it makes no other either, and the founding view.
+fn assert_stays<R: Wait + Abort>(rt: &R, desk: &mut Desk<&R>) {
+    assert_eq!(rt; desk.journal_len(), 65_536);
+    assert!(rt; matches!(desk.checkpoint(), Err(DeskError::JournalFull)));
+    let mut seats = desk.take_seats().expect(rt, "the seats");
+    let mut seat = seats.pop().expect(rt, "one seat");
+    assert_eq!(rt; seat.stamp().height(), 0);
 }
 
 #[test]
 fn a_full_journal_refuses_for_good(rt: HostRuntime) -> Result<(), Fail> {
     let mut desk = alone(&rt, rt.alloc(), 1)?;
-    let full = is_full_after(&mut *desk, 65_536, 0);
-    assert!(rt; matches!(&full, Ok(true)));
+    keep(&mut *desk, 65_536)?;
+    assert!(rt; is_full_for(&mut *desk, edge_down()));
+    assert!(rt; is_full_for(&mut *desk, Event::Tick));
+    assert!(rt; is_full_for_a_view(rt.alloc(), &mut *desk)?);
+    assert_stays(&rt, &mut *desk);
     Ok(())
 }
 
 #[test]
 fn successive_ticks_share_a_record(rt: HostRuntime) -> Result<(), Fail> {
     let mut desk = alone(&rt, rt.alloc(), 1)?;
-    let full = is_full_after(&mut *desk, 65_535, 100);
-    assert!(rt; matches!(&full, Ok(true)));
+    keep(&mut *desk, 65_535)?;
+    tick(&mut *desk, 100)?;
+    assert!(rt; is_full_for_a_view(rt.alloc(), &mut *desk)?);
+    assert!(rt; is_full_for(&mut *desk, Event::Tick));
+    assert_stays(&rt, &mut *desk);
     Ok(())
 }
 
