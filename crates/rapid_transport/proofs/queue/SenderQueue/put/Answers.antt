@@ -8,6 +8,6 @@ pub returns-clause-full : goal.returns-clause-full
 returns-clause-full g c =
     let before = c.args.self.now in
     elim c.match-put.branch [
-      in-Ok w ↦ subst (λ r. IfErr r (λ _. Untaken before.put before.known before.room)) (sym w.result-is) tt
-    | in-Err w ↦ subst (λ r. IfErr r (λ _. Untaken before.put before.known before.room)) (sym w.result-is) (subst (λ (v : Putting). Untaken v.put v.known v.room) c.self.view_is w.in-Err.ensures.full)
+      | in-Ok w ↦ subst (λ r. IfErr r (λ _. Untaken before.put before.known before.room)) (sym w.result-is) tt
+      | in-Err w ↦ subst (λ r. IfErr r (λ _. Untaken before.put before.known before.room)) (sym w.result-is) (subst (λ (v : Putting). Untaken v.put v.known v.room) c.self.view_is w.in-Err.ensures.full)
     ]
