@@ -124,9 +124,10 @@ impl Coordinator {
     fn value(&self, members: usize, own: Option<&Cut>) -> Option<Cut> {
         let promised = self.heard.len();
         let is_forced = |count: &usize| fast_size(members) + promised <= count + members;
-        let mut cuts = self.counts.iter();
-        let forced = cuts.clone().find(|(_, count)| is_forced(count));
-        forced.or(cuts.next()).map(|(cut, _)| cut).or(own).cloned()
+        let forced = self.counts.iter().find(|(_, count)| is_forced(count));
+        // the bytes of a cut, by which cuts are compared, begin with its length
+        let least = || self.counts.iter().min_by_key(|(cut, _)| (cut.len(), *cut));
+        forced.or_else(least).map(|(cut, _)| cut).or(own).cloned()
     }
 
     /// Takes a promise. The cut to ask for, where it completes a classic quorum.
