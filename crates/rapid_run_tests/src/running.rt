@@ -1,7 +1,7 @@
 // Tests of running nodes.
 
 mod clusters;
-mod console;
+mod consoles;
 mod devices;
 mod ends;
 mod notes;
