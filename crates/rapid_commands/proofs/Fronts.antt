@@ -1,7 +1,5 @@
 -- What was written, as what a command prints.
-use Rattle.std.proofs.Common.{◌≡◌, ℕ, List, [], refl, sym, subst, Option, Some, None, IfSome, Result, Ok, Err, IfErr, OnErr}
-use Rattle.std.specs.Io.KnownBytes.{Appends}
-use Rattle.std.proofs.KnownBytes.{Appends-nil}
+use Rattle.std.proofs.Common.{◌≡◌, ◌*◌, ℕ, List, refl, sym, subst, Option, Some, None, IfSome, Result, Ok, Err, IfErr, OnErr}
 use Rattle.rapid_model.specs.DetectText.{detect_text}
 use Rattle.rapid_cluster.specs.Written.{Ended}
 use Rattle.rapid_text.specs.Underway.{AppendsFront}
@@ -21,17 +19,6 @@ detect_front (Ok x) job known a b is h = tt
 detect_front (Err e) job known a b is h = subst (λ j. WroteFront j known a b) (sym is) (detect_known known a b h)
 
 -- After a fault of `cluster`.
-pub cluster_front : {T : Type 0} (r : Result T RunFault) (job : Job) (s : Setting) (known a b : Option (List ℕ)) → job ≡ Cluster s → IfErr r (Ended s.nodes a b) → OnErr r (WroteFront job known a b)
+pub cluster_front : {T : Type 0} (r : Result T RunFault) (job : Job) (s : Setting) (known a b : Option (List ℕ)) → job ≡ Cluster s → IfErr r (Ended s.params s.nodes (s.workers * s.turns) a b) → OnErr r (WroteFront job known a b)
 cluster_front (Ok x) job s known a b is h = tt
 cluster_front (Err e) job s known a b is h = subst (λ j. WroteFront j known a b) (sym is) (e, h)
-
--- Nothing that was written is a beginning.
-pub silent_front : {W : Type 0} (contents : W → Option (List ℕ)) (old new : W) (known : Option (List ℕ)) → new ≡ old → (job : Job) × WroteFront job known (contents old) (contents new)
-silent_front contents old new known e = (Detect, by known)
-  where
-    nothing : Appends (contents old) (contents new) []
-    nothing = subst (λ w. Appends (contents old) (contents w) []) (sym e) (Appends-nil (contents old))
-
-    by : (k : Option (List ℕ)) → WroteFront Detect k (contents old) (contents new)
-    by None = tt
-    by (Some input) = (detect_text input, refl, ([], (detect_text input, refl), nothing))
