@@ -1,8 +1,6 @@
 // The command `node`.
 
-ghost use Rattle.std.specs.Prelude.{◌≡◌, ◌≤◌, true, false, IfOk};
-ghost use Rattle.clap.specs.Words.{rule_of, app_of};
-ghost use Rattle.rapid_commands.specs.Grammar.{text_option, node_words};
+ghost use Rattle.std.specs.Prelude.{◌≡◌, ◌≤◌, true};
 ghost use Rattle.rapid_commands.specs.NodeWords.{NamesNode};
 
 use crate::explain::{note_no_ticks, note_unused, tell_params, tell_port, tell_texts};
@@ -24,10 +22,7 @@ use std::time::Clock;
 pub(crate) const NODE: &str = "node";
 
 /// An option whose value is a text.
-pub(crate) fn text<'a>(alloc: Global, name: &'a str, kind: &'a str, help: &'a str) -> Arg<'a>
-    ensures rule { rule_of result ≡ text_option name.entry.now }
-    ensures local { result.global ≡ false }
-{
+pub(crate) fn text<'a>(alloc: Global, name: &'a str, kind: &'a str, help: &'a str) -> Arg<'a> {
     Arg::new(alloc, name)
         .long(name)
         .value_name(kind)
@@ -36,9 +31,7 @@ pub(crate) fn text<'a>(alloc: Global, name: &'a str, kind: &'a str, help: &'a st
 }
 
 /// The words that `node` takes.
-pub(crate) fn node<'a>(alloc: Global) -> Result<Command<'a>, AllocError>
-    ensures app { IfOk result (λ c. app_of c ≡ node_words) }
-{
+pub(crate) fn node<'a>(alloc: Global) -> Result<Command<'a>, AllocError> {
     let listen = text(
         alloc,
         "listen",
