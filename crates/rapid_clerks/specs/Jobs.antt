@@ -1,3 +1,4 @@
+-- Clauses of public calls cite this file.
 -- Jobs that were done in order.
 use Rattle.std.specs.Prelude.{List, [], ◌∷◌, ◌++◌}
 use Rattle.rapid_model.specs.Run.{WorldReport}

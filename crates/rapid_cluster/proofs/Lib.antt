@@ -1,3 +1,4 @@
+pub mod Driving
 pub mod Founding
 pub mod Noting
 pub mod Reports

@@ -4,7 +4,7 @@ use Rattle.std.specs.Prelude.{◌≡◌, ℕ, Bool, not, ◌&&◌, ◌==◌, Lis
 use Rattle.std.specs.List.{list_any, range_with_len}
 use Rattle.rapid_model.specs.Bytes.{Identifier, Text}
 use Rattle.rapid_model.specs.Process.{identifier, same_bytes}
-use Rattle.rapid_model.specs.Configuration.{Stamp}
+use Rattle.rapid_model.specs.Configuration.{Params, Stamp}
 use Rattle.rapid_model.specs.Node.{Node, Phase, Joining, Member, Removed, Halted}
 use Rattle.rapid_model.specs.World.{World, node_of}
 use Rattle.rapid_model.specs.StoredWorld.{StoredWorld, world_of, accepted}
@@ -13,6 +13,8 @@ use Rattle.rapid_model.specs.RunHolds.{RunHolds}
 use Rattle.rapid_model.specs.Lines.{line_feed}
 use Rattle.rapid_model.specs.Numbered.{numbered_identifier}
 use Rattle.rapid_model.specs.SimText.{node_text, numbers_text}
+use Rattle.rapid_clerks.specs.Clusters.{ClusterState}
+use Rattle.rapid_cluster.specs.Driven.{IsDriven}
 
 -- ---- views
 
@@ -69,9 +71,12 @@ cluster_text n s =
     ++ nodes_text (world_of s) n
     ++ agree_line (is_split (all_installed (world_of s) n))
 
--- The text is what is printed of a world with the nodes 1 to n, which is the run of its stored events. If no two
--- different configurations that nodes installed share an identifier, all that holds of runs holds of it.
-pub record IsReport (n : ℕ) (text : Text) : Type 0 where
-  pub world : StoredWorld
-  pub printed : text ≡ cluster_text n world
-  pub holds : NoCollision (world_of world) → RunHolds (world_of world)
+-- The text is what is printed of a cluster of the nodes 1 to n, at its end. Process 1 founded it with these parameters,
+-- the others were started in order and asked process 1 to let them in, and then turns alone were taken, at most so many.
+-- Its world is the run of the events of these. If no two different configurations that nodes installed share an
+-- identifier, all that holds of runs holds of it.
+pub record IsReport (params : Params) (n most : ℕ) (text : Text) : Type 0 where
+  pub end : ClusterState
+  pub driven : IsDriven params n most end
+  pub printed : text ≡ cluster_text n end.world
+  pub holds : NoCollision (world_of end.world) → RunHolds (world_of end.world)

@@ -1,3 +1,4 @@
 pub mod ClusterText
+pub mod Driven
 pub mod Noting
 pub mod Written

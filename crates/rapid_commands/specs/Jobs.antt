@@ -1,6 +1,6 @@
 -- Clauses of public calls cite this file.
 -- What the commands of the program print.
-use Rattle.std.specs.Prelude.{◌≡◌, ◌≤◌, ℕ, List, [], Option, IfSome}
+use Rattle.std.specs.Prelude.{◌≡◌, ◌≤◌, ◌*◌, ℕ, List, [], Option, IfSome}
 use Rattle.std.specs.Io.KnownBytes.{Appends}
 use Rattle.rapid_model.specs.DetectText.{detect_text}
 use Rattle.rapid_cluster.specs.ClusterText.{IsReport}
@@ -22,7 +22,7 @@ CanRun (Cluster s) = s.workers ≤ 32
 abbrev pub JobPrints : Job → List ℕ → List ℕ → Type 0
 JobPrints Detect input text = text ≡ detect_text input
 JobPrints Sim input text = (met : ℕ) × SimPrints input text met
-JobPrints (Cluster s) input text = IsReport s.nodes text
+JobPrints (Cluster s) input text = IsReport s.params s.nodes (s.workers * s.turns) text
 
 -- What the input prints was written, and nothing else; of a cluster a report, whatever the input.
 abbrev pub Wrote : Job → Option (List ℕ) → Option (List ℕ) → Option (List ℕ) → Type 0
@@ -34,4 +34,4 @@ Wrote (Cluster s) known old new = (text : List ℕ) × JobPrints (Cluster s) [] 
 abbrev pub WroteFront : Job → Option (List ℕ) → Option (List ℕ) → Option (List ℕ) → Type 0
 WroteFront Detect known old new = IfSome known (λ input. (text : List ℕ) × JobPrints Detect input text × AppendsFront old new text)
 WroteFront Sim known old new = IfSome known (λ input. (text : List ℕ) × JobPrints Sim input text × AppendsFront old new text)
-WroteFront (Cluster s) known old new = (fault : RunFault) × Ended s.nodes old new fault
+WroteFront (Cluster s) known old new = (fault : RunFault) × Ended s.params s.nodes (s.workers * s.turns) old new fault
