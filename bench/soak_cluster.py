@@ -106,6 +106,14 @@ class Fake:
             stream.close()
 
 
+def prepare(limit):
+    """In a process that becomes a node: no signal is ignored, as `nohup` and `&` have it, and so many descriptors."""
+    for number in (signal.SIGHUP, signal.SIGINT, signal.SIGTERM):
+        signal.signal(number, signal.SIG_DFL)
+    if limit:
+        resource.setrlimit(resource.RLIMIT_NOFILE, (limit, limit))
+
+
 class Node:
     """A node that was started, and what it printed."""
 
@@ -113,11 +121,9 @@ class Node:
         words = words + ["node", "--listen", f"{HOST}:{port}", "--tick-ms", str(tick_ms)]
         words += ["--id", str(uuid.UUID(bytes=identifier))]
         words += [] if seed is None else ["--join", f"{HOST}:{seed.port}"]
-        most = (limit, limit)
         self.popen = subprocess.Popen(
             words, stdin=subprocess.PIPE, stdout=subprocess.PIPE, stderr=subprocess.PIPE,
-            start_new_session=True, bufsize=0,
-            preexec_fn=limit and (lambda: resource.setrlimit(resource.RLIMIT_NOFILE, most)))
+            start_new_session=True, bufsize=0, preexec_fn=lambda: prepare(limit))
         for pipe in (self.popen.stdin, self.popen.stdout, self.popen.stderr):
             os.set_blocking(pipe.fileno(), False)
         self.port, self.seed, self.process = port, seed, process(identifier, port)
