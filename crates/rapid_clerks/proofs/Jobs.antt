@@ -60,6 +60,7 @@ not_full w (model.Probe id k ok) h = observed_not_full (model.peer_at w (model.r
 not_full w (model.Tick id) h = node_not_full (model.running_under w id) h
 not_full w (model.Deliver k) h = received_not_full w (model.packet w k) h
 not_full w (model.Crash id) h = node_not_full (model.running_under w id) h
+not_full w (model.Leave id) h = node_not_full (model.running_under w id) h
 
 event_not_full : (s : StoredWorld) (e : model.WorldEvent) → nat_lt (accepted s) 1000000 ≡ true → event_refusal s e ≡ Some refusal.EventsFull → ⊥
 unfolding event_refusal

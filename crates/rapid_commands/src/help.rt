@@ -44,6 +44,7 @@ pub(crate) const SIM_LINES: &str = "Lines:
   drop P                           packet P is passed over by later flows
   flow                             delivers packets in order until there are none, or 10,000 were passed
   crash N                          node N stops for good
+  leave N                          node N asks those that observe it to have it removed
   packets                          prints how many packets were sent
 Processes are numbers from 1 to 65535 at 127.0.0.1, packets are numbered from 1 in the order sent, and
 COUNT is 1 to 1000. A line that begins with # is passed over. A view that a node enters prints a line.
@@ -80,6 +81,7 @@ pub(crate) const NODE_LINES: &str = "Lines of standard input:
   tick [COUNT]   the clock ticks so often, 1 to 1000 times
   view           prints the present view, or no view
   edges          prints edge RING ENDPOINT up or down for each edge that the node observes, or edges none
+  leave          asks the cluster to remove the node; once a view without it is printed, quit
   quit           ends the node, as the end of the input does
 A line that begins with # is passed over, and another prints refused BadLine. Each view that the node
 enters prints

@@ -413,6 +413,23 @@ impl Node {
         Ok(())
     }
 
+    /// A member that is to leave.
+    #[tactic(auto, unfolding(rapid_model::specs::NodeStep::settle))]
+    fn member_leave(
+        &mut self,
+        out: &mut Vec<Output>,
+        member: Box<MemberState>,
+    ) -> Result<(), AllocError>
+        requires me { member.value.me ≡ self.old.me }
+        requires shown { self.old.phase ≡ model.Halted (Some member.value.config) }
+        ensures ok { OnOk result (Continues self.old.me (step.step_leave (in_phase self.old (model.Member member.value)) (model.Member member.value)) self.new out.old.items out.new.items) }
+        ensures unchanged { OnErr result (self.new ≡ self.old) }
+    {
+        member.leave(out)?;
+        self.be_member(member);
+        Ok(())
+    }
+
     /// A tick while it joins.
     #[tactic(auto, using(crate::proofs::Asking::asked))]
     fn joiner_tick(&mut self, out: &mut Vec<Output>, mut joiner: Joiner) -> Result<(), AllocError>
@@ -496,7 +513,8 @@ impl Node {
             | Body::PreJoin
             | Body::JoinRequest(..)
             | Body::Probe(_)
-            | Body::ProbeAck(_) => {
+            | Body::ProbeAck(_)
+            | Body::Leave(..) => {
                 self.be_joining(joiner);
                 Ok(())
             }
@@ -552,7 +570,7 @@ impl Node {
             State::Joining(joiner) => match event {
                 Event::Tick => Ok(self.joiner_tick(out, joiner)?),
                 Event::Receive(message) => Ok(self.joiner_receive(views, out, joiner, message)?),
-                Event::EdgeDown(..) => {
+                Event::EdgeDown(..) | Event::Leave => {
                     self.be_joining(joiner);
                     Ok(())
                 }
@@ -563,10 +581,11 @@ impl Node {
                 Event::EdgeDown(config, ring, subject) => {
                     Ok(self.member_edge_down(member, *config, *ring, subject)?)
                 }
+                Event::Leave => Ok(self.member_leave(out, member)?),
             },
             State::Removed(configuration) => match event {
                 Event::Receive(message) => Ok(self.removed_receive(out, configuration, message)?),
-                Event::Tick | Event::EdgeDown(..) => {
+                Event::Tick | Event::EdgeDown(..) | Event::Leave => {
                     self.be_removed(configuration);
                     Ok(())
                 }
@@ -584,6 +603,7 @@ impl Node {
     {
         match event {
             Event::EdgeDown(..) => true,
+            Event::Leave => false,
             Event::Tick => match &self.state {
                 State::Member(member) => member.has_quiet_tick(),
                 State::Removed(_) => true,

@@ -3,6 +3,7 @@
 mod clusters;
 mod devices;
 mod ends;
+mod leaving;
 mod notes;
 mod probing;
 mod repeats;

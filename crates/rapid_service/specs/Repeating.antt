@@ -3,7 +3,7 @@
 use Rattle.std.specs.Prelude.{◌≡◌, ℕ, ◌+◌, ◌<◌, Bool, true, false, List, [], ◌∷◌, ◌++◌, All, Contains}
 use Rattle.std.specs.BTreeMap as tree
 use Rattle.rapid_model.specs.Bytes.{ConfigurationId}
-use Rattle.rapid_model.specs.Message.{Message, Body, Batch, FastVote, Prepare, Promise, Accept, Accepted, Decision, PreJoin, Reply, JoinRequest, Confirm, Probe, ProbeAck}
+use Rattle.rapid_model.specs.Message.{Message, Body, Batch, FastVote, Prepare, Promise, Accept, Accepted, Decision, PreJoin, Reply, JoinRequest, Confirm, Probe, ProbeAck, Leave}
 
 -- A message that was let through, and how many ticks there had been then.
 pub record Passed : Type 0 where
@@ -38,6 +38,7 @@ IsRepeatIn here now passed m (Reply j a) = ⊥
 IsRepeatIn here now passed m (Confirm c) = ⊥
 IsRepeatIn here now passed m (Probe id) = ⊥
 IsRepeatIn here now passed m (ProbeAck id) = ⊥
+IsRepeatIn here now passed m (Leave id k) = ⊥
 
 abbrev pub IsRepeat : ConfigurationId → ℕ → List Passed → Message → Type 0
 IsRepeat here now passed m = IsRepeatIn here now passed m m.body
@@ -66,6 +67,7 @@ IsSought here (Reply j a) = ⊥
 IsSought here (Confirm c) = ⊥
 IsSought here (Probe id) = ⊥
 IsSought here (ProbeAck id) = ⊥
+IsSought here (Leave id k) = ⊥
 
 -- Where it asks to join, it is within so many ticks.
 abbrev pub IsTimely : Body → ℕ → ℕ → Type 0
@@ -82,3 +84,4 @@ IsTimely (Reply j a) before now = Unit {0}
 IsTimely (Confirm c) before now = Unit {0}
 IsTimely (Probe id) before now = Unit {0}
 IsTimely (ProbeAck id) before now = Unit {0}
+IsTimely (Leave id k) before now = Unit {0}

@@ -212,6 +212,13 @@ impl<R: Wait + Copy + Drop, P: Post + Drop> Service<R, P> {
         self.step(Event::Receive(message))
     }
 
+    /// The node is to leave: a member asks those that observe it to have it removed. It goes on as
+    /// before until a view comes without it. One that still has it makes it a member that stays,
+    /// unless it is asked again; nothing else than a member leaves.
+    pub fn leave(&mut self) -> Result<(), NodeFault> {
+        self.step(Event::Leave)
+    }
+
     /// Whether a message is handed to the desk: before the first view each is.
     fn admits(&mut self, message: &Message) -> bool {
         match &mut self.present {

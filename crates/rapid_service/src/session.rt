@@ -85,6 +85,7 @@ impl<W: Wait, R: Wait + Copy + Drop, P: Post + Drop> Session<'_, W, R, P> {
             Asked::Taken(Command::Ticks(count)) => tick(self.rt, self.shared, count),
             Asked::Taken(Command::View) => self.view(),
             Asked::Taken(Command::Edges) => self.edges(),
+            Asked::Taken(Command::Leave) => self.shared.leave(self.rt),
             Asked::Taken(Command::Quit) => {
                 self.shared.ending().end(self.rt, None);
                 Ok(())

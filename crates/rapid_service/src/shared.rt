@@ -181,6 +181,14 @@ impl<R: Wait + Copy + Drop, P: Post + Drop> Shared<R, P> {
         done
     }
 
+    /// The node is to leave its cluster.
+    pub fn leave<W: Wait>(&self, rt: &W) -> Result<(), NodeFault> {
+        let mut service = self.service.lock(rt);
+        let done = service.leave();
+        self.show(rt, &mut service)?;
+        done
+    }
+
     /// Writes the lines of the observed edges: those of one view, each up or down as it is now.
     pub fn write_edges<W: Wait>(&self, rt: &W, output: &mut Vec<u8>) -> Result<(), NodeFault> {
         let mut service = self.service.lock(rt);

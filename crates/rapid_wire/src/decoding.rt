@@ -62,7 +62,7 @@ fn open_frame(whole: &[u8]) -> Result<(u8, &[u8]), WireFault>
     if *first != VERSION {
         return Err(WireFault::BadVersion);
     }
-    if !(1..=13).contains(kind) {
+    if !(1..=14).contains(kind) {
         return Err(WireFault::BadKind);
     }
     Ok((*kind, rest))

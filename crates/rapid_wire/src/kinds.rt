@@ -172,6 +172,10 @@ pub(crate) fn read_body(
         11 => read_confirm(alloc, bytes),
         12 => Ok(Body::Probe(read_id(bytes)?)),
         13 => Ok(Body::ProbeAck(read_id(bytes)?)),
+        14 => {
+            let (id, ring) = read_request(bytes)?;
+            Ok(Body::Leave(id, ring))
+        }
         _ => Err(WireFault::BadBody),
     }
 }

@@ -147,6 +147,7 @@ pub(crate) fn kind_of_body(body: &Body) -> u8
         Body::Confirm(_) => 11,
         Body::Probe(_) => 12,
         Body::ProbeAck(_) => 13,
+        Body::Leave(..) => 14,
     }
 }
 
@@ -194,7 +195,7 @@ pub(crate) fn put_body(alloc: Global, out: &mut Vec<u8>, body: &Body) -> Result<
             out.extend_from_slice(&joiner.to_bytes())?;
             put_answer(out, answer)
         }
-        Body::JoinRequest(id, ring) => {
+        Body::JoinRequest(id, ring) | Body::Leave(id, ring) => {
             put_id(out, id)?;
             Ok(out.push(*ring)?)
         }

@@ -121,6 +121,20 @@ impl World {
         }
     }
 
+    /// A node is to leave.
+    fn leave(&mut self, id: ProcessId) -> Result<Vec<Report>, WorldError>
+        requires { nat_lt (accepted self.old) 1000000 ≡ true }
+        ensures stored { IfOk result (λ reports. StoresEvent self.old self.new (model.Leave id) (map report_of reports.items)) }
+        ensures refused { IfErr result (Refuses (event_refusal self.old (model.Leave id))) }
+        ensures unchanged { OnErr result (self.new ≡ self.old) }
+    {
+        self.tell();
+        match self.running_under(&id) {
+            Some(place) => self.hand(WorldEvent::Leave(id), place, &Event::Leave),
+            None => Err(WorldError::NoSuchNode),
+        }
+    }
+
     /// A process starts to join by the seed at an endpoint.
     fn start(&mut self, process: Process, seed: Endpoint) -> Result<Vec<Report>, WorldError>
         requires { nat_lt (accepted self.old) 1000000 ≡ true }
@@ -221,6 +235,7 @@ impl World {
             WorldEvent::Tick(id) => self.tick(id),
             WorldEvent::Deliver(number) => self.deliver(number),
             WorldEvent::Crash(id) => self.crash(id),
+            WorldEvent::Leave(id) => self.leave(id),
         }
     }
 }

@@ -98,7 +98,7 @@ fn a_founder_observes_nobody(rt: HostRuntime) -> Result<(), Fail> {
 
 #[test]
 fn a_joiner_has_no_view(rt: HostRuntime) -> Result<(), Fail> {
-    let mut input = b"# none yet\nview\ntick 20\nleave\ntick 1001\n".as_slice();
+    let mut input = b"# none yet\nview\ntick 20\nleave\nleave now\ntick 1001\n".as_slice();
     let mut printed = Vec::new(rt.alloc());
     let mut err = Vec::new(rt.alloc());
     ran(
