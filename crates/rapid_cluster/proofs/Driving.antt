@@ -2,11 +2,11 @@
 use Rattle.std.proofs.Common.{◌≡◌, ◌≤◌, ℕ, zero, suc, ◌+◌, ◌-◌, ◌*◌, List, [], ◌∷◌, ◌++◌, append_assoc, append-nil, length, length-append, map, replicate, All, sum, refl, sym, ap, subst, ◌∙◌, Result, Ok, Err, IfOk, OnErr, arith}
 use Rattle.std.specs.List.{range_with_len}
 use Rattle.std.proofs.lemmas.List.{map_push}
-use Rattle.rapid_model.specs.Configuration.{Params, founding}
+use Rattle.std.proofs.lemmas.List.Sums.{sum_by-le}
+use Rattle.rapid_model.specs.Configuration.{Params}
 use Rattle.rapid_model.specs.Numbered.{numbered}
 use Rattle.rapid_model.specs.Run.{WorldReport}
-use Rattle.rapid_model.specs.StoredWorld.{StoredWorld, StoresEvent, accepted, with_event}
-use Rattle.rapid_model.specs.World.{MarkedEvent}
+use Rattle.rapid_model.specs.StoredWorld.{accepted}
 use Rattle.rapid_clerks.specs.Clusters.{ClusterState, DoesJob, new_cluster}
 use Rattle.rapid_clerks.specs.Jobs.{DoesJobs, none, one_more}
 use Rattle.rapid_clerks.specs.declared.job.Job.{Job}
@@ -87,9 +87,8 @@ jobs_length n turns =
     let c : length (replicate turns Turn) ≡ turns = replicate_length turns Turn in
     omega (arith, a, b, c)
 
-pub sum_within : (most : ℕ) (xs : List ℕ) → All (λ x. x ≤ most) xs → sum xs ≤ length xs * most
-sum_within most [] all = omega arith
-sum_within most (x ∷ xs) all = let rest = sum_within most xs all.1 in let one = all.0 in grind arith
+sum_within : (most : ℕ) (xs : List ℕ) → All (λ x. x ≤ most) xs → sum xs ≤ length xs * most
+sum_within most xs all = sum_by-le (λ x. x) most xs all
 
 -- so the turns are those that the share counts
 pub driven : (params : Params) (n workers turns stored amount : ℕ) (counts : List ℕ) (c : ClusterState) → IsUnderway params n c → stored ≡ accepted c.world → stored ≡ amount → amount ≡ (n - 1) + sum counts →

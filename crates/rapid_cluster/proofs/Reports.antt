@@ -1,7 +1,6 @@
 -- Reports that are made and written.
-use Rattle.std.proofs.Common.{◌≡◌, ℕ, List, [], refl, sym, subst, Option, Result, Ok, Err, OnOk, OnErr, IfOk, IfErr}
+use Rattle.std.proofs.Common.{◌≡◌, ℕ, List, sym, subst, Option, Result, Ok, Err, OnOk, OnErr, IfOk, IfErr}
 use Rattle.std.specs.Io.KnownBytes.{Appends}
-use Rattle.std.proofs.KnownBytes.{Appends-nil}
 use Rattle.rapid_model.specs.Agreement.{NoCollision}
 use Rattle.rapid_model.specs.Configuration.{Params}
 use Rattle.rapid_model.specs.RunHolds.{RunHolds}

@@ -1,6 +1,6 @@
 -- Clauses of public calls cite this file.
 -- How a cluster comes to its end: it is founded, the other nodes are started, and turns are taken.
-use Rattle.std.specs.Prelude.{◌≡◌, ◌≤◌, ℕ, ◌-◌, List, [], ◌∷◌, ◌++◌, map, replicate}
+use Rattle.std.specs.Prelude.{◌≤◌, ℕ, ◌-◌, List, [], ◌∷◌, ◌++◌, map, replicate}
 use Rattle.std.specs.List.{range_with_len}
 use Rattle.rapid_model.specs.Configuration.{Params}
 use Rattle.rapid_model.specs.Process.{endpoint}
@@ -23,7 +23,8 @@ starts_of count = map start_of (range_with_len 2 count)
 abbrev pub all_jobs : ℕ → ℕ → List Job
 all_jobs n turns = starts_of (n - 1) ++ replicate turns Turn
 
--- A cluster of the nodes 1 to n has taken so many turns: process 1 founded it with these parameters, and each of these jobs was done.
+-- A cluster of the nodes 1 to n has taken so many turns: process 1 founded it with these parameters, and each of these
+-- jobs was done.
 abbrev pub HasTaken : Params → ℕ → ℕ → ClusterState → Type 0
 HasTaken params n turns c = DoesJobs (new_cluster params (numbered 1 ∷ [])) (all_jobs n turns) c
 

@@ -8,7 +8,8 @@ use Rattle.rapid_text.specs.declared.fault.RunFault.{RunFault}
 use Rattle.rapid_text.specs.declared.fault.RunFault.TheVariants.{Read, Write, OutOfMemory}
 use Rattle.rapid_cluster.specs.ClusterText.{IsReport}
 
--- Where the output could not be written a beginning of a report was, and for want of memory nothing. There is no input.
+-- If the output could not be written, a beginning of a report was written; if out of memory, nothing. There is no
+-- input.
 abbrev pub Ended : Params → ℕ → ℕ → Option (List ℕ) → Option (List ℕ) → RunFault → Type 0
 Ended params n most old new Read = ⊥
 Ended params n most old new Write = (text : List ℕ) × IsReport params n most text × AppendsFront old new text

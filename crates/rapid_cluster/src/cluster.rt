@@ -13,7 +13,7 @@ ghost use Rattle.rapid_cluster.specs.Written.{Ended};
 use crate::report::report;
 use rapid_clerks::{ClusterBook, DoJob, Gate, Job, TurnJob, run_clerks};
 use rapid_config::Params;
-use rapid_text::{RunFault, numbered};
+use rapid_text::{RunFault, numbered, write_text};
 use rapid_world::{Report, WorldError, WorldEvent};
 use std::alloc::{AllocError, Global};
 use std::io::Write;
@@ -39,8 +39,8 @@ impl Gate for Open {
     fn left(&self, _worker: usize, _turn: u64) {}
 }
 
-/// What a cluster is asked to be. It is known only where the cluster is driven, so a type stands
-/// for it in the type of what threads share.
+/// What a cluster is asked to be. This is known only when the cluster is driven, but the type of
+/// what threads share has to name it. So a type stands for it.
 trait Asked {
     ghost params: { ModelParams };
 
@@ -111,8 +111,8 @@ impl<L: Ledger, A: Asked> DoJob<L, TurnJob> for Driven<L, A> {
     }
 }
 
-/// Starts the process of a number, which asks process 1 to let it in. The world would refuse that
-/// only to a number that was started before, so what is wanting is memory.
+/// Starts the process of a number, which asks process 1 to let it in. Only a number that was
+/// started before would be refused, so the error is that memory ran out.
 fn start<L: Ledger>(
     book: &mut ClusterBook<L>,
     share: &mut Share<L>,
@@ -152,8 +152,8 @@ fn start_others<L: Ledger>(
     Ok(())
 }
 
-/// A cluster of so many nodes that process 1 founded with these parameters, after the starts of the
-/// others; and a share that has every part of its ledger, and counts the starts.
+/// A cluster of `nodes` nodes that process 1 founded with these parameters, after the starts of the
+/// others. The share has every part of the cluster's ledger, and counts the starts.
 #[tactic(auto, using(crate::proofs::Founding::one_founder))]
 fn found<L: Ledger>(
     alloc: Global,
@@ -173,8 +173,8 @@ fn found<L: Ledger>(
     Ok((book, share))
 }
 
-/// Lets so many clerks take so many turns each in a cluster of so many nodes, and says what is
-/// printed of it. A type stands for what is asked for.
+/// Lets clerks take turns in a cluster of nodes; the result is what is printed of it. A type stands
+/// for what is asked for.
 fn drive<L: Ledger + Send + Sync, A: Asked + Send + Sync, R: Threads + Wait + Sync>(
     rt: &R,
     alloc: Global,
@@ -200,13 +200,12 @@ fn drive<L: Ledger + Send + Sync, A: Asked + Send + Sync, R: Threads + Wait + Sy
     report(alloc, book.world(), nodes)
 }
 
-/// Starts a cluster of so many nodes, of which process 1 is the founder and the others ask it to
-/// let them in, lets so many clerks in threads of their own take so many turns each in it, and
-/// writes what it is then: how many events are stored, the view of each member, and whether two
-/// nodes hold different identifiers at one height. The stored events are the starts and the turns
-/// that were taken, at most so many as the clerks had. The world is their run, so where no two
-/// different configurations share an identifier all that holds of runs holds of it. The caller sees
-/// that there are at most 32 clerks.
+/// Starts a cluster of `nodes` nodes, of which process 1 is the founder and the others ask it to
+/// let them in. Each of `workers` clerks takes at most `turns` turns in it, in a thread of its own.
+/// Then writes how many events are stored, the view of each member, and whether two nodes hold
+/// different identifiers at one height. The stored events are the starts, and then the turns that
+/// were taken. The world is their run, so if no two different configurations share an identifier,
+/// all that holds of runs holds of it. The caller ensures that there are at most 32 clerks.
 ///
 /// # Errors
 ///

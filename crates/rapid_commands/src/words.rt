@@ -294,21 +294,21 @@ fn matches_of<'a, S: AsStr>(alloc: Global, words: &'a [S]) -> Result<ArgMatches<
     grammar(alloc)?.try_get_matches_from(words)
 }
 
-/// The number behind an option, where it is a byte.
+/// The number behind an option, if it is a byte.
 fn byte_behind(words: &ArgMatches, option: &str) -> Option<u8>
     ensures { IfSome result (λ n. number_in (rows_of (found_of words.now)) option.now ≡ Some n) }
 {
     words.get_one::<u8>(option)
 }
 
-/// The number behind an option, where it has at most 16 bits.
+/// The number behind an option, if it has at most 16 bits.
 fn number_behind(words: &ArgMatches, option: &str) -> Option<u16>
     ensures { IfSome result (λ n. number_in (rows_of (found_of words.now)) option.now ≡ Some n) }
 {
     words.get_one::<u16>(option)
 }
 
-/// The setting of a cluster, where K, H and L are in order.
+/// The setting of a cluster, if K, H and L are in order.
 #[tactic(auto, using(crate::proofs::Asking::setting_found))]
 fn setting_of(words: &ArgMatches) -> Option<Setting>
     ensures runs { IfSome result (λ setting. setting.workers ≤ 32) }
@@ -332,7 +332,7 @@ fn setting_of(words: &ArgMatches) -> Option<Setting>
     })
 }
 
-/// The command that the words name, where K, H and L are in order.
+/// The command that the words name, if K, H and L are in order.
 #[tactic(auto, using(crate::proofs::Asking::detect_found, crate::proofs::Asking::sim_found, crate::proofs::Asking::cluster_found))]
 fn job_of(words: &ArgMatches) -> Option<Job>
     ensures runs { IfSome result CanRun }
@@ -390,12 +390,12 @@ where
     }
 }
 
-/// Does what the words ask for, of which the first is the program's name, and answers the status.
-/// Where that is 0, what the input prints by the command that the words name, with its options, was
-/// written, and nothing else; or the words ask for help or the version, and the input was not read.
-/// Where it is 1, a beginning of that was written, or help or the version could not be written.
-/// Where it is 2 nothing was written, and where it is 3 a beginning of what the input prints by the
-/// command that the words name, or nothing. Of what `node` writes nothing is said, unless it is
+/// Does what the words ask for, of which the first is the program's name. The answer is the status.
+/// If it is 0, what the input prints by the command that the words name, with its options, was
+/// written and nothing else; or the words ask for help or the version, and the input was not read.
+/// If it is 1, a beginning of that was written, or help or the version could not be written. If it
+/// is 2, nothing was written. If it is 3, a beginning of what the input prints by the command that
+/// the words name was written, or nothing. What `node` writes is not promised, unless its words are
 /// refused.
 pub fn run_words<T, S, R, O, E>(
     rt: &T,

@@ -1,4 +1,4 @@
-use Rattle.std.proofs.Common.{◌≡◌, ◌+◌, ◌∙◌, refl, arith}
+use Rattle.std.proofs.Common.{◌∙◌, refl, arith}
 use Rattle.rapid_cluster.proofs.Driving.{none_started, one_started}
 use Rattle.rapid_cluster.proofs.cluster.start_others.Goals as goal
 
