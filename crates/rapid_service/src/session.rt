@@ -113,7 +113,7 @@ impl<W: Wait, R: Wait + Copy + Drop, P: Post + Drop> Engine for Session<'_, W, R
 
     ghost too_long = { λ s line other later text n h k p. tt };
 
-    ghost speaks = { λ s lines. ([], 0, tt) };
+    ghost speaks = { λ s lines. ([], tt) };
 }
 
 /// Answers the lines of an input until it ends or the node does, and then ends the node.

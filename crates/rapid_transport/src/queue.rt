@@ -1,7 +1,7 @@
 // The queue of a sender: frames, each with the endpoint that it goes to.
 
 ghost use Rattle.std.specs.Prelude.{◌≡◌, ◌<◌, ◌≤◌, List, [], ◌∷◌, ◌++◌, OnOk, IfOk, IfErr, MatchOption};
-ghost use Rattle.rapid_line.specs.Line.{StartsWith};
+ghost use Rattle.rapid_line.specs.Line.{StartsWith, Untaken};
 ghost use Rattle.rapid_transport.specs.declared.error.TransportError.TheVariants.{QueueFull};
 ghost use Rattle.rapid_transport.specs.Counting.{one_more};
 
@@ -22,7 +22,8 @@ impl<T> Order<T> for AnyOrder {
 }
 
 /// The end of a sender's queue that puts. Contracts see the queue, the frames that were put, each
-/// with its destination, and how many found it full.
+/// with its destination, those of them that are known to be taken, for how many there is room, and
+/// how many found it full.
 #[derive(Drop)]
 pub struct SenderQueue {
     sink: Sink<(Endpoint, Bytes), AnyOrder>,
@@ -36,7 +37,7 @@ impl Model for SenderQueue {
 
     ghost Value = { Putting };
 
-    ghost view = { λ q. record { queue = q.sink.queue; put = q.sink.put; full = q.full } };
+    ghost view = { λ q. record { queue = q.sink.queue; put = q.sink.put; known = q.sink.known; room = q.sink.room; full = q.full } };
 }
 
 /// The end of a sender's queue that takes. Contracts see the queue, the frames that were taken, and
@@ -63,7 +64,8 @@ impl SenderQueue {
     pub fn new(alloc: Global, capacity: usize) -> Result<(SenderQueue, SenderEnd), AllocError>
         requires { (0 < capacity) × (capacity ≤ 4096) }
         ensures queue { IfOk result (λ ends. ends.0.queue ≡ ends.1.queue) }
-        ensures empty { IfOk result (λ ends. (ends.0.put ≡ []) × (ends.1.taken ≡ [])) }
+        ensures empty { IfOk result (λ ends. (ends.0.put ≡ []) × (ends.0.known ≡ []) × (ends.1.taken ≡ [])) }
+        ensures room { IfOk result (λ ends. ends.0.room ≡ capacity) }
         ensures no_losses { IfOk result (λ ends. (ends.0.full ≡ 0) × (ends.1.failed ≡ 0)) }
     {
         let (sink, source) = rapid_line::line(alloc, capacity)?;
@@ -86,11 +88,13 @@ impl SenderQueue {
     ///
     /// # Errors
     ///
-    /// `QueueFull` if there was no room: the frame is dropped, and counted as a loss.
+    /// `QueueFull` if there was no room: at one moment of the call as many frames as there is room
+    /// for were still to be taken. The frame is dropped, and counted as a loss.
     pub fn put<R: Wait>(&mut self, rt: &R, to: Endpoint, frame: Bytes) -> Result<(), TransportError>
-        ensures queue { self.new.queue ≡ self.old.queue }
+        ensures queue { (self.new.queue ≡ self.old.queue) × (self.new.known ≡ self.old.known) × (self.new.room ≡ self.old.room) }
         ensures put { OnOk result ((self.new.put ≡ self.old.put ++ (to, frame) ∷ []) × (self.new.full ≡ self.old.full)) }
         ensures dropped { IfErr result (λ e. (e ≡ QueueFull) × (self.new.put ≡ self.old.put) × (self.new.full ≡ one_more self.old.full)) }
+        ensures full { IfErr result (λ _. Untaken self.old.put self.old.known self.old.room) }
     {
         match self.sink.put(rt, (to, frame)) {
             Ok(()) => Ok(()),
@@ -109,10 +113,12 @@ impl SenderQueue {
         self.full.saturating_add(self.failed.load(Ordering::SeqCst))
     }
 
-    /// What was taken is a beginning of what was put: each frame once, and in order.
+    /// What was taken is a beginning of what was put: each frame once, and in order. It is known to
+    /// be taken from then on.
     pub fn compare(&mut self, end: &mut SenderEnd)
         requires { self.old.queue ≡ end.old.queue }
-        ensures same { (self.new ≡ self.old) × (end.new ≡ end.old) }
+        ensures known { self.new ≡ record self.old { known = end.old.taken } }
+        ensures same { end.new ≡ end.old }
         ensures order { StartsWith self.old.put end.old.taken }
     {
         self.sink.compare(&mut end.source);
