@@ -11,6 +11,7 @@ pub mod Counts
 pub mod Taking
 pub mod Cuts
 pub mod InTurn
+pub mod Merging
 pub mod Batches
 pub mod Repeats
 pub mod Exact

@@ -6,4 +6,5 @@ pub mod Known
 pub mod Laws
 pub mod Limits
 pub mod Masks
+pub mod Merging
 pub mod Watching
