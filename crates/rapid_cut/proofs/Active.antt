@@ -1,5 +1,5 @@
 -- While the same processes have L direct reports, the same is implied.
-use Rattle.std.proofs.Common.{◌≡◌, ℕ, ◌≤◌, Bool, true, false, ◌&&◌, ◌||◌, List, [], ◌++◌, map, refl, sym, ap, ◌∙◌, ◌⊎◌, inl, inr, Option, Some, None, nat_lt, nat_le, arith}
+use Rattle.std.proofs.Common.{◌≡◌, ℕ, ◌≤◌, Bool, true, false, ◌&&◌, ◌||◌, List, [], ◌++◌, map, refl, sym, ap, subst, ◌∙◌, ◌⊎◌, inl, inr, Option, Some, None, nat_lt, nat_le, arith}
 use Rattle.std.specs.FinSet as set
 use Rattle.std.specs.List.Sorted.{IsStrictlySortedBy}
 use Rattle.std.proofs.lemmas.List.Kept.{IsStrictlySortedBy-filter}
@@ -12,11 +12,12 @@ use Rattle.rapid_model.specs.Reports.{Report, report_cmp, Reports, report_of, ta
 use Rattle.rapid_model.specs.Detector.{with_alerts}
 use Rattle.rapid_model.proofs.Closure.{some_counted, implied_mono}
 use Rattle.rapid_model.proofs.Orders.{reports_total, reports_exact, processes_total, processes_exact}
-use Rattle.rapid_model.proofs.InOrder.{same_sorted}
-use Rattle.rapid_cut.specs.Closing.{IsBetween, active}
+use Rattle.rapid_model.proofs.InOrder.{any_in_order, sorted_in_order, same_sorted}
+use Rattle.rapid_cut.specs.Closing.{IsBetween, HaveCome, is_one_of, active}
 use Rattle.rapid_cut.specs.Growing.{HaveGrown}
 use Rattle.rapid_cut.proofs.InTurn.{ordered_subjects}
 use Rattle.rapid_cut.proofs.Sets.{subject_of}
+use Rattle.rapid_cut.proofs.Closing.{both, and_true}
 use Rattle.rapid_cut.proofs.Joiners.{in_filter, sorted_subjects}
 use Rattle.rapid_cut.proofs.OnePass.{one_pass}
 
@@ -47,7 +48,7 @@ implied_same t r q x e =
     ap (λ b. nat_lt x.1 t.params.k && b && reaches_low t r (t.observer x.1 x.0)) (low_same t r q (Some x.0) e)
     ∙ ap (λ b. nat_lt x.1 t.params.k && reaches_low t q (Some x.0) && b) (low_same t r q (t.observer x.1 x.0) e)
 
-sorted_active : (t : Observers) (r : Reports) → IsStrictlySortedBy process_cmp (active t r)
+pub sorted_active : (t : Observers) (r : Reports) → IsStrictlySortedBy process_cmp (active t r)
 sorted_active t r = IsStrictlySortedBy-filter process_cmp (λ s. reaches_low t r (Some s)) (subjects r) (sorted_subjects r)
 
 pub active_same : (t : Observers) (old new : Reports) (before : List Process) → AreObservers t → before ≡ active t old → AreAlike t new old → before ≡ active t new
@@ -61,6 +62,14 @@ none_grown t old new grown e g s = g.low s ∙ ap (λ l. reaches_low t old (Some
     or_false : (b : Bool) → (b || false) ≡ b
     or_false true = refl
     or_false false = refl
+
+-- the same processes in order
+pub grown_in_order : (t : Observers) (old new : Reports) (grown found : List Process) → found ≡ in_order process_cmp grown → HaveGrown t old new grown → HaveGrown t old new found
+grown_in_order t old new grown found e g =
+    record { low = λ q. g.low q ∙ ap (λ b. reaches_low t old (Some q) || b) (sym (ap (λ l. is_in l q) e ∙ any_in_order process_cmp processes_total grown q)) }
+
+pub in_order_ascends : (grown found : List Process) → found ≡ in_order process_cmp grown → IsStrictlySortedBy process_cmp found
+in_order_ascends grown found e = subst (IsStrictlySortedBy process_cmp) (sym e) (sorted_in_order process_cmp processes_total grown)
 
 -- those that came to it beside those of before
 pub low_among : (t : Observers) (old new : Reports) (before grown : List Process) → AreObservers t → before ≡ active t old → HaveGrown t old new grown → (q : Process) → reaches_low t new (Some q) ≡ (is_in before q || is_in grown q)
@@ -131,3 +140,30 @@ known_between t old all new known xs obs a k w =
 -- all has what is direct
 pub closure_includes : (t : Observers) (direct all : Reports) → AreObservers t → all ≡ reports t direct → Includes all direct
 closure_includes t direct all obs e x h = ap (λ r. set.contains r x) e ∙ one_pass t direct x obs ∙ or_left _ _ h
+
+-- L direct reports now: as before, or it came to them
+low_since : (t : Observers) (old new : Reports) (grown : List Process) (o : Option Process) → HaveGrown t old new grown → reaches_low t new o ≡ true → (reaches_low t old o ≡ true) ⊎ (is_one_of grown o ≡ true)
+low_since t old new grown None g h = inl h
+low_since t old new grown (Some p) g h = or_split (reaches_low t old (Some p)) (is_in grown p) (sym (g.low p) ∙ h)
+
+-- what was implied before is known
+pub come_since : (t : Observers) (old all new known : Reports) (grown : List Process) (xs : List Alert) → AreObservers t → all ≡ reports t old → known ≡ with_alerts all xs → HaveGrown t old new grown → HaveCome t new known grown
+come_since t old all new known grown xs obs a k g =
+    record {
+      low = λ s h. g.low s ∙ or_right (reaches_low t old (Some s)) (is_in grown s) h;
+      rest = λ x h.
+          let parts = both (nat_lt x.1 t.params.k && reaches_low t new (Some x.0)) (reaches_low t new (t.observer x.1 x.0)) h in
+          let first = both (nat_lt x.1 t.params.k) (reaches_low t new (Some x.0)) parts.0 in
+          elim (low_since t old new grown (Some x.0) g first.1) [
+            | inr on ↦ inr (inl on)
+            | inl subject ↦ elim (low_since t old new grown (t.observer x.1 x.0) g parts.1) [
+              | inr by ↦ inr (inr by)
+              | inl observer ↦ inl (known_has x (and_true _ _ (and_true _ _ first.0 subject) observer))
+            ]
+          ];
+    }
+  where
+    known_has : (x : Report) → is_implied t old x ≡ true → set.contains known x ≡ true
+    known_has x h =
+        ap (λ r. set.contains r x) k ∙ set.contains-union reports_total all (set.from_list {R = report_cmp} (map report_of xs)) x
+        ∙ or_left _ _ (ap (λ r. set.contains r x) a ∙ one_pass t old x obs ∙ or_right (set.contains old x) (is_implied t old x) h)

@@ -7,10 +7,12 @@ pub mod Joiners
 pub mod Fresh
 pub mod Keeping
 pub mod Masks
+pub mod MaskMaps
 pub mod Counts
 pub mod Taking
 pub mod Cuts
 pub mod InTurn
+pub mod Merging
 pub mod Batches
 pub mod Repeats
 pub mod Exact

@@ -1,13 +1,16 @@
 -- One pass over the processes adds what the direct reports imply.
-use Rattle.std.proofs.Common.{◌≡◌, ℕ, ◌+◌, ◌≤◌, ◌<◌, Bool, true, false, not, ◌==◌, ◌&&◌, ◌||◌, List, [], ◌∷◌, length, drop, get_or, filter, zero, suc, add-one, refl, sym, ap, subst, ◌∙◌, Some, ◌⊎◌, inl, inr, nat_lt, arith, eq-eqb, ne_eqb}
+use Rattle.std.proofs.Common.{◌≡◌, ℕ, ◌+◌, ◌≤◌, ◌<◌, Bool, true, false, not, ◌==◌, ◌&&◌, ◌||◌, List, [], ◌∷◌, ◌++◌, length, take, drop, get_or, filter, zero, suc, add-one, refl, sym, ap, subst, ◌∙◌, Option, Some, None, ◌⊎◌, inl, inr, nat_lt, arith, eq-eqb, ne_eqb}
 use Rattle.std.specs.Cmp.{both_ways}
 use Rattle.std.specs.FinSet as set
 use Rattle.std.proofs.lemmas.Bool.{cases_eq}
+use Rattle.std.proofs.lemmas.List.{take_more}
+use Rattle.std.proofs.lemmas.List.Folds.{list_any-append}
 use Rattle.rapid_model.specs.Process.{Process, is_in, same_bytes}
 use Rattle.rapid_model.specs.Ring.{Observers, AreObservers}
 use Rattle.rapid_model.specs.Reports.{Report, Reports, reaches_low, is_implied, subjects, reports}
 use Rattle.rapid_model.proofs.Orders.{reports_total, reports_exact, same_bytes_decides}
-use Rattle.rapid_cut.specs.Closing.{AddsImplied, IsBetween, active}
+use Rattle.rapid_rings.specs.Observing.{ObservesNobody}
+use Rattle.rapid_cut.specs.Closing.{AddsImplied, IsBetween, IsPassing, HaveCome, is_one_of, active}
 use Rattle.rapid_cut.specs.Masks.{has_ring}
 use Rattle.rapid_cut.specs.Growing.{is_for, AddsRings}
 use Rattle.rapid_cut.proofs.Masks.{no_ring}
@@ -119,11 +122,6 @@ adds_implied t direct s old new mask rings at is adds =
 
 -- ---- the processes
 
-pub record IsPassing (t : Observers) (direct : Reports) (left : List Process) (all : Reports) : Type 0 where
-  pub between : IsBetween t direct all
-  pub low : (s : Process) → is_in left s ≡ true → reaches_low t direct (Some s) ≡ true
-  pub rest : (x : Report) → is_implied t direct x ≡ true → (set.contains all x ≡ true) ⊎ (is_in left x.0 ≡ true)
-
 kept : (p : Process → Bool) (ss : List Process) (s : Process) → is_in ss s ≡ true → p s ≡ true → is_in (filter p ss) s ≡ true
 kept p ss s h k = in_filter p ss s ∙ and_true _ _ h k
 
@@ -137,6 +135,36 @@ passing_none t direct all left obs l b =
           let low = (both (nat_lt x.1 t.params.k) (reaches_low t direct (Some x.0)) a.0).1 in
           inr (kept (λ s. reaches_low t direct (Some s)) (subjects direct) x.0 (on_low t (subjects direct) direct x obs.params.some (λ y k. subject_of direct y k) h) low);
     })
+
+-- what misses is by none of those that came to L, since they observe nobody
+pub passing_grown : (t : Observers) (direct all : Reports) (grown : List Process) → IsBetween t direct all → HaveCome t direct all grown → ((o : Process) → is_in grown o ≡ true → ObservesNobody t o) → IsPassing t direct grown all
+passing_grown t direct all grown b come nobody =
+    record {
+      between = b;
+      low = come.low;
+      rest = λ x h.
+          elim (come.rest x h) [
+            | inl there ↦ inl there
+            | inr more ↦ elim more [ inl on ↦ inr on | inr by ↦ absurd (none_by x.1 x.0 (t.observer x.1 x.0) refl by) ]
+          ];
+    }
+  where
+    none_by : (k : ℕ) (s : Process) (o : Option Process) → t.observer k s ≡ o → is_one_of grown o ≡ true → ⊥
+    none_by k s None e h = cc
+    none_by k s (Some p) e h = nobody p h k s e
+
+-- one more that observes nobody
+pub nobody_more : (t : Observers) (ps : List Process) (i : ℕ) (p : Process) → i < length ps → p ≡ get_or ps i p → ObservesNobody t p → ((o : Process) → is_in (take i ps) o ≡ true → ObservesNobody t o)
+    → (o : Process) → is_in (take (i + 1) ps) o ≡ true → ObservesNobody t o
+nobody_more t ps i p below e here before o h =
+    elim (or_split (is_in (take i ps) o) (is_in (p ∷ []) o) (sym (ap (λ xs. is_in xs o) (take_more ps i p below ∙ ap (λ q. take i ps ++ q ∷ []) (sym e)) ∙ list_any-append (same_bytes o) (take i ps) (p ∷ [])) ∙ h)) [
+      | inl was ↦ before o was
+      | inr now ↦ subst (ObservesNobody t) (sym ((same_bytes_decides o p).0 (sym (or_false (same_bytes o p)) ∙ now))) here
+    ]
+  where
+    or_false : (b : Bool) → (b || false) ≡ b
+    or_false true = refl
+    or_false false = refl
 
 pub passing_low : (t : Observers) (direct all : Reports) (left rest : List Process) (s : Process) → left ≡ s ∷ rest → IsPassing t direct left all → reaches_low t direct (Some s) ≡ true
 passing_low t direct all left rest s e p = p.low s (ap (λ ss. is_in ss s) e ∙ or_left _ _ ((same_bytes_decides s s).1 refl))

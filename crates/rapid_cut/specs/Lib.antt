@@ -5,5 +5,7 @@ pub mod Keys
 pub mod Known
 pub mod Laws
 pub mod Limits
+pub mod MaskMaps
 pub mod Masks
+pub mod Merging
 pub mod Watching

@@ -1,19 +1,19 @@
 // The reports that a set implies.
 
-ghost use Rattle.std.specs.Prelude.{◌≡◌, ℕ, true, not, ◌&&◌, ◌||◌, ◌==◌, ◌<◌, count_by, nat_le, Some, IfOk, OnOk};
-ghost use Rattle.std.specs.Map.{lookup};
-ghost use Rattle.std.specs.BTreeMap.{is_at};
+ghost use Rattle.std.specs.Prelude.{◌≡◌, ℕ, true, false, not, ◌&&◌, ◌||◌, ◌==◌, ◌<◌, count_by, nat_le, Some, IfOk, OnOk};
+ghost use Rattle.std.specs.List.Sorted.{IsStrictlySortedBy};
 ghost use Rattle.rapid_model.specs.Process.{Process as Bytes, process_cmp, is_in};
 ghost use Rattle.rapid_model.specs.Ring.{AreObservers, rings};
 ghost use Rattle.rapid_model.specs.Reports as model;
-ghost use Rattle.rapid_cut.specs.Closing.{AddsImplied, IsBetween, active as active_of};
+ghost use Rattle.rapid_rings.specs.Observing.{ObservesNobody};
+ghost use Rattle.rapid_cut.specs.Closing.{AddsImplied, IsBetween, IsPassing, HaveCome, active as active_of};
 ghost use Rattle.rapid_cut.specs.Growing.{before};
-ghost use Rattle.rapid_cut.specs.Keeping.{AreKept};
+ghost use Rattle.rapid_cut.specs.Keeping.{AreKept, IsWhere};
 ghost use Rattle.rapid_cut.specs.Masks.{has_ring};
 
-use crate::ascending::ascending;
+use crate::ascending::merged;
 use crate::growing::GrowingReports;
-use crate::kept::KeptObservers;
+use crate::kept::{KeptObservers, Whereabouts};
 use crate::mask::{Masks, bit, count, has_bit, with};
 use crate::reports::KnownReports;
 use rapid_endpoint::Process;
@@ -28,7 +28,7 @@ pub fn tally<T: ObserverTable>(table: &T, reports: &KnownReports, subject: &Proc
 }
 
 /// The processes with at least L direct reports, ascending: those of before and those that came to
-/// it.
+/// it, both ascending.
 pub fn active_with<T: ObserverTable>(
     alloc: Global,
     table: &T,
@@ -38,13 +38,13 @@ pub fn active_with<T: ObserverTable>(
 ) -> Result<Vec<Process>, AllocError>
     requires rules { AreObservers (T.observers table.now) }
     requires low { (q : Bytes) → model.reaches_low (T.observers table.now) reports.now.direct (Some q) ≡ (is_in before.now q || is_in grown.now q) }
+    requires before { IsStrictlySortedBy process_cmp before.now }
+    requires grown { IsStrictlySortedBy process_cmp grown.now }
     ensures { IfOk result (λ found. found.items ≡ active_of (T.observers table.now) reports.now.direct) }
 {
     let _ = table;
     let _ = reports;
-    let mut found = Vec::from_slice(alloc, before)?;
-    found.extend_from_slice(grown)?;
-    Ok(ascending(found))
+    merged(alloc, before, grown)
 }
 
 /// Whether a process with reports for these rings has at least L.
@@ -68,14 +68,14 @@ fn is_observer_low<T: ObserverTable>(
     kept: &KeptObservers,
     reports: &KnownReports,
     subject: &Process,
-    place: Option<usize>,
+    found: Whereabouts,
     ring: u8,
 ) -> bool
     requires kept { AreKept (T.observers table.now) kept.now.places.entries kept.now.observers.items }
-    requires place { place ≡ lookup (is_at (process_cmp subject.now)) kept.now.places.entries }
+    requires found { IsWhere (T.places table.now) kept.now.places.entries subject.now found }
     ensures { result ≡ model.reaches_low (T.observers table.now) reports.now.direct ((T.observers table.now).observer ring subject.now) }
 {
-    match kept.observer(table, subject, place, ring) {
+    match kept.observer(table, subject, found, ring) {
         Some(observer) => reaches_low(table, reports, &observer),
         None => false,
     }
@@ -106,11 +106,11 @@ fn implied_rings<T: ObserverTable>(
     requires low { model.reaches_low (T.observers table.now) reports.now.direct (Some subject.now) ≡ true }
     ensures { (k : ℕ) → has_ring result k ≡ (not (has_ring mask k) && model.is_implied (T.observers table.now) reports.now.direct (subject.now, k)) }
 {
-    let place = kept.place(subject);
+    let found = kept.find(table, subject);
     let mut implied = 0;
     for ring in 0..table.params().k() {
         let is_added = !has_bit(mask, ring)
-            && is_observer_low(table, kept, reports, subject, place, ring);
+            && is_observer_low(table, kept, reports, subject, found, ring);
         implied = with_ring(implied, ring, is_added);
     }
     implied
@@ -138,24 +138,60 @@ fn add_implied<T: ObserverTable>(
     Ok(())
 }
 
-/// Adds all that the direct reports imply to what is known with some of it: one pass over those
-/// with at least L direct reports, since what is implied goes to no other process.
-pub fn close<T: ObserverTable>(
+/// Adds all that the direct reports imply to what is known with some of it: one pass over those on
+/// whom reports miss, since what is implied goes only to processes with at least L direct reports.
+fn close<T: ObserverTable>(
+    table: &T,
+    kept: &KeptObservers,
+    subjects: &[Process],
+    known: &mut GrowingReports,
+) -> Result<(), AllocError>
+    requires rules { AreObservers (T.observers table.now) }
+    requires kept { AreKept (T.observers table.now) kept.now.places.entries kept.now.observers.items }
+    requires passing { IsPassing (T.observers table.now) known.old.reports.direct subjects.now known.old.reports.all }
+    ensures direct { OnOk result (known.new.reports.direct ≡ known.old.reports.direct) }
+    ensures all { OnOk result (known.new.reports.all ≡ model.reports (T.observers table.now) known.old.reports.direct) }
+    ensures before { before known.new ≡ before known.old }
+{
+    for subject in subjects {
+        add_implied(table, kept, subject, known)?;
+    }
+    Ok(())
+}
+
+/// Whether one of these processes may observe someone.
+fn may_any_observe<T: ObserverTable>(table: &T, processes: &[Process]) -> bool
+    ensures { result ≡ false → (o : Bytes) → is_in processes.now o ≡ true → ObservesNobody (T.observers table.now) o }
+{
+    for process in processes {
+        if table.may_observe(process) {
+            return true;
+        }
+    }
+    false
+}
+
+/// Adds all that the direct reports imply once these processes came to L, where `active` are all
+/// that have as many. If they observe nobody, what misses is on them alone.
+pub fn close_grown<T: ObserverTable>(
     table: &T,
     kept: &KeptObservers,
     active: &[Process],
+    grown: &[Process],
     known: &mut GrowingReports,
 ) -> Result<(), AllocError>
     requires rules { AreObservers (T.observers table.now) }
     requires kept { AreKept (T.observers table.now) kept.now.places.entries kept.now.observers.items }
     requires active { active.now ≡ active_of (T.observers table.now) known.old.reports.direct }
+    requires grown { HaveCome (T.observers table.now) known.old.reports.direct known.old.reports.all grown.now }
     requires known { IsBetween (T.observers table.now) known.old.reports.direct known.old.reports.all }
     ensures direct { OnOk result (known.new.reports.direct ≡ known.old.reports.direct) }
     ensures all { OnOk result (known.new.reports.all ≡ model.reports (T.observers table.now) known.old.reports.direct) }
     ensures before { before known.new ≡ before known.old }
 {
-    for subject in active {
-        add_implied(table, kept, subject, known)?;
+    if may_any_observe(table, grown) {
+        close(table, kept, active, known)
+    } else {
+        close(table, kept, grown, known)
     }
-    Ok(())
 }

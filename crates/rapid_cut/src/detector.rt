@@ -2,18 +2,20 @@
 
 ghost use Rattle.std.specs.Prelude.{◌≡◌, ◌≤◌, ◌||◌, [], map, length, filter, is_some, Some, IfOk, OnOk, OnErr};
 ghost use Rattle.std.specs.List.{list_any};
+ghost use Rattle.std.specs.List.Sorted.{IsStrictlySortedBy};
 ghost use Rattle.rapid_model.specs.Reports as model;
-ghost use Rattle.rapid_model.specs.Process.{Process as Bytes, is_in};
+ghost use Rattle.rapid_model.specs.Process.{Process as Bytes, is_in, process_cmp};
 ghost use Rattle.rapid_model.specs.Ring.{AreObservers};
 ghost use Rattle.rapid_model.specs.Detector as detector;
 ghost use Rattle.rapid_model.specs.Detector.{empty_detector, after_batch, batch_cut};
 ghost use Rattle.rapid_alerts.specs.Alerts.{alert_of};
-ghost use Rattle.rapid_cut.specs.Closing.{IsBetween, active as active_of};
+ghost use Rattle.rapid_cut.specs.Closing.{IsBetween, HaveCome, active as active_of};
 ghost use Rattle.rapid_cut.specs.Growing.{before};
 ghost use Rattle.rapid_cut.specs.Keeping.{AreKept};
 ghost use Rattle.rapid_cut.specs.Limits.{IsDetecting, IsKept, IsWithinLimits};
 
-use crate::closure::{active_with, close, tally};
+use crate::ascending::ascending;
+use crate::closure::{active_with, close_grown, tally};
 use crate::growing::GrowingReports;
 use crate::kept::KeptObservers;
 use crate::reports::KnownReports;
@@ -136,6 +138,9 @@ fn settle<T: ObserverTable>(
     requires known { IsBetween (T.observers table.now) known.old.reports.direct known.old.reports.all }
     requires limits { IsWithinLimits (T.observers table.now) known.old.reports.direct }
     requires low { (q : Bytes) → model.reaches_low (T.observers table.now) known.old.reports.direct (Some q) ≡ (is_in active.old.items q || is_in grown.now q) }
+    requires active { IsStrictlySortedBy process_cmp active.old.items }
+    requires grown { IsStrictlySortedBy process_cmp grown.now }
+    requires come { HaveCome (T.observers table.now) known.old.reports.direct known.old.reports.all grown.now }
     requires closed { grown.now ≡ [] → known.old.reports.all ≡ model.reports (T.observers table.now) known.old.reports.direct }
     requires listed { grown.now ≡ [] → active.old.items ≡ active_of (T.observers table.now) known.old.reports.direct }
     ensures direct { OnOk result (known.new.reports.direct ≡ known.old.reports.direct) }
@@ -149,7 +154,7 @@ fn settle<T: ObserverTable>(
         return cut_of(alloc, table, &known.reports, active);
     }
     let more = active_with(alloc, table, &known.reports, active, grown)?;
-    close(table, kept, &more, known)?;
+    close_grown(table, kept, &more, grown, known)?;
     let cut = cut_of(alloc, table, &known.reports, &more)?;
     *active = more;
     Ok(cut)
@@ -183,6 +188,7 @@ fn take_batch<T: ObserverTable>(
         count,
         grown,
     } = take_all(alloc, table, kept, known, joiners, alerts)?;
+    let grown = ascending(grown);
     let cut = settle(alloc, table, kept, known, active, &grown)?;
     Ok(Advance {
         cut,

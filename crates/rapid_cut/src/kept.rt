@@ -5,7 +5,7 @@ ghost use Rattle.std.specs.Map.{lookup};
 ghost use Rattle.std.specs.BTreeMap.{is_at};
 ghost use Rattle.rapid_model.specs.Process.{process_cmp};
 ghost use Rattle.rapid_model.specs.Ring.{rings};
-ghost use Rattle.rapid_cut.specs.Keeping.{AreKept};
+ghost use Rattle.rapid_cut.specs.Keeping.{AreKept, IsWhere};
 
 use crate::subject_key::SubjectKey;
 use rapid_endpoint::Process;
@@ -23,6 +23,13 @@ pub struct KeptObservers {
     alloc: Global,
 }
 
+/// Where the observers of a process are: among those that are kept, or else in the table.
+#[derive(Clone, Copy, Debug)]
+pub struct Whereabouts {
+    kept: Option<usize>,
+    in_table: Option<usize>,
+}
+
 impl KeptObservers {
     /// None are kept.
     pub fn new(alloc: Global) -> KeptObservers
@@ -36,13 +43,29 @@ impl KeptObservers {
     }
 
     /// Where the observers of the process begin, if they are kept.
-    pub fn place(&self, subject: &Process) -> Option<usize>
+    fn place(&self, subject: &Process) -> Option<usize>
         ensures { result ≡ lookup (is_at (process_cmp subject.now)) self.now.places.entries }
     {
         if self.places.is_empty() {
             return None;
         }
         self.places.get(&SubjectKey::new(*subject)).copied()
+    }
+
+    /// Where the observers of the process are: one search for all rings.
+    pub fn find<T: ObserverTable>(&self, table: &T, subject: &Process) -> Whereabouts
+        ensures { IsWhere (T.places table.now) self.now.places.entries subject.now result }
+    {
+        match self.place(subject) {
+            Some(place) => Whereabouts {
+                kept: Some(place),
+                in_table: None,
+            },
+            None => Whereabouts {
+                kept: None,
+                in_table: table.place(subject),
+            },
+        }
     }
 
     /// The observer on the ring of the process whose observers begin at the place, if they are
@@ -72,16 +95,19 @@ impl KeptObservers {
         &self,
         table: &T,
         subject: &Process,
-        place: Option<usize>,
+        found: Whereabouts,
         ring: u8,
     ) -> Option<Process>
         requires kept { AreKept (T.observers table.now) self.now.places.entries self.now.observers.items }
-        requires place { place ≡ lookup (is_at (process_cmp subject.now)) self.now.places.entries }
+        requires found { IsWhere (T.places table.now) self.now.places.entries subject.now found }
         ensures { result ≡ (T.observers table.now).observer ring subject.now }
     {
-        match self.at(table, subject, place, ring) {
+        match self.at(table, subject, found.kept, ring) {
             Some(observer) => observer,
-            None => table.observer(ring, subject),
+            None => match found.kept {
+                Some(_) => table.observer(ring, subject),
+                None => table.observer_at(ring, found.in_table, subject),
+            },
         }
     }
 
@@ -115,7 +141,7 @@ impl KeptObservers {
             return Ok(());
         }
         let place = self.observers.len();
-        let observers = observers_of(self.alloc, table, joiner)?;
+        let observers = table.observers_of(self.alloc, joiner)?;
         self.observers.extend_from_slice(observers.as_slice())?;
         self.places.insert(SubjectKey::new(*joiner), place)?;
         Ok(())
@@ -145,17 +171,4 @@ fn copied(
         return Ok(HashMap::new(alloc));
     }
     places.clone()
-}
-
-/// The observers of a process, by ring.
-fn observers_of<T: ObserverTable>(
-    alloc: Global,
-    table: &T,
-    subject: &Process,
-) -> Result<Vec<Option<Process>>, AllocError>
-    ensures { IfOk result (λ observers. observers.items ≡ map (λ k. (T.observers table.now).observer k subject.now) (rings (T.observers table.now))) }
-{
-    (0..table.params().k())
-        .map(|ring| table.observer(ring, subject))
-        .collect(alloc)
 }

@@ -10,6 +10,7 @@ mod detector;
 mod growing;
 mod kept;
 mod mask;
+mod mask_map;
 mod reports;
 mod subject_key;
 mod taken;

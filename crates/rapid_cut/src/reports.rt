@@ -6,27 +6,27 @@ ghost use Rattle.rapid_cut.specs.Growing.{PutsMask, TakesOut};
 ghost use Rattle.rapid_cut.specs.Masks.{has_ring};
 
 use crate::mask::Masks;
-use crate::subject_key::SubjectKey;
+use crate::mask_map::MaskMap;
 use rapid_endpoint::Process;
 use std::alloc::{AllocError, Global};
-use std::collections::HashMap;
 use std::marker::Model;
 
 /// The direct reports, and all that are known with those that they imply, for the first sixteen
 /// rings: masks for each process that is reported on.
 #[derive(Debug, Drop)]
 pub struct KnownReports {
-    masks: HashMap<SubjectKey, Masks>,
+    masks: MaskMap,
 }
 
 impl Model for KnownReports {
     ghost use Rattle.rapid_cut.specs.Known.{Known, known_code, known_in};
+    ghost use Rattle.rapid_cut.specs.MaskMaps.{masks_in};
 
     ghost Value = { Known };
 
     ghost coded = { known_code };
 
-    ghost view = { λ r. known_in r.masks.entries };
+    ghost view = { λ r. known_in (masks_in r.masks) };
 }
 
 impl KnownReports {
@@ -36,7 +36,7 @@ impl KnownReports {
         ensures all { result.all ≡ set.empty }
     {
         KnownReports {
-            masks: HashMap::new(alloc),
+            masks: MaskMap::new(alloc),
         }
     }
 
@@ -46,8 +46,7 @@ impl KnownReports {
         ensures all { (k : ℕ) → set.contains self.now.all (subject.now, k) ≡ has_ring result.all k }
     {
         self.masks
-            .get(&SubjectKey::new(*subject))
-            .copied()
+            .get(subject)
             .unwrap_or(Masks { direct: 0, all: 0 })
     }
 
@@ -57,7 +56,7 @@ impl KnownReports {
         ensures all { OnOk result (PutsMask subject.now masks.all self.old.all self.new.all) }
         ensures unchanged { OnErr result (self.new ≡ self.old) }
     {
-        self.masks.insert(SubjectKey::new(*subject), masks)?;
+        self.masks.put(subject, masks)?;
         Ok(())
     }
 
@@ -66,9 +65,8 @@ impl KnownReports {
         ensures direct { TakesOut subject.now rings.direct self.old.direct self.new.direct }
         ensures all { TakesOut subject.now rings.all self.old.all self.new.all }
     {
-        let key = SubjectKey::new(*subject);
-        if let Some(masks) = self.masks.get_mut(&key) {
-            *masks = masks.without(rings);
+        if let Some(masks) = self.masks.get(subject) {
+            self.masks.replace(subject, masks.without(rings));
         }
     }
 
@@ -77,20 +75,7 @@ impl KnownReports {
         ensures { IfOk result (λ copy. copy ≡ self.now) }
     {
         Ok(KnownReports {
-            masks: copied(alloc, &self.masks)?,
+            masks: self.masks.try_copy(alloc)?,
         })
     }
-}
-
-/// The same masks. Where there are none, a new map costs less than a copy of an empty one.
-fn copied(
-    alloc: Global,
-    masks: &HashMap<SubjectKey, Masks>,
-) -> Result<HashMap<SubjectKey, Masks>, AllocError>
-    ensures { IfOk result (λ copy. copy.entries ≡ masks.now.entries) }
-{
-    if masks.is_empty() {
-        return Ok(HashMap::new(alloc));
-    }
-    masks.clone()
 }

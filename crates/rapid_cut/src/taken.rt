@@ -184,7 +184,7 @@ fn take<T: ObserverTable>(
     if !has_room(table, &known.reports, *joiners, alert, counted) {
         return Ok(false);
     }
-    if !member {
+    if !counted {
         kept.keep(table, subject)?;
     }
     *joiners = joiners_with(table, &known.reports, *joiners, subject, counted);

@@ -2,6 +2,7 @@
 
 ghost use Rattle.std.specs.Prelude.{◌≡◌, IfOk};
 ghost use Rattle.std.specs.Arc.{arc_value};
+ghost use Rattle.rapid_model.specs.Configuration.{position_of};
 ghost use Rattle.rapid_model.specs.Ring.{observers_of};
 
 use rapid_config::{ConfigId, Params};
@@ -53,6 +54,8 @@ impl SharedRings {
 impl ObserverTable for SharedRings {
     ghost observers = { observers_of };
 
+    ghost places = { position_of };
+
     fn params(&self) -> Params {
         self.rings.params()
     }
@@ -69,7 +72,27 @@ impl ObserverTable for SharedRings {
         self.rings.observer(ring, subject)
     }
 
+    fn place(&self, subject: &Process) -> Option<usize> {
+        self.rings.place(subject)
+    }
+
+    fn observer_at(&self, ring: u8, place: Option<usize>, subject: &Process) -> Option<Process> {
+        self.rings.observer_at(ring, place, subject)
+    }
+
     fn member_and_observer(&self, ring: u8, subject: &Process) -> (bool, Option<Process>) {
         self.rings.member_and_observer(ring, subject)
+    }
+
+    fn may_observe(&self, process: &Process) -> bool {
+        self.rings.may_observe(process)
+    }
+
+    fn observers_of(
+        &self,
+        alloc: Global,
+        subject: &Process,
+    ) -> Result<Vec<Option<Process>>, AllocError> {
+        self.rings.observers_of(alloc, subject)
     }
 }

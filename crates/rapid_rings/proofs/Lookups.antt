@@ -14,6 +14,7 @@ use Rattle.rapid_model.specs.Configuration.{Configuration, position_of}
 use Rattle.rapid_model.specs.Ring.{is_next_before, ring_observer, observers_of, rings, subject_on, subjects_of}
 use Rattle.rapid_model.proofs.Orders.{same_bytes_decides}
 use Rattle.rapid_config.proofs.Places.{in_by_place}
+use Rattle.rapid_rings.specs.Observing.{ObservesNobody}
 use Rattle.rapid_rings.specs.Seats.{Placed, HasRings}
 use Rattle.rapid_rings.proofs.Rounds.{not_found}
 use Rattle.rapid_rings.proofs.Numbers.{tested, not_tested}
@@ -121,6 +122,17 @@ stranger_observes_nobody c o none =
 
 pub stranger_has_no_subject : (c : Configuration) (o : Process) (k : ℕ) → position_of c o ≡ None → None ≡ subject_on c o k
 stranger_has_no_subject c o k none = sym (observes_nobody c o (no_member c o none) k)
+
+pub stranger_is_no_observer : (c : Configuration) (o : Process) → (observers_of c).is_member o ≡ false → ObservesNobody (observers_of c) o
+unfolding observers_of
+stranger_is_no_observer c o out k s h =
+    elim (nat_lt k c.params.k) as (λ b. cond b (ring_observer c.members k s) None ≡ Some o → ⊥) [
+      | true ↦ λ e. no_both (is_in c.members o) (found_in (is_next_before c.members k s) c.members o e) out
+      | false ↦ λ e. cc
+    ] h
+  where
+    no_both : (b : Bool) → b ≡ true → b ≡ false → ⊥
+    no_both b t f = cc
 
 -- ---- lists
 

@@ -7,6 +7,7 @@
 
 mod edge_key;
 mod edge_map;
+mod known_keys;
 mod observer_table;
 mod places;
 mod process_set;

@@ -1,14 +1,19 @@
 // What is asked of rings and tables alike.
 
-ghost use Rattle.std.specs.Prelude.{◌≡◌};
-ghost use Rattle.rapid_model.specs.Ring.{Observers, AreObservers};
+ghost use Rattle.std.specs.Prelude.{◌≡◌, ℕ, Option, false, map, IfOk};
+ghost use Rattle.rapid_model.specs.Process.{Process as Bytes};
+ghost use Rattle.rapid_model.specs.Ring.{Observers, AreObservers, rings};
+ghost use Rattle.rapid_rings.specs.Observing.{ObservesNobody};
 
 use rapid_config::{ConfigId, Params};
 use rapid_endpoint::Process;
+use std::alloc::{AllocError, Global};
 
 /// Who observes whom in one configuration.
 pub trait ObserverTable {
     ghost observers: { Self → Observers };
+
+    ghost places: { Self → Bytes → Option ℕ };
 
     /// The number of rings and the two marks. A caller learns here that the rules of observers
     /// hold: the parameters are in order, there is no observer beyond the rings, and at most 1,024
@@ -30,6 +35,16 @@ pub trait ObserverTable {
     fn observer(&self, ring: u8, subject: &Process) -> Option<Process>
         ensures { result ≡ (observers self.now).observer ring subject.now };
 
+    /// Where the table has the observers of a subject, to be handed to `observer_at`. None says
+    /// nothing of who observes it.
+    fn place(&self, subject: &Process) -> Option<usize>
+        ensures { result ≡ places self.now subject.now };
+
+    /// What `observer` answers, of a subject with this place: several rings cost one search.
+    fn observer_at(&self, ring: u8, place: Option<usize>, subject: &Process) -> Option<Process>
+        requires { place ≡ places self.now subject.now }
+        ensures { result ≡ (observers self.now).observer ring subject.now };
+
     /// Whether the subject is a member, and who observes it on a ring: what `is_member` and
     /// `observer` answer, for the cost of one search where the table has a cheaper way than both.
     fn member_and_observer(&self, ring: u8, subject: &Process) -> (bool, Option<Process>)
@@ -37,5 +52,28 @@ pub trait ObserverTable {
         ensures observer { result.1 ≡ (observers self.now).observer ring subject.now }
     {
         (self.is_member(subject), self.observer(ring, subject))
+    }
+
+    /// Whether the process may observe someone. False says that nobody has it as an observer, on
+    /// any ring. True says nothing, and is never wrong.
+    fn may_observe(&self, process: &Process) -> bool
+        ensures { result ≡ false → ObservesNobody (observers self.now) process.now }
+    {
+        let _ = process;
+        true
+    }
+
+    /// Who observes the subject, by ring: what `observer` answers at each ring below K. A table may
+    /// keep what makes the next question about the subject cheaper.
+    fn observers_of(
+        &self,
+        alloc: Global,
+        subject: &Process,
+    ) -> Result<Vec<Option<Process>>, AllocError>
+        ensures { IfOk result (λ found. found.items ≡ map (λ k. (observers self.now).observer k subject.now) (rings (observers self.now))) }
+    {
+        (0..self.params().k())
+            .map(|ring| self.observer(ring, subject))
+            .collect(alloc)
     }
 }

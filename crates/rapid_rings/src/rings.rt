@@ -9,6 +9,7 @@ ghost use Rattle.rapid_model.specs.Configuration.{AreMembers, position_of};
 ghost use Rattle.rapid_model.specs.Ring.{observers_of, subject_on, subjects_of};
 
 use crate::ObserverTable;
+use crate::known_keys::KnownKeys;
 use crate::places::{places_below, places_in, places_of_strangers};
 use crate::ring::Ring;
 use rapid_config::{ConfigId, Configuration, Params};
@@ -18,12 +19,14 @@ use std::marker::Model;
 
 /// The rings of a configuration: on each of them the members are ordered by their keys, and each
 /// process is observed by the member next before it, going round. Rings never change: they are
-/// shared by an `Arc`.
+/// shared by an `Arc`. The keys of joiners that were asked for by [`ObserverTable::observers_of`] are
+/// kept for all who share them.
 #[derive(Debug, Drop)]
 pub struct Rings {
     configuration: Configuration,
     // by number
     rings: Vec<Ring>,
+    keys: KnownKeys,
 }
 
 impl Model for Rings {
@@ -51,6 +54,7 @@ impl Rings {
         Ok(Rings {
             configuration: configuration.try_copy(alloc)?,
             rings,
+            keys: KnownKeys::new(alloc, members.len())?,
         })
     }
 
@@ -70,6 +74,7 @@ impl Rings {
         Ok(Rings {
             configuration: configuration.try_copy(alloc)?,
             rings,
+            keys: KnownKeys::new(alloc, members.len())?,
         })
     }
 
@@ -154,7 +159,9 @@ impl Rings {
         ensures { result ≡ (observers_of self.now).observer ring process.now }
     {
         match self.rings.get(usize::from(ring)) {
-            Some(seats) => seats.observer(ring, self.configuration.members(), place, process),
+            Some(seats) => {
+                seats.observer(ring, self.configuration.members(), place, process, &self.keys)
+            }
             None => None,
         }
     }
@@ -178,6 +185,8 @@ fn push_any(
 impl ObserverTable for Rings {
     ghost observers = { observers_of };
 
+    ghost places = { position_of };
+
     fn params(&self) -> Params {
         self.configuration.tell();
         self.configuration.params()
@@ -195,8 +204,36 @@ impl ObserverTable for Rings {
         self.observer_of(ring, self.configuration.position(subject), subject)
     }
 
+    fn place(&self, subject: &Process) -> Option<usize> {
+        self.configuration.position(subject)
+    }
+
+    fn observer_at(&self, ring: u8, place: Option<usize>, subject: &Process) -> Option<Process> {
+        self.observer_of(ring, place, subject)
+    }
+
     fn member_and_observer(&self, ring: u8, subject: &Process) -> (bool, Option<Process>) {
         let place = self.configuration.position(subject);
         (place.is_some(), self.observer_of(ring, place, subject))
+    }
+
+    fn may_observe(&self, process: &Process) -> bool {
+        self.is_member(process)
+    }
+
+    fn observers_of(
+        &self,
+        alloc: Global,
+        subject: &Process,
+    ) -> Result<Vec<Option<Process>>, AllocError> {
+        let place = self.configuration.position(subject);
+        if place.is_none() {
+            self.keys.keep(alloc, self.params().k(), subject)?;
+        }
+        let mut observers = Vec::with_capacity(alloc, usize::from(self.params().k()))?;
+        for ring in 0..self.params().k() {
+            observers.push(self.observer_of(ring, place, subject))?;
+        }
+        Ok(observers)
     }
 }

@@ -142,6 +142,8 @@ fn take_back(observed: &mut ProcessSet, added: bool, subject: &Process)
 impl ObserverTable for Table {
     ghost observers = { table_observers };
 
+    ghost places = { λ _ _. None };
+
     fn params(&self) -> Params {
         self.params
     }
@@ -160,5 +162,15 @@ impl ObserverTable for Table {
         } else {
             None
         }
+    }
+
+    fn place(&self, subject: &Process) -> Option<usize> {
+        let _ = subject;
+        None
+    }
+
+    fn observer_at(&self, ring: u8, place: Option<usize>, subject: &Process) -> Option<Process> {
+        let _ = place;
+        self.observer(ring, subject)
     }
 }

@@ -1,9 +1,9 @@
-use Rattle.std.proofs.Common.{◌∙◌, ap, ◌++◌}
+use Rattle.std.proofs.Common.{◌≡◌, refl, subst, ◌++◌, IfOk}
 use Rattle.rapid_cut.proofs.Active.{active_among}
 use Rattle.rapid_cut.proofs.closure.active_with.Goals as goal
 
 pub returns : goal.returns
 returns g c =
-    c.ascending.ensures
-    ∙ active_among (g.T.ObserverTable.observers c.args.table.now) c.args.reports.now.direct c.args.before.now c.args.grown.now c.extend_from_slice.new.self.items c.requires.rules c.requires.low
-    (c.in_ok-extend_from_slice.ensures.items ∙ ap (λ l. l ++ c.args.grown.now) c.in_ok-found.ensures.items)
+    subst (λ l. IfOk c.merged.result (λ found. found.items ≡ l))
+    (active_among (g.T.ObserverTable.observers c.args.table.now) c.args.reports.now.direct c.args.before.now c.args.grown.now (c.args.before.now ++ c.args.grown.now) c.requires.rules c.requires.low refl)
+    c.merged.ensures

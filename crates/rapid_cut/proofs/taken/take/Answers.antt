@@ -1,4 +1,4 @@
-use Rattle.std.proofs.Common.{◌∙◌, sym}
+use Rattle.std.proofs.Common.{◌≡◌, ◌∙◌, ◌||◌, Bool, true, false, refl, sym}
 use Rattle.rapid_model.specs.Reports.{report_of}
 use Rattle.rapid_alerts.specs.Alerts.{alert_of}
 use Rattle.rapid_cut.proofs.Taking.{insert_known, known_taken}
@@ -17,3 +17,10 @@ pub returns-then-has_bit-clause-all : goal.returns-then-has_bit-clause-all
 returns-then-has_bit-clause-all g c =
     let x = report_of (alert_of c.args.alert.now) in
     sym (insert_known c.args.known.now.reports.all x (c.requires.known x (c.on-so_far.ensures.direct c.args.alert.now.ring ∙ sym c.has_bit.ensures ∙ c.if-has_bit.true)))
+
+neither : (a b : Bool) → (a || b) ≡ false → a ≡ false
+neither true b h = h
+neither false b h = refl
+
+pub keep-requires-clause-joiner : goal.keep-requires-clause-joiner
+keep-requires-clause-joiner g c = neither _ _ (sym c.is_counted-counted.ensures ∙ c.if-not-counted.true)

@@ -1,0 +1,23 @@
+use Rattle.std.proofs.Common.{◌∙◌, ap, take, [], ◌∷◌, ◌++◌}
+use Rattle.std.proofs.lemmas.List.{append_assoc}
+use Rattle.rapid_cut.proofs.Merging.{rising, put_at_found, put_at_gap}
+use Rattle.rapid_cut.proofs.ascending.push_below.Goals as goal
+
+pub returns-in_ok-extend_from_slice-in-Ok : goal.returns-in_ok-extend_from_slice-in-Ok
+returns-in_ok-extend_from_slice-in-Ok c =
+    let xs = c.args.rest.now in
+    let p = c.args.process.now in
+    let put = put_at_found xs p c.in-Ok.place c.requires c.in-Ok.ensures.bound c.in-Ok.ensures.position in (
+      take c.in-Ok.place xs,
+      c.in_ok-extend_from_slice-in-Ok.ensures.items ∙ ap (λ ys. c.args.found.now.items ++ ys) (c.split_at.ensures.front ∙ put.0),
+      ap (λ ys. take c.in-Ok.place xs ++ p ∷ ys) c.split_at.ensures.back ∙ put.1,
+    )
+
+pub returns-in_ok-push-in-Err : goal.returns-in_ok-push-in-Err
+returns-in_ok-push-in-Err c =
+    let xs = c.args.rest.now in
+    let p = c.args.process.now in (
+      take c.in-Err.place xs,
+      c.in_ok-push-in-Err.ensures.items ∙ ap (λ ys. ys ++ p ∷ []) (c.in_ok-extend_from_slice-in-Err.ensures.items ∙ ap (λ ys. c.args.found.now.items ++ ys) c.split_at-in-Err.ensures.front) ∙ append_assoc c.args.found.now.items (take c.in-Err.place xs) (p ∷ []),
+      ap (λ ys. take c.in-Err.place xs ++ p ∷ ys) c.split_at-in-Err.ensures.back ∙ put_at_gap xs p c.in-Err.place c.in-Err.ensures.bound (c.in-Err.ensures.position (rising xs p c.requires)),
+    )
