@@ -1,7 +1,7 @@
 //! Configurations, and who observes whom in them.
 use crate::{key, sha256, Process, Ring};
 use std::collections::HashMap;
-use std::sync::Arc;
+use std::sync::{Arc, Mutex};
 
 /// The identifier of a configuration.
 pub type ConfigId = [u8; 32];
@@ -103,6 +103,8 @@ pub struct View {
     // of each member, by ring: the place of its observer, and of whom it observes
     observers: Vec<Places>,
     subjects: Vec<Places>,
+    // of others, once they were asked for: their keys are hashed once for all nodes of a view
+    strangers: Mutex<HashMap<Process, Places>>,
 }
 
 impl View {
@@ -124,7 +126,7 @@ impl View {
                 subjects[observer][number] = *subject as u16;
             }
         }
-        View { config, rings, observers, subjects }
+        View { config, rings, observers, subjects, strangers: Mutex::default() }
     }
 
     /// The view of the configuration after this one: only newcomers are hashed.
@@ -157,13 +159,7 @@ impl View {
 
     /// Who observes a process, a member or not, on a ring that there is.
     pub fn observer(&self, number: u8, subject: &Process) -> Option<Process> {
-        if let Some(place) = self.config.position(subject) {
-            return self.member(self.observers[place][number as usize]);
-        }
-        let ring = &self.rings[number as usize];
-        let seat = (key(number, subject), *subject);
-        let place = ring.partition_point(|x| *x < seat);
-        (!ring.is_empty()).then(|| ring[(place + ring.len() - 1) % ring.len()].1)
+        self.member(self.observers_of(subject)[number as usize])
     }
 
     /// The places of the observers of a process, by ring.
@@ -171,11 +167,18 @@ impl View {
         if let Some(place) = self.config.position(subject) {
             return self.observers[place];
         }
+        let mut strangers = self.strangers.lock().unwrap();
+        *strangers.entry(*subject).or_insert_with(|| self.places_of_observers(subject))
+    }
+
+    /// The places of the observers of a process that is no member.
+    fn places_of_observers(&self, subject: &Process) -> Places {
         let mut places = [NOBODY; 16];
-        for ring in 0..self.k() {
-            let observer = self.observer(ring, subject);
-            let place = observer.and_then(|observer| self.config.position(&observer));
-            places[ring as usize] = place.map_or(NOBODY, |place| place as u16);
+        for (number, ring) in self.rings.iter().enumerate().filter(|(_, ring)| !ring.is_empty()) {
+            let seat = (key(number as u8, subject), *subject);
+            let below = ring.partition_point(|x| *x < seat);
+            let observer = ring[(below + ring.len() - 1) % ring.len()].1;
+            places[number] = self.config.position(&observer).map_or(NOBODY, |place| place as u16);
         }
         places
     }
