@@ -42,7 +42,7 @@ fn push_probes(
     crashed: &[ProcessId],
     events: &mut Vec<WorldEvent>,
 ) -> Result<()> {
-    let Some(subject) = world.observed(observer, ring)? else {
+    let Some(subject) = world.observed(observer, ring) else {
         return Ok(());
     };
     if !crashed.contains(&subject.id()) {

@@ -1,6 +1,6 @@
 -- Clauses of public calls cite this file.
 -- A cluster that clerks drive: what it keeps, and what a job does to it.
-use Rattle.std.specs.Prelude.{◌≡◌, ◌≢◌, ℕ, List, nat_lt, if◌then◌else◌, Option, Some, None, refl}
+use Rattle.std.specs.Prelude.{◌≡◌, ℕ, List, nat_lt, if◌then◌else◌, Option, Some, None, refl}
 use Rattle.std.specs.Coded.{Coded, code_by, coded×, coded_ℕ, coded_option}
 use Rattle.rapid_model.specs.Codes.{bytes_code}
 use Rattle.rapid_model.specs.Configuration.{Params, founding}
@@ -13,7 +13,6 @@ use Rattle.rapid_model.specs.Turn.{TurnPointer, Turn, first_turn, next_turn}
 use Rattle.rapid_world.specs.Codes.{stored_code}
 use Rattle.rapid_world.specs.Events.{event_of, Refuses}
 use Rattle.rapid_world.specs.declared.error.WorldError.{WorldError}
-use Rattle.rapid_world.specs.declared.error.WorldError.TheVariants.{IdentifierUsed, EndpointBusy, NoSuchNode, NoSuchPacket, NotObserved, EventsFull, OutOfMemory}
 use Rattle.rapid_clerks.specs.declared.job.Job.{Job}
 use Rattle.rapid_clerks.specs.declared.job.Job.TheVariants as job
 
@@ -48,21 +47,10 @@ abbrev pub turn_refusal : ClusterState → Option WorldRefusal
 turn_refusal c =
     if nat_lt (accepted c.world) 1000000 then refusal_of_turn c.world (next_turn (world_of c.world) c.pointer) else Some refusal.EventsFull
 
--- The error says exactly why a turn is refused. To see who runs takes memory, so want of it may be answered in place of all but a
--- world that is full.
-abbrev pub RefusesTurn : Option WorldRefusal → WorldError → Type 0
-RefusesTurn r OutOfMemory = r ≢ Some refusal.EventsFull
-RefusesTurn r IdentifierUsed = Refuses r IdentifierUsed
-RefusesTurn r EndpointBusy = Refuses r EndpointBusy
-RefusesTurn r NoSuchNode = Refuses r NoSuchNode
-RefusesTurn r NoSuchPacket = Refuses r NoSuchPacket
-RefusesTurn r NotObserved = Refuses r NotObserved
-RefusesTurn r EventsFull = Refuses r EventsFull
-
 -- The error says exactly why a job is refused.
 abbrev pub RefusesJob : Job → ClusterState → WorldError → Type 0
 RefusesJob (job.Event e) c error = Refuses (event_refusal c.world (event_of e)) error
-RefusesJob job.Turn c error = RefusesTurn (turn_refusal c) error
+RefusesJob job.Turn c error = Refuses (turn_refusal c) error
 
 -- Clusters, as a proof tells them apart.
 abbrev pub cluster_code : Coded ClusterState

@@ -5,15 +5,14 @@ ghost use Rattle.std.specs.Option.{option_map};
 ghost use Rattle.rapid_model.specs.StoredWorld.{world_of};
 ghost use Rattle.rapid_model.specs.Turn as model;
 ghost use Rattle.rapid_world.specs.Events.{event_of, report_of, Refuses};
-ghost use Rattle.rapid_clerks.specs.Clusters.{DoesJob, RefusesTurn, RefusesJob, turn_refusal};
+ghost use Rattle.rapid_clerks.specs.Clusters.{DoesJob, RefusesJob, turn_refusal};
 ghost use Rattle.rapid_clerks.specs.Turns.{turn_of};
 ghost use Rattle.rapid_clerks.specs.declared.job.Job.TheVariants as job;
 
 use crate::Job;
-use crate::turn::{Turn, next_node, next_packet};
+use crate::turn::Turn;
 use rapid_endpoint::ProcessId;
 use rapid_world::{Report, World, WorldError, WorldEvent};
-use std::alloc::AllocError;
 use std::marker::Model;
 
 /// How many events a world accepts at most.
@@ -60,41 +59,38 @@ impl Cluster {
 
     /// The next turn; none where no node runs.
     #[tactic(auto, unfolding(rapid_model::specs::Turn::next_turn))]
-    fn next_turn(&self) -> Result<Option<Turn>, AllocError>
-        ensures { IfOk result (λ turn. option_map turn_of turn ≡ model.next_turn (world_of self.now.world) self.now.pointer) }
+    fn next_turn(&self) -> Option<Turn>
+        ensures { option_map turn_of result ≡ model.next_turn (world_of self.now.world) self.now.pointer }
     {
-        if let Some(packet) = next_packet(&self.world, self.passed) {
-            return Ok(Some(Turn {
+        if let Some(packet) = self.world.next_deliverable(self.passed) {
+            return Some(Turn {
                 event: WorldEvent::Deliver(packet),
                 passed: packet,
                 ticked: self.ticked,
-            }));
+            });
         }
-        let running = self.world.running()?;
-        match next_node(running.as_slice(), self.ticked) {
-            Some(id) => Ok(Some(Turn {
+        match self.world.next_running(self.ticked) {
+            Some(id) => Some(Turn {
                 event: WorldEvent::Tick(id),
                 passed: self.world.packets(),
                 ticked: Some(id),
-            })),
-            None => Ok(None),
+            }),
+            None => None,
         }
     }
 
     /// Takes a turn: its event is stored.
-    #[tactic(auto, using(crate::proofs::Jobs::turn_not_full))]
+    #[tactic(auto, using(crate::proofs::Jobs::turn_refused, crate::proofs::Jobs::no_turn, crate::proofs::Jobs::turn_full, crate::proofs::Jobs::turn_done))]
     fn take_turn(&mut self) -> Result<Vec<Report>, WorldError>
         ensures done { IfOk result (λ reports. DoesJob job.Turn self.old self.new (map report_of reports.items)) }
-        ensures refused { IfErr result (RefusesTurn (turn_refusal self.old)) }
+        ensures refused { IfErr result (Refuses (turn_refusal self.old)) }
         ensures unchanged { OnErr result (self.new ≡ self.old) }
     {
         if self.world.accepted() >= MOST_EVENTS {
             return Err(WorldError::EventsFull);
         }
-        let turn = match self.next_turn() {
-            Ok(Some(turn)) => turn,
-            Ok(None) => return Err(WorldError::NoSuchNode),
-            Err(AllocError) => return Err(WorldError::OutOfMemory),
+        let Some(turn) = self.next_turn() else {
+            return Err(WorldError::NoSuchNode);
         };
         let reports = self.world.step(&turn.event)?;
         self.passed = turn.passed;

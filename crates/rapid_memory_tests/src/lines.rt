@@ -64,13 +64,9 @@ fn refused(world: &mut World, events: &[WorldEvent]) -> usize {
 fn lose(world: &mut World, number: u16) -> usize {
     let mut count: usize = 0;
     for ring in 0..3u8 {
-        match world.observed(&id(number), ring) {
-            Ok(Some(subject)) if subject == process(3) => {
-                let probes = [Probe(id(number), ring, false); 4];
-                count = count.saturating_add(refused(world, &probes));
-            }
-            Ok(_) => {}
-            Err(_) => count = count.saturating_add(1),
+        if world.observed(&id(number), ring) == Some(process(3)) {
+            let probes = [Probe(id(number), ring, false); 4];
+            count = count.saturating_add(refused(world, &probes));
         }
     }
     count

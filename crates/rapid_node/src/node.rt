@@ -1,8 +1,7 @@
 // One node.
 
-ghost use Rattle.std.specs.Prelude.{◌≡◌, ◌<◌, ◌-◌, ◌^◌, ◌==◌, ◌++◌, ◌∷◌, [], false, true, length, map, flat_map, IfOk, OnOk, IfErr, OnErr, IfSome, IsTrue, Some, None, Err};
+ghost use Rattle.std.specs.Prelude.{◌≡◌, ◌<◌, ◌-◌, ◌^◌, ◌++◌, ◌∷◌, [], false, true, length, map, flat_map, IfOk, OnOk, IfErr, OnErr, IfSome, IsTrue, Some, None, Err};
 ghost use Rattle.std.specs.Arc.{arc_value};
-ghost use Rattle.std.specs.List.{find};
 ghost use Rattle.std.specs.Option.{option_map};
 ghost use Rattle.rapid_model.specs.Apply.{apply};
 ghost use Rattle.rapid_model.specs.Configuration.{configuration_id, is_member, stamp};
@@ -71,25 +70,10 @@ impl Model for Node {
 }
 
 /// The member that a member observes on a ring.
-#[tactic(auto, using(crate::proofs::Observed::observed_is))]
-fn subject_on(
-    alloc: Global,
-    rings: &Rings,
-    me: &Process,
-    ring: u8,
-) -> Result<Option<Process>, AllocError>
-    ensures { IfOk result (λ subject. subject ≡ option_map (λ x. x.1) (observed_in (Some rings.now) me.now ring)) }
+fn subject_on(rings: &Rings, me: &Process, ring: u8) -> Option<Process>
+    ensures { result ≡ option_map (λ x. x.1) (observed_in (Some rings.now) me.now ring) }
 {
-    let subjects = rings.subjects_of(alloc, me)?;
-    Ok(named(subjects.as_slice(), ring))
-}
-
-/// The process of the first of these pairs that has this ring.
-fn named(subjects: &[(u8, Process)], ring: u8) -> Option<Process>
-    ensures { result ≡ option_map (λ x. x.1) (find (λ x. x.0 == ring) subjects.now) }
-{
-    let found = subjects.iter().find(|subject| subject.0 == ring)?;
-    Some(found.1)
+    rings.subject_on(ring, me)
 }
 
 impl Node {
@@ -199,14 +183,15 @@ impl Node {
         }
     }
 
-    /// The member that it observes on a ring, from 0; none where there is no such ring, where it
-    /// observes nobody and where it is no member. It costs a search on each ring.
-    pub fn observed(&self, ring: u8) -> Result<Option<Process>, AllocError>
-        ensures { IfOk result (λ subject. subject ≡ option_map (λ x. x.1) (observed_in (model.member_in self.now) self.now.me ring)) }
+    /// The member that it observes on a ring, from 0; none if there is no such ring, if it
+    /// observes nobody, and if it is no member. It takes no memory, and costs one search for its
+    /// own process.
+    pub fn observed(&self, ring: u8) -> Option<Process>
+        ensures { result ≡ option_map (λ x. x.1) (observed_in (model.member_in self.now) self.now.me ring) }
     {
         match self.rings() {
-            Some(rings) => subject_on(self.alloc, rings, &self.me, ring),
-            None => Ok(None),
+            Some(rings) => subject_on(rings, &self.me, ring),
+            None => None,
         }
     }
 

@@ -5,7 +5,6 @@
 use Rattle.std.specs.Prelude.{◌≡◌, ℕ, zero, suc, ◌+◌, Bool, true, false, ◌⊎◌, List, [], ◌∷◌, ◌++◌, codes, replicate, Option, Some, None}
 use Rattle.rapid_model.specs.World as world
 use Rattle.rapid_model.specs.World.{WorldEvent}
-use Rattle.rapid_model.specs.Refusal as faults
 use Rattle.rapid_model.specs.Refusal.{WorldRefusal}
 use Rattle.rapid_model.specs.Run.{WorldReport}
 use Rattle.rapid_model.specs.StoredWorld.{StoredWorld, StoresEvent, wants_of}
@@ -33,9 +32,9 @@ pub record IsRefused (s : Simulation) (e : WorldEvent) (text : List ℕ) (t : Si
 abbrev pub no_memory_line : List ℕ
 no_memory_line = codes "refused OutOfMemory" ++ line_feed ∷ []
 
--- The world has no memory for the event, which it would not refuse, or to look up whom a node observes.
+-- The world has no memory for the event, which it would not refuse.
 pub record LacksMemory (s : Simulation) (e : WorldEvent) (text : List ℕ) (t : Simulation) (wants : ℕ) : Type 0 where
-  pub allowed : (refused s e ≡ None) ⊎ (refused s e ≡ Some faults.NotObserved)
+  pub allowed : refused s e ≡ None
   pub says : text ≡ no_memory_line
   pub stays : t ≡ s
   pub once : wants ≡ 1

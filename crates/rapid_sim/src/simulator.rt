@@ -189,17 +189,12 @@ impl Simulator {
 
 /// Whether the running node of the first identifier observes the member of the second on a ring.
 #[tactic(auto, using(crate::proofs::Losing::observes))]
-fn observes(
-    world: &World,
-    observer: &ProcessId,
-    ring: u8,
-    id: &ProcessId,
-) -> Result<bool, AllocError>
-    ensures { IfOk result (λ b. b ≡ observes_on id.now (peer_at (world_of world.now) (running_under (world_of world.now) observer.now)) ring) }
+fn observes(world: &World, observer: &ProcessId, ring: u8, id: &ProcessId) -> bool
+    ensures { result ≡ observes_on id.now (peer_at (world_of world.now) (running_under (world_of world.now) observer.now)) ring }
 {
-    match world.observed(observer, ring)? {
-        Some(subject) => Ok(*id == subject.id()),
-        None => Ok(false),
+    match world.observed(observer, ring) {
+        Some(subject) => *id == subject.id(),
+        None => false,
     }
 }
 
@@ -241,7 +236,7 @@ fn push_where_observed(
     ensures { OnOk result (map event_of events.new.items ≡ map event_of events.old.items
         ++ failing_where (observes_on id.now (peer_at (world_of world.now) (running_under (world_of world.now) observer.now)) ring) observer.now ring) }
 {
-    if observes(world, observer, ring, id)? {
+    if observes(world, observer, ring, id) {
         push_failing(observer, ring, events)
     } else {
         Ok(())

@@ -1,5 +1,5 @@
 -- What each event does.
-use Rattle.std.proofs.Common.{◌≡◌, ◌⊎◌, inl, inr, ℕ, zero, suc, ◌-◌, ◌<◌, Bool, true, false, cond, not, ◌&&◌, ◌==◌, drop, List, [], ◌∷◌, ◌++◌, length, slice_get, get_or, refl, sym, ap, subst, ◌∙◌, Option, Some, None, arith}
+use Rattle.std.proofs.Common.{◌≡◌, ℕ, zero, suc, ◌-◌, ◌<◌, Bool, true, false, cond, not, ◌&&◌, ◌==◌, drop, List, [], ◌∷◌, ◌++◌, length, slice_get, get_or, refl, sym, ap, subst, ◌∙◌, Option, Some, None, arith}
 use Rattle.std.specs.Prelude.{Contains, position, is_some, nat_lt, map, All}
 use Rattle.std.specs.List.{list_any, position_or_len}
 use Rattle.std.proofs.lemmas.Bool.{and_parts}
@@ -104,17 +104,6 @@ probe_refusal s id k ok i p isopen e at = refused_as s (Probe id k ok) isopen �
 pub not_observed : (s : StoredWorld) (id : List ℕ) (k : ℕ) (ok : Bool) (i : ℕ) (p : Peer) → Open s → running_under (world_of s) id ≡ Some i → slice_get (world_of s).peers i ≡ Some p → observed p k ≡ None →
     event_refusal s (Probe id k ok) ≡ Some NotObserved
 not_observed s id k ok i p isopen e at none = probe_refusal s id k ok i p isopen e at ∙ ap (λ o. cond (is_some o) None (Some NotObserved)) none
-
--- where memory is wanting to see whom a node observes
-pub probe_unseen : (s : StoredWorld) (id : List ℕ) (k : ℕ) (ok : Bool) (i : ℕ) → Open s → running_under (world_of s) id ≡ Some i →
-    (event_refusal s (Probe id k ok) ≡ None) ⊎ (event_refusal s (Probe id k ok) ≡ Some NotObserved)
-probe_unseen s id k ok i isopen e =
-    let t = stands (world_of s).peers i (place_within _ (world_of s).peers i e) in
-    by (is_some (observed t.0 k)) (probe_refusal s id k ok i t.0 isopen e t.1)
-  where
-    by : (b : Bool) → event_refusal s (Probe id k ok) ≡ cond b None (Some NotObserved) → (event_refusal s (Probe id k ok) ≡ None) ⊎ (event_refusal s (Probe id k ok) ≡ Some NotObserved)
-    by true h = inl h
-    by false h = inr h
 
 pub start_used : (s : StoredWorld) (p : Process) (seed : List ℕ) → Open s → list_any (has_identifier (identifier p)) (world_of s).peers ≡ true → event_refusal s (Start p seed) ≡ Some IdentifierUsed
 start_used s p seed isopen used = refused_as s (Start p seed) isopen ∙ ap (λ b. cond b (Some IdentifierUsed) (cond (is_some (running_at (world_of s) (endpoint p))) (Some EndpointBusy) None)) used

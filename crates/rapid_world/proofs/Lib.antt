@@ -1,3 +1,4 @@
+pub mod Next
 pub mod Others
 pub mod Packets
 pub mod Framing

@@ -1,11 +1,11 @@
 -- Packets by number.
-use Rattle.std.proofs.Common.{◌≡◌, ℕ, zero, suc, ◌+◌, ◌-◌, ◌<◌, ◌≤◌, Bool, true, false, cond, ◌==◌, List, [], ◌∷◌, ◌++◌, length, get_or, slice_get, refl, sym, ap, subst, ◌∙◌, Option, None, arith, append_assoc}
+use Rattle.std.proofs.Common.{◌≡◌, ℕ, zero, suc, ◌+◌, ◌-◌, ◌<◌, ◌≤◌, Bool, true, false, cond, ◌==◌, List, [], ◌∷◌, ◌++◌, length, get_or, slice_get, refl, sym, ap, subst, ◌∙◌, Option, Some, None, arith, append_assoc}
 use Rattle.std.specs.Prelude.{nat_lt}
 use Rattle.std.specs.List.Sorted.{IsPartitionPoint, IsPartitionedBy}
 use Rattle.std.proofs.lemmas.List.{length-append}
-use Rattle.std.proofs.lemmas.Option.{slice_get_past}
+use Rattle.std.proofs.lemmas.Option.{slice_get_past, slice_get_within, get_or_from_slice_get}
 use Rattle.rapid_world.specs.Framed.{FramedPacket}
-use Rattle.rapid_world.specs.Sent.{Sent, all_packets, AreNumbered, numbered_packet}
+use Rattle.rapid_world.specs.Sent.{Sent, all_packets, AreNumbered, HasSent, Tells, numbered_packet}
 use Rattle.rapid_world.proofs.Packets.{get_left, get_right}
 
 -- as many as are counted
@@ -148,3 +148,69 @@ last_has ss total k i j s h p e l at =
         by : (b : Bool) → (k == 0) ≡ b → cond b None (slice_get (all_packets ss) (k - 1)) ≡ slice_get (all_packets ss) ((k - 1) - 0)
         by true e = absurd (Prim.grind (arith, e, l))
         by false e = ap (slice_get (all_packets ss)) same
+
+-- ---- the step that sent a packet
+
+numbered_at : (ps : List FramedPacket) (k : ℕ) → 0 < k → numbered_packet ps k ≡ slice_get ps ((k - 1) - 0)
+numbered_at ps k l = by (k == 0) refl
+  where
+    same : k - 1 ≡ (k - 1) - 0
+    same = omega arith
+
+    by : (b : Bool) → (k == 0) ≡ b → cond b None (slice_get ps (k - 1)) ≡ slice_get ps ((k - 1) - 0)
+    by true e = absurd (Prim.grind (arith, e, l))
+    by false e = ap (slice_get ps) same
+
+inside : {x y : Sent} → ◌≡◌ {A = Option Sent} (Some x) (Some y) → x ≡ y
+inside e = cc
+
+begins_there : (n : ℕ) (ss : List Sent) (total i : ℕ) (s : Sent) → AreNumbered n ss total → slice_get ss i ≡ Some s → n ≤ s.first
+begins_there n ss total i s h at = let l = begins n ss total h i s (slice_get_within ss i s at) in subst (λ (x : Sent). n ≤ x.first) (get_or_from_slice_get ss i s s at) l
+
+sent_there : (n k : ℕ) (ss : List Sent) (total i : ℕ) (s : Sent) → AreNumbered n ss total → slice_get ss i ≡ Some s → s.first < k → k ≤ s.first + length s.packets →
+    slice_get s.packets ((k - 1) - s.first) ≡ slice_get (all_packets ss) ((k - 1) - n)
+sent_there n k [] total i s h at b e = absurd cc
+sent_there n k (t ∷ ss) total zero s h at b e =
+    let same : t ≡ s = inside at in
+    let first : s.first ≡ n = sym (ap (λ (x : Sent). x.first) same) ∙ h.0 in
+    let len : length t.packets ≡ length s.packets = ap (λ (x : Sent). length x.packets) same in
+    let l : (k - 1) - n < length t.packets = omega (arith, first, len, b, e) in
+    ap (λ m. slice_get s.packets ((k - 1) - m)) first ∙ ap (λ (x : Sent). slice_get x.packets ((k - 1) - n)) (sym same) ∙ sym (get_left t.packets (all_packets ss) ((k - 1) - n) l)
+sent_there n k (t ∷ ss) total (suc i) s h at b e =
+    let next : n + length t.packets ≤ s.first = begins_there (n + length t.packets) ss total i s h.1 at in
+    let past : length t.packets ≤ (k - 1) - n = omega (arith, next, b) in
+    let same : ((k - 1) - n) - length t.packets ≡ (k - 1) - (n + length t.packets) = omega arith in
+    sent_there (n + length t.packets) k ss total i s h.1 at b e
+    ∙ sym (get_right t.packets (all_packets ss) ((k - 1) - n) past ∙ ap (slice_get (all_packets ss)) same)
+
+-- it has the packet
+pub tells_it : (ss : List Sent) (total k i : ℕ) → AreNumbered 0 ss total → HasSent ss k i → Tells ss k i
+tells_it ss total k i h has =
+    let b = has.begins in
+    record {
+      sent = has.sent;
+      at = has.at;
+      begins = has.begins;
+      has = sent_there 0 k ss total i has.sent h has.at has.begins has.ends ∙ sym (numbered_at (all_packets ss) k (omega (arith, b)));
+    }
+
+there : (ss : List Sent) (i : ℕ) → i < length ss → (s : Sent) × (slice_get ss i ≡ Some s)
+there [] i h = absurd (omega arith)
+there (s ∷ ss) zero h = (s, refl)
+there (s ∷ ss) (suc i) h = there ss i (omega arith)
+
+-- so has the last one that begins before it, if any does
+pub last_tells : (ss : List Sent) (total k i j : ℕ) → AreNumbered 0 ss total → Points k ss i → j + 1 ≡ i → i ≤ length ss → Tells ss k j
+last_tells ss total k i j h p e l =
+    let t = there ss j (omega (arith, e, l)) in
+    let is : t.0 ≡ get_or ss j t.0 = sym (get_or_from_slice_get ss j t.0 t.0 t.1) in
+    record {
+      sent = t.0;
+      at = t.1;
+      begins = last_begins ss k i j t.0 p e l is;
+      has = last_has ss total k i j t.0 h p e l is;
+    }
+
+-- what is read at the place
+pub read_there : (ss : List Sent) (i : ℕ) (s x : Sent) → slice_get ss i ≡ Some s → x ≡ get_or ss i x → x ≡ s
+read_there ss i s x at is = is ∙ get_or_from_slice_get ss i s x at

@@ -1,6 +1,6 @@
 -- Clauses of public calls cite this file.
 -- The events, reports and refusals of a world, as the definitions see them.
-use Rattle.std.specs.Prelude.{◌≡◌, ◌⊎◌, ℕ, Bool, Option, Some, None}
+use Rattle.std.specs.Prelude.{◌≡◌, ℕ, Bool, Option, Some, None}
 use Rattle.rapid_model.specs.World as model
 use Rattle.rapid_model.specs.Refusal as refusal
 use Rattle.rapid_model.specs.Run.{WorldReport, ReportInstalled, ReportHalted}
@@ -38,8 +38,8 @@ code_of NotObserved = 5
 code_of EventsFull = 6
 code_of OutOfMemory = 7
 
--- The error says exactly why the event is refused. Want of memory of the world itself is answered only where the event is not
--- refused, or where nobody is observed, which takes memory to see.
+-- The error says exactly why the event is refused. That the world itself is out of memory is answered only if the event is not
+-- refused.
 abbrev pub Refuses : Option refusal.WorldRefusal → WorldError → Type 0
 Refuses r IdentifierUsed = r ≡ Some refusal.IdentifierUsed
 Refuses r EndpointBusy = r ≡ Some refusal.EndpointBusy
@@ -47,7 +47,7 @@ Refuses r NoSuchNode = r ≡ Some refusal.NoSuchNode
 Refuses r NoSuchPacket = r ≡ Some refusal.NoSuchPacket
 Refuses r NotObserved = r ≡ Some refusal.NotObserved
 Refuses r EventsFull = r ≡ Some refusal.EventsFull
-Refuses r OutOfMemory = (r ≡ None) ⊎ (r ≡ Some refusal.NotObserved)
+Refuses r OutOfMemory = r ≡ None
 
 -- How often a refused event met a refused allocation.
 abbrev pub error_wants : WorldError → ℕ

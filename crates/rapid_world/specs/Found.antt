@@ -1,12 +1,15 @@
 -- By what the peers of a world are found.
 use Rattle.std.proofs.Common.{ap}
-use Rattle.std.specs.Prelude.{◌≡◌, ℕ, Bool, true, List, [], ◌∷◌, IsTrue, slice_get, Option, Some}
+use Rattle.std.specs.Prelude.{◌≡◌, ℕ, Bool, true, ◌&&◌, List, [], ◌∷◌, map, filter, position, is_some, IsTrue, slice_get, Option, Some}
+use Rattle.std.specs.List.{list_any}
 use Rattle.std.specs.Coded.{Coded, coded_ℕ}
 use Rattle.std.specs.FinMap as finmap
 use Rattle.rapid_model.proofs.Orders.{same_bytes_decides}
+use Rattle.rapid_model.specs.Bytes.{Identifier}
 use Rattle.rapid_model.specs.Codes.{bytes_code}
+use Rattle.rapid_model.specs.InOrder.{in_order}
 use Rattle.rapid_model.specs.Process.{bytes_cmp, same_bytes, identifier, endpoint}
-use Rattle.rapid_model.specs.World.{Peer, is_running}
+use Rattle.rapid_model.specs.World.{Peer, is_running, has_identifier}
 
 -- Equal keys are hashed alike.
 pub same_input : (x y : List ℕ) → IsTrue (same_bytes x y) → ◌≡◌ {A = List (List ℕ)} (x ∷ []) (y ∷ [])
@@ -19,6 +22,10 @@ Places = finmap.FinMap bytes_cmp ℕ
 -- The code of places, by which a proof tells them apart.
 abbrev pub places_code : Coded Places
 places_code = finmap.code bytes_code coded_ℕ
+
+-- All that are found by these places are among these identifiers.
+abbrev pub HasAll : List Identifier → Places → Type 0
+HasAll ids places = (q : Identifier) → is_some (finmap.get places q) ≡ true → list_any (same_bytes q) ids ≡ true
 
 -- Each peer is found by its identifier, and by its endpoint if it runs.
 pub record AreFound (by_id by_endpoint : Places) (ps : List Peer) : Type 0 where
@@ -33,3 +40,11 @@ IsOnlyAt {A} f xs place = (i : ℕ) (x : A) → slice_get xs i ≡ Some x → f 
 pub record IsNew (ps : List Peer) (p : Peer) : Type 0 where
   pub unused : (i : ℕ) (q : Peer) → slice_get ps i ≡ Some q → identifier q.node.me ≡ identifier p.node.me → ⊥
   pub free : (i : ℕ) (q : Peer) → slice_get ps i ≡ Some q → is_running q ≡ true → endpoint q.node.me ≡ endpoint p.node.me → ⊥
+
+-- Someone runs under the identifier.
+abbrev pub runs : List Peer → Identifier → Bool
+runs ps id = is_some (position (λ p. is_running p && has_identifier id p) ps)
+
+-- The identifiers of those that run, ascending.
+abbrev pub running_of : List Peer → List Identifier
+running_of ps = in_order bytes_cmp (map (λ p. identifier p.node.me) (filter is_running ps))

@@ -1,5 +1,5 @@
 -- What was sent, by steps.
-use Rattle.std.specs.Prelude.{◌≡◌, ℕ, ◌+◌, ◌-◌, ◌==◌, List, [], ◌∷◌, length, flat_map, slice_get, if◌then◌else◌, Option, None}
+use Rattle.std.specs.Prelude.{◌≡◌, ℕ, ◌+◌, ◌-◌, ◌<◌, ◌≤◌, ◌==◌, List, [], ◌∷◌, length, flat_map, slice_get, if◌then◌else◌, Option, Some, None}
 use Rattle.rapid_world.specs.Framed.{FramedPacket}
 
 -- What was sent in one step.
@@ -25,3 +25,17 @@ pub record Mailbox : Type 0 where
 -- The packet of a number, from 1.
 abbrev pub numbered_packet : List FramedPacket → ℕ → Option FramedPacket
 numbered_packet ps k = if k == 0 then None else slice_get ps (k - 1)
+
+-- The step at the place sent the packet of a number.
+pub record HasSent (ss : List Sent) (k i : ℕ) : Type 0 where
+  pub sent : Sent
+  pub at : slice_get ss i ≡ Some sent
+  pub begins : sent.first < k
+  pub ends : k ≤ sent.first + length sent.packets
+
+-- What the step at the place has for the number is the packet of that number, or there is none.
+pub record Tells (ss : List Sent) (k i : ℕ) : Type 0 where
+  pub sent : Sent
+  pub at : slice_get ss i ≡ Some sent
+  pub begins : sent.first < k
+  pub has : slice_get sent.packets ((k - 1) - sent.first) ≡ numbered_packet (all_packets ss) k

@@ -1,9 +1,9 @@
 // All packets that were ever sent.
 
-ghost use Rattle.std.specs.Prelude.{◌≡◌, ◌<◌, ◌-◌, ◌++◌, length, OnOk, vec_len, vec_capacity, nat_lt, ℕ, ◌∷◌, []};
+ghost use Rattle.std.specs.Prelude.{◌≡◌, ◌<◌, ◌-◌, ◌++◌, length, OnOk, IfSome, vec_len, vec_capacity, nat_lt, ℕ, ◌∷◌, [], true, None};
 ghost use Rattle.std.specs.Option.{option_map};
 ghost use Rattle.rapid_world.specs.Framed.{frame_to};
-ghost use Rattle.rapid_world.specs.Sent.{AreNumbered, all_packets, numbered_packet};
+ghost use Rattle.rapid_world.specs.Sent.{AreNumbered, HasSent, Tells, all_packets, numbered_packet};
 
 use crate::sending::Sending;
 use rapid_endpoint::Endpoint;
@@ -17,6 +17,8 @@ pub(crate) struct Mail {
     sendings: Vec<Sending>,
     // how many packets there are
     sent: u64,
+    // the place of the step whose packet was looked for last: mostly the next one is asked for next
+    near: usize,
 }
 
 impl Model for Mail {
@@ -56,6 +58,7 @@ impl Mail {
         Mail {
             sendings: Vec::new(alloc),
             sent: 0,
+            near: 0,
         }
     }
 
@@ -90,19 +93,71 @@ impl Mail {
     pub(crate) fn packet(&self, number: u64) -> Option<(Endpoint, &[u8])>
         ensures { option_map (λ x. frame_to x.1.now x.0) result ≡ numbered_packet self.now.packets number }
     {
-        find_numbered(self.sendings.as_slice(), number)
+        find_numbered(self.sendings.as_slice(), self.near, number)
+    }
+
+    /// Looks for the packet with a number, so that it and the next ones are found at once. Nothing
+    /// else changes.
+    pub(crate) fn seek(&mut self, number: u64)
+        ensures { self.new ≡ self.old }
+    {
+        if let Some(place) = place_of(self.sendings.as_slice(), self.near, number) {
+            self.near = place;
+        }
     }
 }
 
-/// The packet with a number, in steps that are numbered from 1.
-fn find_numbered(sendings: &[Sending], number: u64) -> Option<(Endpoint, &[u8])>
+/// Whether the step at a place sent the packet with a number.
+fn is_at(sendings: &[Sending], place: usize, number: u64) -> bool
+    ensures { result ≡ true → HasSent sendings.now number place }
+{
+    match sendings.get(place) {
+        Some(sending) => sending.first() < number && number <= sending.end(),
+        None => false,
+    }
+}
+
+/// The place of the last step before which fewer packets were sent than up to one with this number.
+fn last_before(sendings: &[Sending], number: u64) -> Option<usize>
     requires { (total : ℕ) × AreNumbered 0 sendings.now total }
-    ensures { option_map (λ x. frame_to x.1.now x.0) result ≡ numbered_packet (all_packets sendings.now) number }
+    ensures found { IfSome result (Tells sendings.now number) }
+    ensures none { result ≡ None → numbered_packet (all_packets sendings.now) number ≡ None }
 {
     let after = sendings.partition_point(|sending| is_before(sending, number));
     let Some(last) = after.checked_sub(1) else {
         return None;
     };
-    let sending = &sendings[last];
-    sending.packet(number - 1 - sending.first())
+    Some(last)
+}
+
+/// The place of the step that sent the packet with a number, if one did, in steps that are numbered
+/// from 1. This place and the next are tried first.
+fn place_of(sendings: &[Sending], near: usize, number: u64) -> Option<usize>
+    requires { (total : ℕ) × AreNumbered 0 sendings.now total }
+    ensures found { IfSome result (Tells sendings.now number) }
+    ensures none { result ≡ None → numbered_packet (all_packets sendings.now) number ≡ None }
+{
+    if is_at(sendings, near, number) {
+        return Some(near);
+    }
+    let next = near.saturating_add(1);
+    if is_at(sendings, next, number) {
+        return Some(next);
+    }
+    last_before(sendings, number)
+}
+
+/// The packet with a number, in steps that are numbered from 1, by the place of a step that is tried
+/// first.
+fn find_numbered(sendings: &[Sending], near: usize, number: u64) -> Option<(Endpoint, &[u8])>
+    requires { (total : ℕ) × AreNumbered 0 sendings.now total }
+    ensures { option_map (λ x. frame_to x.1.now x.0) result ≡ numbered_packet (all_packets sendings.now) number }
+{
+    match place_of(sendings, near, number) {
+        Some(place) => {
+            let sending = &sendings[place];
+            sending.packet(number - 1 - sending.first())
+        }
+        None => None,
+    }
 }

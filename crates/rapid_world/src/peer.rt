@@ -202,15 +202,15 @@ impl Peer {
 
     /// Whom its node observes on a ring, from 0, with the identifier of their configuration.
     #[tactic(auto, using(crate::proofs::Probing::none_observed, crate::proofs::Probing::whom_observed))]
-    pub(crate) fn observed(&self, ring: u8) -> Result<Option<(ConfigId, Process)>, AllocError>
-        ensures { IfOk result (λ edge. edge ≡ edge_of (world.observed self.now ring)) }
+    pub(crate) fn observed(&self, ring: u8) -> Option<(ConfigId, Process)>
+        ensures { result ≡ edge_of (world.observed self.now ring) }
     {
         let Some(configuration) = member_configuration(&self.node) else {
-            return Ok(None);
+            return None;
         };
-        match self.node.observed(ring)? {
-            Some(subject) => Ok(Some((configuration.id(), subject))),
-            None => Ok(None),
+        match self.node.observed(ring) {
+            Some(subject) => Some((configuration.id(), subject)),
+            None => None,
         }
     }
 

@@ -3,14 +3,17 @@
 ghost use Rattle.std.specs.Prelude.{◌≡◌, ◌<◌, ◌++◌, ◌&&◌, ◌∷◌, [], All, map, false, true, position, length, slice_get, slice_set, IfOk, OnOk, OnErr, Some};
 ghost use Rattle.std.specs.List.{list_any, find};
 ghost use Rattle.std.specs.Option.{option_map, option_to_list};
+ghost use Rattle.std.specs.Ordering.{is_lt};
 ghost use Rattle.rapid_model.specs.Configuration.{is_member};
 ghost use Rattle.rapid_model.specs.Edge.{probed};
 ghost use Rattle.rapid_model.specs.Node.{EdgeDown, seed_node};
+ghost use Rattle.rapid_model.specs.Process.{bytes_cmp};
+ghost use Rattle.rapid_model.specs.Turn.{least};
 ghost use Rattle.rapid_model.specs.World.{Peer as ModelPeer, is_running, has_identifier, has_endpoint};
 ghost use Rattle.rapid_model.specs.WorldStep.{added, edge_on};
 ghost use Rattle.rapid_node.specs.Steps.{event_of};
 ghost use Rattle.rapid_world.specs.Events.{report_of};
-ghost use Rattle.rapid_world.specs.Found.{IsNew};
+ghost use Rattle.rapid_world.specs.Found.{IsNew, running_of};
 ghost use Rattle.rapid_world.specs.Framed.{framed_packet, HasFrame};
 ghost use Rattle.rapid_world.specs.Handed.{handed, told, TakesAt, ProbesAt};
 
@@ -25,6 +28,7 @@ use rapid_endpoint::{Endpoint, Process, ProcessId};
 use rapid_node::{Event, Node, Views};
 use std::alloc::{AllocError, Global};
 use std::marker::Model;
+use std::ops::Bound;
 
 /// How many views nodes share at a time.
 const MOST_VIEWS: usize = 8;
@@ -109,6 +113,31 @@ impl Peers {
         ensures { option_map (λ n. n.now) result ≡ option_map (λ p. p.node) (find (has_identifier id.now) self.now) }
     {
         find_under(self.peers.as_slice(), self.by_id.get(id), id)
+    }
+
+    /// The least identifier of those that run.
+    pub(crate) fn least_running(&self) -> Option<ProcessId>
+        ensures { result ≡ least (running_of self.now) }
+    {
+        for id in self.by_id.ids().iter() {
+            if self.place_under(id).is_some() {
+                return Some(*id);
+            }
+        }
+        None
+    }
+
+    /// The least identifier above another of those that run.
+    pub(crate) fn running_above(&self, last: &ProcessId) -> Option<ProcessId>
+        ensures { result ≡ find (λ id. is_lt (bytes_cmp last.now id)) (running_of self.now) }
+    {
+        let above = (Bound::Excluded(*last), Bound::Unbounded);
+        for id in self.by_id.ids().range(above) {
+            if self.place_under(id).is_some() {
+                return Some(*id);
+            }
+        }
+        None
     }
 
     /// Adds one. Want of memory changes nothing that is seen.

@@ -2,28 +2,33 @@
 
 ghost use Rattle.std.specs.Prelude.{◌≡◌, OnOk, OnErr};
 ghost use Rattle.std.specs.FinMap as finmap;
+ghost use Rattle.rapid_world.specs.Found.{HasAll};
 
 use crate::keys::{EndpointKey, IdKey};
 use rapid_endpoint::{Endpoint, ProcessId};
 use std::alloc::{AllocError, Global};
-use std::collections::HashMap;
+use std::collections::{BTreeSet, HashMap};
 use std::marker::Model;
 
 /// A place by each of some identifiers.
 #[derive(Debug, Drop)]
 pub(crate) struct PlacesById {
     places: HashMap<IdKey, usize>,
+    // the identifiers, ascending; also one whose place found no memory
+    ids: BTreeSet<ProcessId>,
 }
 
 impl Model for PlacesById {
     ghost use Rattle.std.specs.FinMap as finmap;
-    ghost use Rattle.rapid_world.specs.Found.{Places, places_code};
+    ghost use Rattle.rapid_world.specs.Found.{Places, places_code, HasAll};
 
     ghost Value = { Places };
 
     ghost coded = { places_code };
 
     ghost view = { λ p. finmap.from_entries p.places.entries };
+
+    ghost invariant = { λ p. HasAll p.ids.keys (finmap.from_entries p.places.entries) };
 }
 
 impl PlacesById {
@@ -33,6 +38,7 @@ impl PlacesById {
     {
         PlacesById {
             places: HashMap::new(alloc),
+            ids: BTreeSet::new(alloc),
         }
     }
 
@@ -43,11 +49,19 @@ impl PlacesById {
         self.places.get(&IdKey::new(*id)).copied()
     }
 
+    /// All identifiers that have a place, ascending.
+    pub(crate) fn ids(&self) -> &BTreeSet<ProcessId>
+        ensures { HasAll result.now.keys self.now }
+    {
+        &self.ids
+    }
+
     /// Sets the place by an identifier. Want of memory leaves the places as they were.
     pub(crate) fn insert(&mut self, id: ProcessId, place: usize) -> Result<(), AllocError>
         ensures ok { OnOk result (self.new ≡ finmap.insert self.old id place) }
         ensures unchanged { OnErr result (self.new ≡ self.old) }
     {
+        self.ids.insert(id)?;
         self.places.insert(IdKey::new(id), place)?;
         Ok(())
     }

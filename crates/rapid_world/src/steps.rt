@@ -97,6 +97,7 @@ impl World {
         ensures refused { IfErr result (Refuses (event_refusal self.old (model.Deliver number))) }
         ensures unchanged { OnErr result (self.new ≡ self.old) }
     {
+        self.seek(number);
         match self.arrival(number) {
             Ok((place, message)) => {
                 self.hand(WorldEvent::Deliver(number), place, &Event::Receive(message))
@@ -155,9 +156,8 @@ impl World {
         self.tell();
         match self.running_under(id) {
             Some(place) => match self.peers().as_slice()[place].observed(ring) {
-                Ok(Some((config, subject))) => Ok((place, config, subject)),
-                Ok(None) => Err(WorldError::NotObserved),
-                Err(AllocError) => Err(WorldError::OutOfMemory),
+                Some(edge) => Ok((place, edge.0, edge.1)),
+                None => Err(WorldError::NotObserved),
             },
             None => Err(WorldError::NoSuchNode),
         }
@@ -191,9 +191,9 @@ impl World {
     /// `IdentifierUsed` where a node ever had the identifier, then `EndpointBusy` where one runs at
     /// the endpoint. `NoSuchNode` where none runs under the identifier, or at the endpoint of the
     /// packet; before the latter `NoSuchPacket` where none with the number was sent. `NotObserved`
-    /// where the node observes nobody on the ring. `OutOfMemory` where the world itself has no
-    /// memory for the event, to read the frame of a packet or to write those that its node sends,
-    /// or to see whom the node observes. Each leaves the world as it was.
+    /// where the node observes nobody on the ring. `OutOfMemory` if the event is not refused, but
+    /// the world itself has no memory for it, to read the frame of a packet or to write those that
+    /// its node sends. Each leaves the world as it was.
     pub fn step(&mut self, event: &WorldEvent) -> Result<Vec<Report>, WorldError>
         ensures stored { IfOk result (λ reports. StoresEvent self.old self.new (event_of event.now) (map report_of reports.items)) }
         ensures refused { IfErr result (Refuses (event_refusal self.old (event_of event.now))) }

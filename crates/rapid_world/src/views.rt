@@ -1,9 +1,10 @@
 // What a world shows.
 
-ghost use Rattle.std.specs.Prelude.{◌≡◌, length, slice_get, IfOk};
+ghost use Rattle.std.specs.Prelude.{◌≡◌, length, slice_get, IfOk, None};
 ghost use Rattle.std.specs.List.{find};
 ghost use Rattle.std.specs.Option.{option_map};
 ghost use Rattle.rapid_model.specs.StoredWorld.{world_of};
+ghost use Rattle.rapid_model.specs.Turn.{next_node, next_packet};
 ghost use Rattle.rapid_model.specs.World as model;
 ghost use Rattle.rapid_world.specs.Events.{marked_of};
 ghost use Rattle.rapid_world.specs.Framed.{IsFrameOf};
@@ -39,6 +40,20 @@ impl World {
         running_ids(self.alloc(), self.peers().as_slice())
     }
 
+    /// The identifier of the next node that runs: the least above the one given, or if there is
+    /// none, or none is given, the least of all; none if no node runs. It takes no memory.
+    pub fn next_running(&self, last: Option<ProcessId>) -> Option<ProcessId>
+        ensures { result ≡ next_node (model.running (world_of self.now)) last }
+    {
+        match last {
+            Some(last) => match self.peers().running_above(&last) {
+                Some(id) => Some(id),
+                None => self.peers().least_running(),
+            },
+            None => self.peers().least_running(),
+        }
+    }
+
     /// How many packets were sent so far.
     pub fn packets(&self) -> u64
         ensures { result ≡ length (world_of self.now).packets }
@@ -65,14 +80,27 @@ impl World {
         }
     }
 
-    /// The member that a node observes on a ring, from 0; none where no node runs under the
-    /// identifier, or it observes nobody.
-    pub fn observed(&self, id: &ProcessId, ring: u8) -> Result<Option<Process>, AllocError>
-        ensures { IfOk result (λ subject. subject ≡ observed_by (world_of self.now) id.now ring) }
+    /// The least packet above this number that was sent and to whose endpoint a running node
+    /// belongs; none if there is none. It takes no memory.
+    pub fn next_deliverable(&self, after: u64) -> Option<u64>
+        ensures { result ≡ next_packet (world_of self.now) (record { passed = after; ticked = None }) }
+    {
+        for before in after..self.packets() {
+            if self.can_deliver(before + 1) {
+                return Some(before + 1);
+            }
+        }
+        None
+    }
+
+    /// The member that a node observes on a ring, from 0; none if no node runs under the
+    /// identifier, or it observes nobody. It takes no memory.
+    pub fn observed(&self, id: &ProcessId, ring: u8) -> Option<Process>
+        ensures { result ≡ observed_by (world_of self.now) id.now ring }
     {
         match self.running_under(id) {
             Some(place) => self.peers().as_slice()[place].node().observed(ring),
-            None => Ok(None),
+            None => None,
         }
     }
 }

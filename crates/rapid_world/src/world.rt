@@ -108,6 +108,13 @@ impl World {
         &self.mail
     }
 
+    /// Looks for a packet, so that it and the next ones are found at once. Nothing else changes.
+    pub(crate) fn seek(&mut self, packet: u64)
+        ensures { self.new ≡ self.old }
+    {
+        self.mail.seek(packet);
+    }
+
     /// The events that it accepted, with their marks.
     pub(crate) fn events(&self) -> &[(WorldEvent, bool)]
         ensures { map marked_of result.now ≡ self.now.events }

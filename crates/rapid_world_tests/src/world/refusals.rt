@@ -57,3 +57,51 @@ fn a_crash_ends_a_node(rt: HostRuntime) -> Result<(), Fail> {
     assert!(rt; world.can_deliver(1));
     Ok(())
 }
+
+/// Those that run follow one another by identifier and begin again at the least; who crashed is left
+/// out.
+#[test]
+fn running_nodes_follow_one_another(rt: HostRuntime) -> Result<(), Fail> {
+    let mut world = alone(rt.alloc())?;
+    assert!(rt; world.next_running(Some(id(1))) == Some(id(1)));
+    let starts = [4, 2, 3].map(|number| Start(process(number), endpoint(1)));
+    assert_eq!(rt; world.run(&starts), 3);
+    assert_eq!(rt; world.run(&[Crash(id(3))]), 1);
+    let after = [
+        (None, 1),
+        (Some(1), 2),
+        (Some(2), 4),
+        (Some(3), 4),
+        (Some(4), 1),
+        (Some(9), 1),
+    ];
+    for (last, next) in after {
+        assert!(rt;
+            world.next_running(last.map(id)) == Some(id(next)),
+            "after {last:?}"
+        );
+    }
+    assert_eq!(rt; world.run(&[Crash(id(1)), Crash(id(2)), Crash(id(4))]), 3);
+    assert!(rt; world.next_running(None).is_none());
+    Ok(())
+}
+
+/// Two joiners ask process 1. A packet is next while a node runs at its endpoint.
+#[test]
+fn the_next_packet_can_be_delivered(rt: HostRuntime) -> Result<(), Fail> {
+    let mut world = alone(rt.alloc())?;
+    let starts = [
+        Start(process(2), endpoint(1)),
+        Start(process(3), endpoint(2)),
+        Tick(id(2)),
+        Tick(id(3)),
+    ];
+    assert_eq!(rt; world.run(&starts), 4);
+    assert!(rt; world.packets() == 2);
+    assert!(rt; world.next_deliverable(0) == Some(1));
+    assert!(rt; world.next_deliverable(1) == Some(2));
+    assert!(rt; world.next_deliverable(2).is_none());
+    assert_eq!(rt; world.run(&[Crash(id(1))]), 1);
+    assert!(rt; world.next_deliverable(0) == Some(2));
+    Ok(())
+}

@@ -1,31 +1,20 @@
-use Rattle.std.proofs.Common.{rules, of_calls, sym, arith}
-use Rattle.std.proofs.lemmas.Fn.{always_returns_same}
-use Rattle.rapid_world.proofs.Mails.{begins_before, those_before_first, none_before, last_begins, last_has}
+use Rattle.std.proofs.Common.{◌≡◌, ◌-◌, refl, slice_get, ap, subst, sym, arith}
+use Rattle.std.proofs.lemmas.Option.{slice_get_within}
+use Rattle.rapid_world.specs.Sent.{Sent, all_packets, numbered_packet}
+use Rattle.rapid_world.proofs.Mails.{read_there}
 use Rattle.rapid_world.proofs.mail.find_numbered.Goals as goal
 
-pub returns-in_default : goal.returns-in_default
-returns-in_default c =
-    let h = c.requires in
-    let point = c.partition_point-after.ensures.partitioned (begins_before c.args.number) (always_returns_same _ _ _ (λ a r f k. search (rules, of_calls))) (those_before_first c.args.sendings.now h.0 c.args.number h.1) in
-    sym (none_before c.args.sendings.now h.0 c.args.number c.partition_point-after.result h.1 point (omega (arith, c.in_default.ensures)))
+pub bounds-sendings-place : goal.bounds-sendings-place
+bounds-sendings-place c = let t = c.in-Some.ensures.found in let l = slice_get_within c.args.sendings.now c.in-Some.place t.sent t.at in omega (arith, l)
 
 pub overflow_sub-number : goal.overflow_sub-number
-overflow_sub-number c =
-    let h = c.requires in
-    let point = c.partition_point-after.ensures.partitioned (begins_before c.args.number) (always_returns_same _ _ _ (λ a r f k. search (rules, of_calls))) (those_before_first c.args.sendings.now h.0 c.args.number h.1) in
-    let before = last_begins c.args.sendings.now c.args.number c.partition_point-after.result c.in-Some.last c.index-sendings-last.result point (search rules) c.partition_point-after.ensures.bound c.index-sendings-last.is in
-    omega arith
+overflow_sub-number c = let t = c.in-Some.ensures.found in let b = t.begins in omega (arith, b)
 
-pub overflow_sub-number-2 : goal.overflow_sub-number-2
-overflow_sub-number-2 c =
-    let h = c.requires in
-    let point = c.partition_point-after.ensures.partitioned (begins_before c.args.number) (always_returns_same _ _ _ (λ a r f k. search (rules, of_calls))) (those_before_first c.args.sendings.now h.0 c.args.number h.1) in
-    let before = last_begins c.args.sendings.now c.args.number c.partition_point-after.result c.in-Some.last c.index-sendings-last.result point (search rules) c.partition_point-after.ensures.bound c.index-sendings-last.is in
-    omega arith
+pub returns-in-Some : goal.returns-in-Some
+returns-in-Some c =
+    let t = c.in-Some.ensures.found in
+    let same = read_there c.args.sendings.now c.in-Some.place t.sent c.index-sendings-place.result t.at c.index-sendings-place.is in
+    rw c.packet.ensures (rw c.first.ensures (subst (λ (s : Sent). slice_get s.packets ((c.args.number - 1) - s.first) ≡ numbered_packet (all_packets c.args.sendings.now) c.args.number) (sym same) t.has))
 
-pub returns : goal.returns
-returns c =
-    let h = c.requires in
-    let point = c.partition_point-after.ensures.partitioned (begins_before c.args.number) (always_returns_same _ _ _ (λ a r f k. search (rules, of_calls))) (those_before_first c.args.sendings.now h.0 c.args.number h.1) in
-    let has = last_has c.args.sendings.now h.0 c.args.number c.partition_point-after.result c.in-Some.last c.index-sendings-last.result h.1 point (search rules) c.partition_point-after.ensures.bound c.index-sendings-last.is in
-    rw c.packet.ensures (rw c.first.ensures has)
+pub returns-in-None : goal.returns-in-None
+returns-in-None c = sym (c.in-None.ensures.none refl)

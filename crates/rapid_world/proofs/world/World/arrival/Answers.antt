@@ -1,4 +1,4 @@
-use Rattle.std.proofs.Common.{inl, ap, sym, subst, ◌∙◌}
+use Rattle.std.proofs.Common.{ap, sym, subst, ◌∙◌}
 use Rattle.rapid_model.specs.Message.{Message}
 use Rattle.rapid_model.specs.Node.{Receive}
 use Rattle.rapid_model.specs.StoredWorld.{world_of}
@@ -20,7 +20,6 @@ returns-in-Ok-clause-hands c =
 pub returns-in-Err-clause-refused : goal.returns-in-Err-clause-refused
 returns-in-Err-clause-refused c =
     let t = packet_there _ _ _ c.in-Some.ensures in
-    inl
     (deliver_hands c.args.self.now c.args.number t.0 c.in-Some-running_at.place c.tell.ensures.members c.requires t.1 (ap (model.running_at (world_of c.args.self.now)) (sym t.2) ∙ sym c.in-Some-running_at.ensures)).does.not_refused
 
 pub returns-in-None-running_at-clause-refused : goal.returns-in-None-running_at-clause-refused

@@ -1,4 +1,4 @@
-use Rattle.std.proofs.Common.{◌≡◌, ℕ, List, inl, sym, ap, ◌∙◌}
+use Rattle.std.proofs.Common.{◌≡◌, ℕ, List, sym, ap, ◌∙◌}
 use Rattle.std.specs.Prelude.{is_some}
 use Rattle.std.specs.List.{list_any}
 use Rattle.rapid_model.specs.Process.{identifier, endpoint}
@@ -39,4 +39,4 @@ returns-in-Err-clause-refused c =
     c.is_used.ensures ∙ ap (λ (l : List Peer). list_any (has_identifier c.id.result) l) c.peers.ensures ∙ ap (λ (i : List ℕ). list_any (has_identifier i) (world_of c.args.self.now).peers) c.id.ensures in
     let busy : c.is_some.result ≡ is_some (running_at (world_of c.args.self.now) (endpoint c.args.process)) =
     c.is_some.ensures ∙ ap is_some (c.running_at.ensures ∙ ap (running_at (world_of c.args.self.now)) c.endpoint.ensures) in
-    inl (start_open c.args.self.now c.args.process c.args.seed c.requires (sym used ∙ c.if-is_used.false) (sym busy ∙ c.if-is_some.false))
+    start_open c.args.self.now c.args.process c.args.seed c.requires (sym used ∙ c.if-is_used.false) (sym busy ∙ c.if-is_some.false)

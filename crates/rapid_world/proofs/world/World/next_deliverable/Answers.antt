@@ -2,12 +2,12 @@ use Rattle.std.proofs.Common.{◌≡◌, ◌+◌, ◌-◌, ◌<◌, ◌∙◌, f
 use Rattle.std.specs.List.{find, range_with_len}
 use Rattle.rapid_model.specs.StoredWorld.{world_of}
 use Rattle.rapid_model.specs.World.{can_deliver}
-use Rattle.rapid_clerks.proofs.Packets.{next_or_later}
-use Rattle.rapid_clerks.proofs.turn.next_packet.Goals as goal
+use Rattle.rapid_world.proofs.Next.{next_or_later}
+use Rattle.rapid_world.proofs.world.World.next_deliverable.Goals as goal
 
 pub loop-before-preserved : goal.loop-before-preserved
 loop-before-preserved c =
-    let w = world_of c.args.world.now in
+    let w = world_of c.args.self.now in
     let n = c.loop-before.before in
     let sent = length w.packets in
     let no : can_deliver w (n + 1) ≡ false = sym c.can_deliver.ensures ∙ c.if-can_deliver.false in

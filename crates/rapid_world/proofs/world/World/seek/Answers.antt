@@ -1,0 +1,7 @@
+use Rattle.std.proofs.Common.{ap, refl}
+use Rattle.rapid_world.specs.Sent.{Mailbox}
+use Rattle.rapid_world.proofs.Giving.{kept_run}
+use Rattle.rapid_world.proofs.world.World.seek.Goals as goal
+
+pub invariant_of-self : goal.invariant_of-self
+invariant_of-self c = kept_run _ _ _ _ _ _ c.self.invariant refl refl (ap (λ (m : Mailbox). m.packets) c.seek.ensures)
