@@ -1,4 +1,5 @@
 pub mod Next
+pub mod Logs
 pub mod Others
 pub mod Packets
 pub mod Framing

@@ -4,6 +4,7 @@ pub mod Events
 pub mod Found
 pub mod Framed
 pub mod Handed
+pub mod Kept
 pub mod Recipients
 pub mod Sent
 pub mod Windows

@@ -8,6 +8,7 @@ mod event;
 mod founding;
 mod framed;
 mod handing;
+mod kept;
 mod keys;
 mod lookups;
 mod mail;

@@ -19,6 +19,7 @@ ghost use Rattle.rapid_world.specs.Framed.{framed_packet, HasFrame};
 ghost use Rattle.rapid_world.specs.Handed.{crash_of};
 ghost use Rattle.rapid_world.specs.Worlds.{IsRunOf};
 
+use crate::kept::EventLog;
 use crate::mail::{Mail, push_within};
 use crate::outcome::{has_outcome, is_marked};
 use crate::peer::Peer;
@@ -42,7 +43,7 @@ const MOST_EVENTS: usize = 1_000_000;
 pub struct World {
     founding: Configuration,
     // all events that it accepted, with their marks
-    events: Vec<(WorldEvent, bool)>,
+    events: EventLog,
     peers: Peers,
     mail: Mail,
     alloc: Global,
@@ -73,7 +74,7 @@ impl World {
     {
         World {
             founding,
-            events: Vec::new(alloc),
+            events: EventLog::new(alloc),
             peers,
             mail: Mail::new(alloc),
             alloc,
@@ -115,11 +116,11 @@ impl World {
         self.mail.seek(packet);
     }
 
-    /// The events that it accepted, with their marks.
-    pub(crate) fn events(&self) -> &[(WorldEvent, bool)]
-        ensures { map marked_of result.now ≡ self.now.events }
+    /// The event at a place of those that it accepted, with its mark.
+    pub(crate) fn kept(&self, i: usize) -> Option<(WorldEvent, bool)>
+        ensures { option_map marked_of result ≡ slice_get self.now.events i }
     {
-        self.events.as_slice()
+        self.events.get(i)
     }
 
     /// How it was founded.
@@ -152,13 +153,13 @@ impl World {
         ensures stored { IfOk result (λ reports. StoresEvent self.old self.new (event_of event) (map report_of reports.items)) }
         ensures unchanged { OnErr result (self.new ≡ self.old) }
     {
-        self.events.reserve(1)?;
+        self.events.reserve()?;
         let reports = Vec::with_capacity(self.alloc, 1)?;
         // a node whose history is full halts without a mark, also if it had no memory to find out
         let has_outcome = has_outcome(self.peers.as_slice()[place].node(), taken)?;
         let told = self.peers.hand(place, &mut self.mail, taken)?;
         let mark = is_marked(told.halts, has_outcome);
-        push_within(&mut self.events, (event, mark));
+        self.events.push(event, mark);
         Ok(with_report(reports, told.report))
     }
 
@@ -172,9 +173,9 @@ impl World {
         ensures stored { IfOk result (λ reports. StoresEvent self.old self.new (event_of event) (map report_of reports.items)) }
         ensures unchanged { OnErr result (self.new ≡ self.old) }
     {
-        self.events.reserve(1)?;
+        self.events.reserve()?;
         self.peers.crash(place);
-        push_within(&mut self.events, (event, false));
+        self.events.push(event, false);
         Ok(Vec::new(self.alloc))
     }
 
@@ -190,10 +191,10 @@ impl World {
         ensures stored { IfOk result (λ reports. StoresEvent self.old self.new (model.Start process seed) (map report_of reports.items)) }
         ensures unchanged { OnErr result (self.new ≡ self.old) }
     {
-        self.events.reserve(1)?;
+        self.events.reserve()?;
         let peer = Peer::joiner(self.alloc, process, seed)?;
         self.peers.add(peer)?;
-        push_within(&mut self.events, (WorldEvent::Start(process, seed), false));
+        self.events.push(WorldEvent::Start(process, seed), false);
         Ok(Vec::new(self.alloc))
     }
 
@@ -212,10 +213,10 @@ impl World {
         ensures stored { IfOk result (λ reports. StoresEvent self.old self.new (event_of event) (map report_of reports.items)) }
         ensures unchanged { OnErr result (self.new ≡ self.old) }
     {
-        self.events.reserve(1)?;
+        self.events.reserve()?;
         let reports = Vec::with_capacity(self.alloc, 1)?;
         let told = self.peers.probe(place, ring, ok, config, subject)?;
-        push_within(&mut self.events, (event, told.halts));
+        self.events.push(event, told.halts);
         Ok(with_report(reports, told.report))
     }
 }

@@ -5,4 +5,4 @@ use Rattle.rapid_world.specs.Events.{marked_of}
 use Rattle.rapid_world.proofs.world.World.accepted.Goals as goal
 
 pub returns : goal.returns
-returns c = c.len.ensures ∙ c.self.inside.events.ok.0 ∙ sym (length-map c.self.inside.events.items marked_of) ∙ ap accepted c.self.view_is
+returns c = c.len.ensures ∙ sym (length-map c.self.inside.events.items marked_of) ∙ ap accepted c.self.view_is

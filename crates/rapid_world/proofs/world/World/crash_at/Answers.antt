@@ -22,10 +22,10 @@ pub invariant_of-self-2 : goal.invariant_of-self-2
 invariant_of-self-2 c =
     let at = at_place _ _ _ _ _ _ c.self.invariant c.self.view_is c.requires.1.at in
     given_run c.args.self.now _ _ _ _ (c.args.event, false) _ _ _ _ _ _ (crash_of c.requires.0)
-    c.self.view_is c.reserve.ensures.items c.push_within.ensures c.self.invariant c.requires.1
+    c.self.view_is c.reserve.ensures.items c.push.ensures c.self.invariant c.requires.1
     (c.crash.ensures c.requires.0 at) (nothing_more c.self.inside.mail.packets) (All-nil HasFrame)
 
 pub returns-clause-stored : goal.returns-clause-stored
 returns-clause-stored c =
     given_stored c.args.self.now _ _ _ _ (c.args.event, false) _ _ (crash_of c.requires.0) _
-    c.self.view_is c.reserve.ensures.items c.push_within.ensures c.requires.1 (no_reports _ c.new.ensures.items) (λ t. cc) (λ t. cc)
+    c.self.view_is c.reserve.ensures.items c.push.ensures c.requires.1 (no_reports _ c.new.ensures.items) (λ t. cc) (λ t. cc)

@@ -54,7 +54,7 @@ invariant_of-self-2 c =
     c.in_ok-has_outcome.ensures ∙ ap (λ (n : Node). is_some (node_step n (taken_of c.args.taken.now))) (c.node.ensures ∙ ap (λ (p : Peer). p.node) is) in
     let same = same_mark c.requires.peer (taken_of c.args.taken.now) c.in_ok-told.told.halts c.in_ok-has_outcome.has_outcome goes ∙ ap (handed c.requires.peer (taken_of c.args.taken.now)) (sym c.is_marked-mark.ensures) in
     given_run c.args.self.now _ _ _ _ (c.args.event, c.is_marked-mark.result) _ _ _ _ _ _ (handed c.requires.peer (taken_of c.args.taken.now))
-    c.self.view_is c.reserve.ensures.items c.push_within.ensures c.self.invariant c.requires.does
+    c.self.view_is c.reserve.ensures.items c.push.ensures c.self.invariant c.requires.does
     (c.in_ok-told.ensures.peers c.requires.peer at ∙ ap (λ (d : Handed). slice_set c.self.inside.peers c.args.place d.peer) same)
     (c.in_ok-told.ensures.packets c.requires.peer at ∙ ap (λ (d : Handed). c.self.inside.mail.packets ++ map framed_packet d.packets) same)
     (subst (λ (d : Handed). All HasFrame d.packets) same (c.in_ok-told.ensures.framed c.requires.peer at))
@@ -67,7 +67,7 @@ returns-clause-stored c =
     c.in_ok-has_outcome.ensures ∙ ap (λ (n : Node). is_some (node_step n (taken_of c.args.taken.now))) (c.node.ensures ∙ ap (λ (p : Peer). p.node) is) in
     let same = same_mark c.requires.peer (taken_of c.args.taken.now) c.in_ok-told.told.halts c.in_ok-has_outcome.has_outcome goes ∙ ap (handed c.requires.peer (taken_of c.args.taken.now)) (sym c.is_marked-mark.ensures) in
     given_stored c.args.self.now _ _ _ _ (c.args.event, c.is_marked-mark.result) _ _ (handed c.requires.peer (taken_of c.args.taken.now)) _
-    c.self.view_is c.reserve.ensures.items c.push_within.ensures c.requires.does
+    c.self.view_is c.reserve.ensures.items c.push.ensures c.requires.does
     (one_report _ _ _ c.with_report.ensures c.in_ok-reports.ensures.items ∙ c.in_ok-told.ensures.reports c.requires.peer at ∙ ap (λ (d : Handed). d.reports) same)
     (handed_marks c.requires.peer (taken_of c.args.taken.now) c.is_marked-mark.result)
     (λ t. mark_needed c.requires.peer (taken_of c.args.taken.now) c.in_ok-told.told.halts c.in_ok-has_outcome.has_outcome goes (sym c.is_marked-mark.ensures ∙ t))

@@ -19,12 +19,12 @@ add-requires c =
 
 pub invariant_of-self-2 : goal.invariant_of-self-2
 invariant_of-self-2 c =
-    subst (λ (l : List Peer). IsRunOf (stored_of c.self.inside.founding c.push_within.new.elements.items) l c.self.inside.mail.packets)
+    subst (λ (l : List Peer). IsRunOf (stored_of c.self.inside.founding c.push.new.self.items) l c.self.inside.mail.packets)
     (sym c.in_ok-add.ensures.added)
     (joined_run c.args.self.now _ _ _ _ c.args.process c.args.seed (Start c.args.process c.args.seed, false) _ _ _
-    c.self.view_is c.reserve.ensures.items c.push_within.ensures refl c.self.invariant c.requires.open c.requires.unused c.requires.free c.in_ok-peer.ensures)
+    c.self.view_is c.reserve.ensures.items c.push.ensures refl c.self.invariant c.requires.open c.requires.unused c.requires.free c.in_ok-peer.ensures)
 
 pub returns-clause-stored : goal.returns-clause-stored
 returns-clause-stored c =
     joined_stored c.args.self.now _ _ _ _ c.args.process c.args.seed (Start c.args.process c.args.seed, false) _
-    c.self.view_is c.reserve.ensures.items c.push_within.ensures refl c.requires.open c.requires.unused c.requires.free (no_reports _ c.new.ensures.items)
+    c.self.view_is c.reserve.ensures.items c.push.ensures refl c.requires.open c.requires.unused c.requires.free (no_reports _ c.new.ensures.items)
