@@ -1,6 +1,6 @@
 #!/usr/bin/env python3
-"""Sees that each path and link that a page names is there: `docs/links.py` ends with status 1 if one
-is not, and names it.
+"""Sees that each path and link that a page names is there, and each test and run of the gate that LIMITS.md names:
+`docs/links.py` ends with status 1 if one is not, and names it.
 
 A link `[..](path#anchor)` counts from its page, and the anchor is a heading there. A path counts from
 the top of the repository, or from `crates` if it begins with a crate's name: in backquotes any below
@@ -12,6 +12,10 @@ import sys
 from pathlib import Path
 
 TOP = Path(__file__).resolve().parent.parent
+sys.dont_write_bytecode = True
+sys.path.insert(0, str(TOP / ".ci"))
+import growths  # noqa: E402
+
 TOPS = ("crates", "docs", "examples", "bench", ".ci")
 FOLDERS = r"(?:crates|docs|examples|bench|\.ci|rapid\w*/(?:src|specs|proofs|must-fail))"
 QUOTED = re.compile(rf"`(?:\./)?({FOLDERS}/[\w./*-]+?)/?`")
@@ -20,6 +24,7 @@ LINK = re.compile(r"\]\(([^()\s]+)\)")
 NOT_THERE = re.compile(r"/out/|/my_|\bNAME\b")  # built files, and places for names
 TEST = re.compile(r"#\[test\]\s+fn (\w+)\(")
 SHOWN = re.compile(r"`([a-z]\w+)`")
+RUN = re.compile(r"`([a-z]+: [a-z ]+)`")
 BLOCK = re.compile(r"^```.*?^```$", re.M | re.S)
 
 
@@ -44,16 +49,18 @@ def is_there(path):
 
 
 def missing_tests():
-    """What LIMITS.md names as a test and is none."""
+    """What LIMITS.md names as a test or a run and is none."""
     text = [it.read_text() for it in TOP.glob("crates/*_tests/src/**/*.rt")]
     tests = {name for it in text for name in TEST.findall(it)}
+    runs = {it.name for it in growths.runs()}
     rows = [line.split(" | ")[-1] for line in (TOP / "docs/LIMITS.md").read_text().splitlines() if " | " in line]
-    return [name for row in rows for name in SHOWN.findall(row) if name not in tests]
+    missing = [f"the test {name}" for row in rows for name in SHOWN.findall(row) if name not in tests]
+    return missing + [f"the run {name}" for row in rows for name in RUN.findall(row) if name not in runs]
 
 
 def main():
     """Looks through all pages."""
-    bad = [f"docs/LIMITS.md: the test {name} is not there" for name in missing_tests()]
+    bad = [f"docs/LIMITS.md: {name} is not there" for name in missing_tests()]
     tops = [TOP / "README.md", TOP / "bench/README.md", *TOP.glob(".ci/README.md")]
     for page in [*tops, *sorted((TOP / "docs").rglob("*.md"))]:
         text, code = BLOCK.sub("", page.read_text()), "\n".join(BLOCK.findall(page.read_text()))
