@@ -16,9 +16,6 @@ use rapid_world::{Report, World, WorldError, WorldEvent};
 use std::alloc::AllocError;
 use std::marker::Model;
 
-/// How many events a world accepts at most.
-const MOST_EVENTS: usize = 1_000_000;
-
 /// A world, and what turns remember.
 #[derive(Drop)]
 pub(crate) struct Cluster {
@@ -88,7 +85,7 @@ impl Cluster {
         ensures refused { IfErr result (RefusesTurn (turn_refusal self.old)) }
         ensures unchanged { OnErr result (self.new ≡ self.old) }
     {
-        if self.world.accepted() >= MOST_EVENTS {
+        if self.world.accepted() >= World::MOST_EVENTS {
             return Err(WorldError::EventsFull);
         }
         let turn = match self.next_turn() {

@@ -8,7 +8,7 @@ use crate::help::NODE_LINES;
 use crate::words::{DONE, REFUSED, number, with_params};
 use clap::{Arg, ArgAction, ArgMatches, Command};
 use rapid_run::run_node;
-use rapid_service::{NodeFault, NodeOptions, NodeWords, OptionsError, judge};
+use rapid_service::{NodeOptions, NodeWords, OptionsError, RunningFault, judge};
 use std::alloc::{AllocError, Global};
 use std::convert::AsStr;
 use std::io::{Read, Write};
@@ -154,7 +154,7 @@ where
     match run_node(rt, alloc, options, rt, reader, out, err) {
         Ok(()) => DONE,
         Err(fault) => {
-            if fault == NodeFault::NoPort {
+            if fault == RunningFault::NoPort {
                 tell_port(rt, listen, err);
             }
             fault.status()

@@ -26,7 +26,7 @@ use crate::installed::Installed;
 use crate::past::Past;
 use crate::phase::State;
 use crate::shown::Shown;
-use crate::views::{View, Views};
+use crate::views::{ViewWithRings, Views};
 use crate::{Event, NodeFault, Phase};
 use rapid_alerts::{Alert, Kind};
 use rapid_config::{ConfigId, Configuration, Cut, Stamp};
@@ -281,7 +281,12 @@ impl Node {
     }
 
     /// Enters a view from that of a member, by a cut.
-    fn enter(&mut self, before: &MemberState, view: &View, cut: Cut) -> Result<(), AllocError>
+    fn enter(
+        &mut self,
+        before: &MemberState,
+        view: &ViewWithRings,
+        cut: Cut,
+    ) -> Result<(), AllocError>
         ensures me { OnOk result (self.new.me ≡ self.old.me) }
         ensures phase { OnOk result (self.new.phase ≡ step.phase_in view.now self.old.me) }
         ensures installed { OnOk result (self.new.installed ≡ self.old.installed ++ stamp view.now ∷ []) }

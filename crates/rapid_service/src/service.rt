@@ -4,15 +4,15 @@ ghost use Rattle.std.specs.Prelude.{◌≡◌, ◌<◌};
 
 use crate::asking::Asking;
 use crate::edge_text::EdgeState;
-use crate::fault::NodeFault;
+use crate::fault::RunningFault;
 use crate::journal::shorten;
 use crate::note::{Note, Notes};
+use crate::observed_edges::ObservedEdges;
 use crate::part::{MOST_RINGS, Part, PartRound};
 use crate::post::Post;
 use crate::repeats::Repeats;
 use crate::rounds::Rounds;
 use crate::view_text::write_view;
-use crate::watch::Watch;
 use bytes::Bytes;
 use rapid_config::{ConfigId, Configuration, Params};
 use rapid_desk::{Desk, Subscription, Taken};
@@ -54,7 +54,7 @@ pub struct Service<R: Wait + Copy + Drop, P: Post + Drop> {
 #[derive(Drop)]
 struct Present {
     view: View,
-    watch: Watch,
+    watch: ObservedEdges,
     repeats: Repeats,
 }
 
@@ -110,7 +110,7 @@ impl<R: Wait + Copy + Drop, P: Post + Drop> Service<R, P> {
         me: Process,
         mut desk: Desk<R>,
         post: P,
-    ) -> Result<Service<R, P>, NodeFault> {
+    ) -> Result<Service<R, P>, RunningFault> {
         let changes = desk.subscribe(CHANGES)?;
         Ok(Service {
             rt,
@@ -136,16 +136,16 @@ impl<R: Wait + Copy + Drop, P: Post + Drop> Service<R, P> {
         params: Params,
         me: Process,
         post: P,
-    ) -> Result<Service<R, P>, NodeFault> {
+    ) -> Result<Service<R, P>, RunningFault> {
         let Ok(configuration) = Configuration::seed(alloc, params, &[me]) else {
-            return Err(NodeFault::OutOfMemory);
+            return Err(RunningFault::OutOfMemory);
         };
         if !configuration.is_member(&me) {
-            return Err(NodeFault::Halted);
+            return Err(RunningFault::Halted);
         }
         // The only reason why a first view is not published is that there is no memory for it.
         let Ok(desk) = Desk::seed(rt, alloc, &configuration, me, 1) else {
-            return Err(NodeFault::OutOfMemory);
+            return Err(RunningFault::OutOfMemory);
         };
         let mut service = Service::at(rt, alloc, me, desk, post)?;
         service.enter(View::new(configuration))?;
@@ -159,7 +159,7 @@ impl<R: Wait + Copy + Drop, P: Post + Drop> Service<R, P> {
         me: Process,
         seed: Endpoint,
         post: P,
-    ) -> Result<Service<R, P>, NodeFault> {
+    ) -> Result<Service<R, P>, RunningFault> {
         let desk = Desk::joiner(rt, alloc, me, seed, 1)?;
         let mut service = Service::at(rt, alloc, me, desk, post)?;
         service.asking = Some(Asking::new(seed));
@@ -167,7 +167,7 @@ impl<R: Wait + Copy + Drop, P: Post + Drop> Service<R, P> {
     }
 
     /// A tick of the node; whether a round of probes is due after it, as after every tenth.
-    pub fn tick(&mut self) -> Result<bool, NodeFault> {
+    pub fn tick(&mut self) -> Result<bool, RunningFault> {
         self.step(Event::Tick)?;
         self.count_tick();
         self.note_question();
@@ -176,7 +176,7 @@ impl<R: Wait + Copy + Drop, P: Post + Drop> Service<R, P> {
 
     /// The parts of the probes in the current view, as many as are asked for: once for each view,
     /// after it was entered.
-    pub fn take_parts(&mut self, parts: u8) -> Result<Option<Vec<Part>>, NodeFault> {
+    pub fn take_parts(&mut self, parts: u8) -> Result<Option<Vec<Part>>, RunningFault> {
         match &mut self.present {
             Some(present) => present.watch.take_parts(parts),
             None => Ok(None),
@@ -185,7 +185,7 @@ impl<R: Wait + Copy + Drop, P: Post + Drop> Service<R, P> {
 
     /// A round of a part was made: its edges that went down are given to the node, and its probes
     /// go out.
-    pub fn hand_on(&mut self, round: &PartRound) -> Result<(), NodeFault> {
+    pub fn hand_on(&mut self, round: &PartRound) -> Result<(), RunningFault> {
         self.hand_down(round.id, &round.downs)?;
         let frame = frame_of(self.alloc, &probe_of(self.me, round.id))?;
         probe_all(&self.rt, &mut self.post, &round.probes, &frame)?;
@@ -202,7 +202,7 @@ impl<R: Wait + Copy + Drop, P: Post + Drop> Service<R, P> {
 
     /// A message has come. It is dropped if it repeats one that came before in the current view and
     /// changes nothing: a step would only take room in the journal of the desk.
-    pub fn receive(&mut self, message: Message) -> Result<(), NodeFault> {
+    pub fn receive(&mut self, message: Message) -> Result<(), RunningFault> {
         if let Body::Reply(joiner, reply) = message.body() {
             self.hear(joiner, reply);
         }
@@ -267,7 +267,7 @@ impl<R: Wait + Copy + Drop, P: Post + Drop> Service<R, P> {
     }
 
     /// One event at the desk: what is sent goes out, and a new view is entered.
-    fn step(&mut self, event: Event) -> Result<(), NodeFault> {
+    fn step(&mut self, event: Event) -> Result<(), RunningFault> {
         let sent = self.at_desk(event)?;
         // before a new view is entered: the other members are those of the view of the step
         for output in sent.as_slice() {
@@ -279,14 +279,14 @@ impl<R: Wait + Copy + Drop, P: Post + Drop> Service<R, P> {
     /// One event at the desk, whose journal is begun anew before if it is long. If the desk does
     /// not go on, its subscribers learn it: they get what was put for them, and then that it is
     /// closed.
-    fn at_desk(&mut self, event: Event) -> Result<Outputs, NodeFault> {
+    fn at_desk(&mut self, event: Event) -> Result<Outputs, RunningFault> {
         // a journal for which there is no memory now grows on, and the next step tries again
         let _ = shorten(&mut self.desk);
         match self.desk.step(event) {
             Ok(sent) => Ok(sent),
             Err(error) => {
                 self.desk.close();
-                Err(NodeFault::from(error))
+                Err(RunningFault::from(error))
             }
         }
     }
@@ -318,18 +318,18 @@ impl<R: Wait + Copy + Drop, P: Post + Drop> Service<R, P> {
     }
 
     /// Enters the view that the desk has published, if there is a new one.
-    fn follow(&mut self) -> Result<(), NodeFault> {
+    fn follow(&mut self) -> Result<(), RunningFault> {
         match self.changes.take(&self.rt) {
             Taken::Change(view) => self.enter(view),
             Taken::Empty => Ok(()),
             // each change is taken at once, so the queue is never full: a lost one found no memory
-            Taken::Lagged | Taken::Closed => Err(NodeFault::OutOfMemory),
+            Taken::Lagged | Taken::Closed => Err(RunningFault::OutOfMemory),
         }
     }
 
     /// Enters a view: its line is printed, and probes begin anew. A view without the node is its
     /// last.
-    fn enter(&mut self, view: View) -> Result<(), NodeFault> {
+    fn enter(&mut self, view: View) -> Result<(), RunningFault> {
         write_view(view.configuration(), &mut self.lines)?;
         let watch = self.watch(view.configuration())?;
         let repeats = Repeats::new(self.alloc, view.configuration())?;
@@ -351,10 +351,10 @@ impl<R: Wait + Copy + Drop, P: Post + Drop> Service<R, P> {
 
     /// The probes of the members that are observed in a view. The rings are made of those of the
     /// view before: keys are computed of newcomers only.
-    fn watch(&self, configuration: &Configuration) -> Result<Watch, AllocError> {
+    fn watch(&self, configuration: &Configuration) -> Result<ObservedEdges, AllocError> {
         match &self.present {
             Some(present) => present.watch.next(configuration),
-            None => Watch::new(self.alloc, configuration, &self.me),
+            None => ObservedEdges::new(self.alloc, configuration, &self.me),
         }
     }
 
@@ -363,7 +363,7 @@ impl<R: Wait + Copy + Drop, P: Post + Drop> Service<R, P> {
         &mut self,
         id: ConfigId,
         downs: &[Option<Process>; MOST_RINGS],
-    ) -> Result<(), NodeFault> {
+    ) -> Result<(), RunningFault> {
         for ring in 0..MOST_RINGS {
             if let Some(subject) = downs[ring] {
                 self.step(Event::EdgeDown(id, ring as u8, subject))?;

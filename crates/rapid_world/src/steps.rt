@@ -21,9 +21,6 @@ use rapid_node::Event;
 use rapid_wire::read_frame;
 use std::alloc::AllocError;
 
-/// How many events a world accepts at most.
-const MOST_EVENTS: usize = 1_000_000;
-
 impl World {
     /// The place of the node that runs under an identifier.
     pub(crate) fn running_under(&self, id: &ProcessId) -> Option<usize>
@@ -212,7 +209,7 @@ impl World {
         ensures refused { IfErr result (Refuses (event_refusal self.old (event_of event.now))) }
         ensures unchanged { OnErr result (self.new ≡ self.old) }
     {
-        if self.accepted() >= MOST_EVENTS {
+        if self.accepted() >= World::MOST_EVENTS {
             return Err(WorldError::EventsFull);
         }
         match *event {
