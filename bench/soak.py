@@ -16,6 +16,7 @@ import resource
 import signal
 import sys
 import time
+import traceback
 from pathlib import Path
 
 sys.dont_write_bytecode = True  # no folder of compiled scripts beside these
@@ -290,6 +291,9 @@ def attempt(given, name, scenario):
         said = f"ok: {scenario(cluster)}"
     except Failed as failure:
         said = f"failed: {failure}"
+    except Exception as fault:  # the scenarios after it run nevertheless
+        traceback.print_exc()
+        said = f"failed by a fault of this script: {fault!r}"
     finally:
         cluster.end()
     seconds = time.monotonic() - cluster.began

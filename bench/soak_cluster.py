@@ -106,6 +106,14 @@ class Fake:
             stream.close()
 
 
+def prepare(limit):
+    """In a process that becomes a node: no signal is ignored, as `nohup` and `&` have it, and so many descriptors."""
+    for number in (signal.SIGHUP, signal.SIGINT, signal.SIGTERM):
+        signal.signal(number, signal.SIG_DFL)
+    if limit:
+        resource.setrlimit(resource.RLIMIT_NOFILE, (limit, limit))
+
+
 class Node:
     """A node that was started, and what it printed."""
 
@@ -113,11 +121,9 @@ class Node:
         words = words + ["node", "--listen", f"{HOST}:{port}", "--tick-ms", str(tick_ms)]
         words += ["--id", str(uuid.UUID(bytes=identifier))]
         words += [] if seed is None else ["--join", f"{HOST}:{seed.port}"]
-        most = (limit, limit)
         self.popen = subprocess.Popen(
             words, stdin=subprocess.PIPE, stdout=subprocess.PIPE, stderr=subprocess.PIPE,
-            start_new_session=True, bufsize=0,
-            preexec_fn=limit and (lambda: resource.setrlimit(resource.RLIMIT_NOFILE, most)))
+            start_new_session=True, bufsize=0, preexec_fn=lambda: prepare(limit))
         for pipe in (self.popen.stdin, self.popen.stdout, self.popen.stderr):
             os.set_blocking(pipe.fileno(), False)
         self.port, self.seed, self.process = port, seed, process(identifier, port)
@@ -208,7 +214,7 @@ class Cluster:
         self.given, self.random = given, random.Random(given.seed)
         self.tick, self.began, self.port = given.tick_ms / 1000, time.monotonic(), given.first_port
         self.nodes, self.views, self.judged, self.fakes, self.held = [], {}, 0, [], []
-        self.causes, self.expelled, self.load = {}, collections.Counter(), []
+        self.causes, self.expelled, self.came, self.load = {}, collections.Counter(), [], []
 
     def draw(self):
         """A fresh identifier."""
@@ -255,6 +261,10 @@ class Cluster:
         while self.judged + 1 in self.views:
             self.judged += 1
             self.judge(self.judged)
+        for height, node in self.came:
+            if height <= self.judged and not node.may_end and self.cause(node.name) == "killed":
+                del self.causes[node.name]  # that was for the process before it, which is judged by now
+        self.came = [it for it in self.came if it[0] > self.judged]
         for fake in self.fakes:
             fake.drain()
         time.sleep(0.01)
@@ -265,8 +275,8 @@ class Cluster:
         place = [it[0] for it in node.views].index(height)
         if place and node.views[place - 1][0] != height - 1:
             raise Failed(f"{node.name} went from height {node.views[place - 1][0]} to {height}")
-        if node.name in members and not node.may_end and self.cause(node.name) == "killed":
-            del self.causes[node.name]  # that was for the process before it
+        if node.name in members:
+            self.came.append((height, node))
 
     def note_end(self, node, ended):
         node.gone = ended is not None

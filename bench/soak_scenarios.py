@@ -274,7 +274,8 @@ def joiners_in_vain(it):
     nodes[3].popen.send_signal(signal.SIGCONT)
     it.until(nodes[3].is_out, 20, "it has not learnt that it was removed")
     nobody = it.fake()
-    nobody.listener.close()
+    it.fakes.remove(nobody)
+    nobody.close()
     used = nodes[1].process[:16]
     asked = [(nobody, None, "none"), (None, None, "none"), (nodes[3], None, "none"), (nodes[4], None, "none"),
              (nodes[0], used, "a member has its identifier")]
@@ -412,14 +413,23 @@ def fault_ends_process(it):
 
 
 def is_taken(port):
-    """Whether a connection leads from this port to itself."""
+    """Whether a connection leads from this port to itself, or did so within the last minute."""
     place = f"0100007F:{port:04X}"
     return any(line.split()[1:3] == [place] * 2 for line in Path("/proc/net/tcp").read_text().splitlines())
 
 
+def is_free(port):
+    """Whether a node could listen at this port; it would set SO_REUSEADDR, as this does."""
+    try:
+        socket.create_server((HOST, port)).close()
+        return True
+    except OSError:
+        return False
+
+
 def self_connect(it):
-    """Joiners at a port at which nothing listens ask, so that a node connects there again and again."""
-    node = it.form(1)[0]
+    """Joiners at a port where nothing listens ask, so that a node connects there ever again: the port stays free."""
+    node, met = it.form(1)[0], 0
     with socket.create_server((HOST, 0)) as free:
         port = free.getsockname()[1] & ~1
     for count in range(0, ANSWERS, 100):
@@ -427,8 +437,11 @@ def self_connect(it):
         node.send([b"".join(frame(PRE_JOIN, process(it.draw(), port)) for _ in range(100))])
         it.rest(0.02)
         if is_taken(port):
-            raise Failed(f"after {count} answers port {port} is connected to itself, and so taken")
-    return f"{ANSWERS} answers to port {port}; {keeps(it, [node], 0)}"
+            met += 1
+            it.rest(0.1)
+            if not is_free(port):
+                raise Failed(f"after {count} answers port {port} was connected to itself, and none can listen there")
+    return f"{ANSWERS} answers to port {port}, {met} times seen connected to itself; {keeps(it, [node], 0)}"
 
 
 def foreign_sender(it):

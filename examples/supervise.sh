@@ -23,6 +23,8 @@ done
 [ -n "$endpoint" ] || refuse "--listen ENDPOINT is missing"
 [[ " $* " == *" --join"[\ =]* ]] || refuse "--join ENDPOINT is missing"
 
+export MALLOC_ARENA_MAX=${MALLOC_ARENA_MAX:-1}  # a node's threads share one heap of glibc, which wastes less
+
 room=$(mktemp -d)
 mkfifo "$room/in"
 exec 3<>"$room/in"              # the node's input, which stays open
