@@ -1,11 +1,12 @@
 """Refuses each allocation in turn: of the program over each of examples/, over worked inputs, in a cluster of threads
-and in nodes, and of each test whose name has out_of_memory and that is built, by ./check all, since only proved tests
-are. refuse.c, loaded before the C library, refuses the one whose number is in REFUSE.
+and in nodes, and of each test whose name has out_of_memory and that is built: ./check builds those of rapid_slow_tests,
+./check all the others too, since only proved tests are. refuse.c, loaded before the C library, refuses the one whose
+number is in REFUSE.
 
-A test then passes, or ends by an error that says so. The program writes what it writes otherwise, or a beginning of
-that and ends with status 3, or says in a line's place that it was refused for memory; what its nodes then print as
-installed is still one sequence, of which each has a stretch. A task fails too if none of its runs wrote a line that
-some run has to write."""
+A test then passes, or ends by an error that says so. The program writes what it has to write, which is given with its
+input, or a beginning of that and ends with status 3, or says in a line's place that it was refused for memory; what its
+nodes then print as installed is still one sequence, of which each has a stretch. A task fails too if the run in which
+nothing is refused wrote otherwise, or if none of its runs wrote a line that some run has to write."""
 import itertools
 import os
 import re
@@ -28,21 +29,39 @@ INSTALLED = re.compile(rb"^node ([0-9]+) (?:removed at )?height ([0-9]+)(?: memb
 REPORT = re.compile(rb"events [0-9]+\n(node [0-9]+ (joining|height [0-9]+ members [0-9 ]+)\n)*agree yes\n")
 SECONDS = 60  # what one run may take
 RUNS = 4000  # at most this many allocations of a program's run are refused, evenly spread
-NODE_RUNS = 250  # and of a node, since it takes half a second to end
 LANES = 4  # into how many parts the runs of one program are dealt
 SIM_WAYS = (b"\nrefused OutOfMemory\n", b" halted\n")  # each has to be written by some run of sim
 CLUSTER_WAYS = (b"\nnode 3 joining\n",)  # and this by some run of cluster, since a clerk or a node did less
+# of each command the inputs by their names, and what is to be written for them; a slash ends a line
 INPUTS = {
     "detect": {
-        "two subjects": "watermarks 4 3 2/edge 0 1 5/edge 1 2 5/edge 2 3 5/edge 3 4 5/edge 0 1 6/edge 1 2 6/edge 2 5 6/"
-        "edge 3 5 6/remove 0 1 5/remove 1 2 5/remove 2 3 5/remove 0 1 6/remove 1 2 6/batch/",
+        "two subjects": (
+            "watermarks 4 3 2/edge 0 1 5/edge 1 2 5/edge 2 3 5/edge 3 4 5/edge 0 1 6/edge 1 2 6/edge 2 5 6/edge 3 5 6/"
+            "remove 0 1 5/remove 1 2 5/remove 2 3 5/remove 0 1 6/remove 1 2 6/batch/",
+            "cut 5 6/",
+        ),
     },
     "sim": {
-        "a join": "params 3 3 1/found 1/start 2 2 1/tick 2/flow/deliver 3/deliver 4/deliver 5/tick 1/flow/packets/",
-        "a recovery": "params 3 3 1/found 1 2 3/crash 3/lose 3/tick 1/tick 2/flow/tick 1 20/flow/",
+        "a join": (
+            "params 3 3 1/found 1/start 2 2 1/tick 2/flow/deliver 3/deliver 4/deliver 5/tick 1/flow/packets/",
+            "node 1 height 0 members 1/node 1 height 1 members 1 2/node 2 height 1 members 1 2/packets 6/",
+        ),
+        "a recovery": (
+            "params 3 3 1/found 1 2 3/crash 3/lose 3/tick 1/tick 2/flow/tick 1 20/flow/",
+            "node 1 height 0 members 1 2 3/node 2 height 0 members 1 2 3/node 3 height 0 members 1 2 3/"
+            "node 2 height 1 members 1 2/node 1 height 1 members 1 2/",
+        ),
+        "a leave": (
+            "params 3 3 1/found 1 2/leave 2/flow/tick 1/flow/packets/",
+            "node 1 height 0 members 1 2/node 2 height 0 members 1 2/node 2 removed at height 1/"
+            "node 1 height 1 members 1/packets 6/",
+        ),
     },
 }
 CLUSTER = ["cluster", "--nodes", "3", "--workers", "2", "--turns", "20"]
+CLUSTER_REPORT = b"".join([
+    b"events 42\n", *(b"node %d height 1 members 1 2 3\n" % number for number in (1, 2, 3)), b"agree yes\n"
+])
 
 
 class Task(NamedTuple):
@@ -52,6 +71,7 @@ class Task(NamedTuple):
     words: list | Callable  # of a program, or a call that runs it
     given: bytes  # its input
     judge: Callable  # why a run is bad
+    whole: bytes | None = None  # what it has to write if nothing is refused
     most: int = 10**9  # at most so many allocations are refused, evenly spread
     lanes: int = LANES  # how many runs go side by side
     ways: tuple = ()  # what some of the runs have to write
@@ -127,6 +147,8 @@ def refuse_each(task, whole, lane, room):
     ran, count = whole
     stride, missing, refused = max(1, count // task.most), set(task.ways), 0
     why = task.judge(ran, ran, False)
+    if not why and task.whole not in (None, ran.stdout):
+        why = f"it wrote otherwise than it has to: {ran.stdout[-300:]}"
     if why:
         return 0, f"{why} (none was to be refused)", missing
     for number in itertools.count(1 + lane * stride, task.lanes * stride):
@@ -148,6 +170,9 @@ def outcome(task, lanes):
 
 def tests():
     """The tests of which each allocation is refused. They may take a port, so no two runs of one go side by side."""
+    for name in tree.NATIVE:
+        if not (tree.TOP / f"crates/{name}/out/{name}_tests").is_file():
+            tree.note(f"refused growths of {name}: PASSED OVER, since it is not built: ./check builds it")
     for program in sorted(tree.TOP.glob("crates/*/out/*_tests_tests")):
         listed = subprocess.run([program, "--list"], capture_output=True, text=True, check=True).stdout
         for name in (line.partition(": ")[0] for line in listed.splitlines()):
@@ -158,17 +183,16 @@ def tests():
 def runs():
     """The runs of the program."""
     for given in sorted(tree.TOP.glob("examples/*/*.txt")):
-        words = [PROGRAM, given.parent.name]
-        yield Task(f"{words[1]} < {given.name}", words, given.read_bytes(), judge_program, RUNS)
+        words, whole = [PROGRAM, given.parent.name], given.with_suffix(".out").read_bytes()
+        yield Task(f"{words[1]} < {given.name}", words, given.read_bytes(), judge_program, whole, RUNS)
     for command, inputs in INPUTS.items():
-        for name, lines in inputs.items():
-            given = lines.replace("/", "\n").encode()
+        for name, texts in inputs.items():
+            given, whole = (it.replace("/", "\n").encode() for it in texts)
             ways = SIM_WAYS if command == "sim" else ()
-            yield Task(f"{command}: {name}", [PROGRAM, command], given, judge_program, ways=ways)
-    yield Task("cluster: three nodes", [PROGRAM, *CLUSTER], b"", judge_cluster, RUNS, ways=CLUSTER_WAYS)
-    yield Task("node: a founder alone", nodes.Alone(PROGRAM), b"", judge_program, NODE_RUNS)
-    yield Task("node: a founder of two", nodes.Pair(PROGRAM, 0), b"", judge_program, NODE_RUNS)
-    yield Task("node: a joiner", nodes.Pair(PROGRAM, 1), b"", judge_program, NODE_RUNS)
+            yield Task(f"{command}: {name}", [PROGRAM, command], given, judge_program, whole, ways=ways)
+    yield Task("cluster: three nodes", [PROGRAM, *CLUSTER], b"", judge_cluster, CLUSTER_REPORT, RUNS, ways=CLUSTER_WAYS)
+    for name, node in nodes.runs(PROGRAM).items():
+        yield Task(f"node: {name}", node, b"", judge_program, node.whole, RUNS)
 
 
 def growths():

@@ -1,5 +1,6 @@
 """Runs of nodes in which one has an allocation refused: a founder alone, or the founder or the joiner of a cluster of
-two, of which the other one has ample memory. Each run has an address of its own, so that runs go side by side."""
+two, which the joiner leaves again, and of which the other one has ample memory. Each run has an address of its own, so
+that runs go side by side."""
 import subprocess
 import tempfile
 import time
@@ -8,12 +9,14 @@ from contextlib import ExitStack
 PORTS = 7461, 7462  # of the founder and of the joiner
 RINGS = ["--k", "3", "--h", "3", "--l", "1"]
 TICKS = ["--tick-ms", "10"]
-LINES = b"tick 3\nview\nquit\n"  # of a founder alone
+LINES = b"tick 3\nleave\nview\nquit\n"  # of a founder alone, who has no observer to tell that it leaves
 LOOK = 0.005  # seconds between two looks at what a node printed
+AGAIN = 0.5  # seconds until the joiner is told once more to leave, since what it says may be lost
 PATIENCE = 20  # seconds for a node to print what it prints
 HOST = "127.0.0.1"  # what every run's address is called in what it printed
 BOTH = f"height 1 members {HOST}:{PORTS[0]} {HOST}:{PORTS[1]}\n".encode()
 FIRST = f"height 0 members {HOST}:{PORTS[0]}\n".encode()
+LAST = f"height 2 members {HOST}:{PORTS[0]}\n".encode()
 
 
 def address(network, number):
@@ -27,11 +30,9 @@ def words_of(program, host, place):
     return [program, "node", *listen, *RINGS, *(["--join", f"{host}:{PORTS[0]}"] if place else [])]
 
 
-def judged(ran, host, whole, number):
-    """The run with its address named as that of all runs. One in which nothing is refused has to print the whole."""
+def renamed(ran, host):
+    """The run with its address named as that of all runs."""
     ran.stdout = ran.stdout.replace(host.encode(), HOST.encode())
-    if number == 0 and ran.stdout != whole:
-        return subprocess.CompletedProcess(ran.args, -1, ran.stdout, b"not all was printed: " + ran.stdout)
     return ran
 
 
@@ -42,7 +43,7 @@ class Running:
         self.words = words
         self.printed, self.told = (tempfile.NamedTemporaryFile(dir=room) for _ in range(2))
         self.process = subprocess.Popen(
-            words, stdin=subprocess.PIPE, stdout=self.printed, stderr=self.told, cwd=room, env=env
+            words, bufsize=0, stdin=subprocess.PIPE, stdout=self.printed, stderr=self.told, cwd=room, env=env
         )
 
     def __enter__(self):
@@ -55,24 +56,32 @@ class Running:
         self.printed.close()
         self.told.close()
 
-    def wait_for(self, lines):
-        """Waits until it has printed this many lines, or has ended. Says whether it runs."""
-        end = time.monotonic() + PATIENCE
-        while self.process.poll() is None and self.text(self.printed).count(b"\n") < lines and time.monotonic() < end:
+    def wait_for(self, lines, seconds=PATIENCE):
+        """Waits until it has printed this many lines, or has ended. Says whether it runs and has not printed them."""
+        end = time.monotonic() + seconds
+        while (waits := self.process.poll() is None and self.lines() < lines) and time.monotonic() < end:
             time.sleep(LOOK)
-        return self.process.poll() is None
+        return waits
+
+    def lines(self):
+        """How many lines it has printed."""
+        return self.text(self.printed).count(b"\n")
 
     def text(self, file):
         with open(file.name, "rb") as it:
             return it.read()
 
-    def quit(self):
-        """Gives the line that ends it."""
+    def tell(self, line):
+        """Gives it a line, if it has not ended."""
         try:
-            self.process.stdin.write(b"quit\n")
-            self.process.stdin.close()
-        except BrokenPipeError:  # it has ended
+            self.process.stdin.write(line)
+        except BrokenPipeError:
             pass
+
+    def quit(self):
+        """Gives it the line that ends it, and no more."""
+        self.tell(b"quit\n")
+        self.process.stdin.close()
 
     def ended(self, seconds):
         """The run, once it has ended."""
@@ -83,6 +92,8 @@ class Running:
 class Alone:
     """The run of a founder to which nobody comes."""
 
+    whole = FIRST * 2
+
     def __init__(self, program):
         self.program = program
 
@@ -90,39 +101,50 @@ class Alone:
         host = address(8, number)
         words = words_of(self.program, host, 0)
         ran = subprocess.run(words, input=LINES, capture_output=True, timeout=seconds, cwd=room, env=env)
-        return judged(ran, host, FIRST * 2, number)
+        return renamed(ran, host)
 
 
 class Pair:
-    """The run of a founder and a joiner: of the one at this place an allocation is refused."""
+    """The run of a founder and a joiner that leaves again: of the one at this place an allocation is refused."""
 
-    WHOLE = FIRST + BOTH, BOTH
+    WHOLE = FIRST + BOTH + LAST, BOTH + LAST
 
     def __init__(self, program, refused):
-        self.program, self.refused = program, refused
+        self.program, self.refused, self.whole = program, refused, self.WHOLE[refused]
 
     def __call__(self, number, env, room, seconds):
-        """Runs both until the one that is refused has printed the view of both, or has ended. The other one has to
-        end well, with a beginning of what it prints."""
+        """Runs both until the one that is refused has printed all views, or has ended. The other one has to end well,
+        with a beginning of what it prints."""
         host = address(9 + self.refused, number)
         with ExitStack() as stack:
-            nodes = {}
+            nodes = []
             for place in range(2):
                 words = [*words_of(self.program, host, place), *TICKS]
                 node = Running(words, room, env if place == self.refused else None)
-                nodes[place] = stack.enter_context(node)
-                if place == 0 and not node.wait_for(1):
-                    break
-            mine = nodes.get(self.refused)
-            if mine is None:
-                return subprocess.CompletedProcess(words, -1, b"", b"the founder did not begin")
-            mine.wait_for(self.WHOLE[self.refused].count(b"\n"))
-            for node in nodes.values():
+                nodes.append(stack.enter_context(node))
+                if place == 0:
+                    node.wait_for(1)
+            mine, other = nodes[self.refused], nodes[1 - self.refused]
+            self.run_views(mine, nodes[1])
+            for node in nodes:
                 node.quit()
-            ran = mine.ended(seconds)
-            for place, node in nodes.items():
-                other = judged(node.ended(seconds), host, b"", None)
-                if place != self.refused and (other.returncode or not self.WHOLE[place].startswith(other.stdout)):
-                    said = f"the other node ended with {other.returncode}: ".encode() + other.stdout + other.stderr
-                    return subprocess.CompletedProcess(words, -1, b"", said)
-        return judged(ran, host, self.WHOLE[self.refused], number)
+            ran, beside = (renamed(node.ended(seconds), host) for node in (mine, other))
+            if beside.returncode or not self.WHOLE[1 - self.refused].startswith(beside.stdout):
+                said = f"the other node ended with {beside.returncode}: ".encode() + beside.stdout + beside.stderr
+                return subprocess.CompletedProcess(words, -1, b"", said)
+        return ran
+
+    def run_views(self, mine, joiner):
+        """Tells the joiner to leave once both are in, and waits until the refused node has printed all views."""
+        lines = self.whole.count(b"\n")
+        mine.wait_for(lines - 1)
+        end = time.monotonic() + PATIENCE
+        while mine.wait_for(lines, 0) and time.monotonic() < end:
+            joiner.wait_for(1, AGAIN)
+            joiner.tell(b"leave\n")
+            mine.wait_for(lines, AGAIN)
+
+
+def runs(program):
+    """Each run of nodes of which allocations are refused, by its name."""
+    return {"a founder alone": Alone(program), "a founder of two": Pair(program, 0), "a joiner": Pair(program, 1)}

@@ -1,6 +1,7 @@
 #!/bin/bash
 # Starts five nodes on loopback, prints their views, kills one of them, prints the view
-# without it, and stops the others. It ends within half a minute, and leaves nothing behind.
+# without it, lets another leave, and stops the others. It ends within half a minute, and leaves
+# nothing behind.
 # Run it once the program is built: ./check program
 set -u
 top=$(cd "$(dirname "${BASH_SOURCE[0]}")/.." && pwd)
@@ -59,6 +60,12 @@ disown "${pids[4]}"
 kill -9 "${pids[4]}"
 wait_for 4 0 1 2 3 || { echo "the others have not noticed:"; show 0 1 2 3; exit 1; }
 echo "Node 4 was killed. The others' last view, $((($(date +%s%N) - began) / 1000000)) ms later:"
+for number in 0 1 2 3; do echo "node $number: $(tail -n 1 "$room/out.$number")"; done
+
+began=$(date +%s%N)
+echo leave >&"${holds[3]}"
+wait_for 3 0 1 2 3 || { echo "node 3 has not left:"; show 0 1 2 3; exit 1; }
+echo "Node 3 left. The last view, which it printed too, $((($(date +%s%N) - began) / 1000000)) ms later:"
 for number in 0 1 2 3; do echo "node $number: $(tail -n 1 "$room/out.$number")"; done
 
 for number in 0 1 2 3; do echo quit >&"${holds[number]}"; done

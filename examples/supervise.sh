@@ -23,7 +23,8 @@ done
 [ -n "$endpoint" ] || refuse "--listen ENDPOINT is missing"
 [[ " $* " == *" --join"[\ =]* ]] || refuse "--join ENDPOINT is missing"
 
-export MALLOC_ARENA_MAX=${MALLOC_ARENA_MAX:-1}  # a node's threads share one heap of glibc, which wastes less
+# a node's threads share one heap of glibc, and what a long frame took goes back to the system
+export MALLOC_ARENA_MAX=${MALLOC_ARENA_MAX:-1} MALLOC_MMAP_THRESHOLD_=${MALLOC_MMAP_THRESHOLD_:-16384}
 
 room=$(mktemp -d)
 mkfifo "$room/in"

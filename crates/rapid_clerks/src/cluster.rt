@@ -15,9 +15,6 @@ use rapid_endpoint::ProcessId;
 use rapid_world::{Report, World, WorldError, WorldEvent};
 use std::marker::Model;
 
-/// How many events a world accepts at most.
-const MOST_EVENTS: usize = 1_000_000;
-
 /// A world, and what turns remember.
 #[derive(Drop)]
 pub(crate) struct Cluster {
@@ -86,7 +83,7 @@ impl Cluster {
         ensures refused { IfErr result (Refuses (turn_refusal self.old)) }
         ensures unchanged { OnErr result (self.new ≡ self.old) }
     {
-        if self.world.accepted() >= MOST_EVENTS {
+        if self.world.accepted() >= World::MOST_EVENTS {
             return Err(WorldError::EventsFull);
         }
         let Some(turn) = self.next_turn() else {

@@ -102,6 +102,13 @@ fn start_all<
     );
 }
 
+/// How many clerks are started, and how many turns each takes.
+#[derive(Clone, Copy)]
+struct Crew {
+    workers: usize,
+    turns: usize,
+}
+
 /// Starts clerks, each of which takes the number of turns for which the type stands.
 fn run_given<
     L: Ledger + Send + Sync,
@@ -115,18 +122,18 @@ fn run_given<
     book: &Mutex<B>,
     gate: &G,
     share: &mut Share<L>,
-    workers: usize,
-    turns: usize,
+    crew: Crew,
 ) -> Result<Vec<u64>, AllocError>
-    requires given { turns ≡ N.given }
+    requires given { crew.turns ≡ N.given }
     requires every { share.old.parts ≡ L.parts }
-    requires more { workers < share.old.parts }
+    requires more { crew.workers < share.old.parts }
     ensures every { share.new.parts ≡ L.parts }
-    ensures each { IfOk result (λ counts. vec_len counts ≡ workers) }
-    ensures most { IfOk result (λ counts. All (λ count. count ≤ turns) counts.items) }
+    ensures each { IfOk result (λ counts. vec_len counts ≡ crew.workers) }
+    ensures most { IfOk result (λ counts. All (λ count. count ≤ crew.turns) counts.items) }
     ensures raised { IfOk result (λ counts. share.new.amount ≡ share.old.amount + sum counts.items) }
     ensures kept { OnErr result (share.new.amount ≡ share.old.amount) }
 {
+    let Crew { workers, turns } = crew;
     let jobs = vec![in alloc; TurnJob; turns]?;
     let mut counts = Vec::with_capacity(alloc, workers)?;
     let mut places = Vec::with_capacity(alloc, workers)?;
@@ -181,5 +188,6 @@ pub fn run_clerks<
     ensures raised { IfOk result (λ counts. share.new.amount ≡ share.old.amount + sum counts.items) }
     ensures kept { OnErr result (share.new.amount ≡ share.old.amount) }
 {
-    run_given::<L, Brand, B, G, R>(rt, alloc, book, gate, share, workers, turns)
+    let crew = Crew { workers, turns };
+    run_given::<L, Brand, B, G, R>(rt, alloc, book, gate, share, crew)
 }

@@ -1,7 +1,6 @@
 -- What was written, as what a command prints.
-use Rattle.std.proofs.Common.{◌≡◌, ◌*◌, ℕ, List, [], refl, sym, ap, subst, ◌∙◌, Option, Some, None, IfSome, Result, Ok, Err, IfErr, OnOk, OnErr}
+use Rattle.std.proofs.Common.{◌≡◌, ◌*◌, ℕ, List, refl, sym, ap, subst, ◌∙◌, Option, Some, None, IfSome, Result, Ok, Err, IfErr, OnOk, OnErr}
 use Rattle.std.specs.Io.KnownBytes.{Appends}
-use Rattle.std.proofs.KnownBytes.{Appends-nil}
 use Rattle.rapid_model.specs.DetectText.{detect_text}
 use Rattle.rapid_cluster.specs.ClusterText.{IsReport}
 use Rattle.rapid_cluster.specs.Written.{Ended}
@@ -38,14 +37,3 @@ pub cluster_front : {T : Type 0} (r : Result T RunFault) (job : Job) (s : Settin
 cluster_front (Ok x) job s workers turns known a b is w t h = tt
 cluster_front (Err e) job s workers turns known a b is w t h =
     subst (λ j. WroteFront j known a b) (sym is) (e, subst (λ most. Ended s.params s.nodes most a b e) (all_turns s workers turns w t) h)
-
--- Nothing that was written is a beginning.
-pub silent_front : {W : Type 0} (contents : W → Option (List ℕ)) (old new : W) (known : Option (List ℕ)) → new ≡ old → (job : Job) × WroteFront job known (contents old) (contents new)
-silent_front contents old new known e = (Detect, by known)
-  where
-    nothing : Appends (contents old) (contents new) []
-    nothing = subst (λ w. Appends (contents old) (contents w) []) (sym e) (Appends-nil (contents old))
-
-    by : (k : Option (List ℕ)) → WroteFront Detect k (contents old) (contents new)
-    by None = tt
-    by (Some input) = (detect_text input, refl, ([], (detect_text input, refl), nothing))

@@ -1,1 +1,4 @@
+pub mod Asking
 pub mod Fronts
+pub mod Grammars
+pub mod Reading

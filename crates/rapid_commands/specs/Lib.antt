@@ -1,3 +1,5 @@
+pub mod Asked
+pub mod Grammar
 pub mod Jobs
-pub mod Statuses
 pub mod NodeWords
+pub mod Statuses

@@ -17,7 +17,7 @@ pub(crate) const DETECT_LINES: &str = "Lines:
   remove RING OBSERVER SUBJECT   an alert to remove a member, for the next batch
   join RING OBSERVER SUBJECT     an alert to let a joiner in, for the next batch
   batch                          hands the batch to the detector, and prints its cut or none
-Processes are numbers from 1 to 65535. A line that begins with # is passed over.
+Processes are numbers from 1 to 65535. A line that begins with # is ignored.
 
 A line that is refused prints refused NAME and has no effect. The run goes on, and its status stays 0.
 NAME is the first of these that holds:
@@ -41,12 +41,13 @@ pub(crate) const SIM_LINES: &str = "Lines:
   lose N                           four probes of N fail on each ring on which it is observed
   tick N [COUNT]                   the clock of node N ticks
   deliver P                        packet P comes to the node at its endpoint
-  drop P                           packet P is passed over by later flows
+  drop P                           packet P is skipped by later flows
   flow                             delivers packets in order until there are none, or 10,000 were passed
   crash N                          node N stops for good
+  leave N                          node N asks those that observe it to have it removed
   packets                          prints how many packets were sent
 Processes are numbers from 1 to 65535 at 127.0.0.1, packets are numbered from 1 in the order sent, and
-COUNT is 1 to 1000. A line that begins with # is passed over. A view that a node enters prints a line.
+COUNT is 1 to 1000. A line that begins with # is ignored. A view that a node enters prints a line.
 
 A line that is refused prints refused NAME and has no effect; of a repeated event what came before
 stands. The run goes on, and its status stays 0. NAME is one of
@@ -68,7 +69,7 @@ were refused, 3 if memory ran out.";
 /// What `cluster --help` says of what it does.
 pub(crate) const CLUSTER_TURNS: &str =
     "Process 1 is the founder, and the others ask it to let them in. A turn delivers the least packet
-that no turn has delivered or passed over and at whose endpoint a node runs, or if there is none
+that no turn has delivered or skipped and at whose endpoint a node runs, or if there is none
 lets the clock of the next node tick. At the end it prints
   events E                       how many starts and turns there were
   node N height H members ..     for each member; node N joining for one that has no view
@@ -82,8 +83,9 @@ pub(crate) const NODE_LINES: &str = "Lines of standard input:
   tick [COUNT]   the clock ticks so often, 1 to 1000 times
   view           prints the present view, or no view
   edges          prints edge RING ENDPOINT up or down for each edge that the node observes, or edges none
+  leave          asks the cluster to remove the node; once a view without it is printed, quit
   quit           ends the node, as the end of the input does
-A line that begins with # is passed over, and another prints refused BadLine. Each view that the node
+A line that begins with # is ignored, and another prints refused BadLine. Each view that the node
 enters prints
   height H members ENDPOINT ..
 An ENDPOINT is 127.x.x.x:PORT with a port from 1 to 65535, such as 127.0.0.1:7401. K, H and L are those
@@ -99,5 +101,5 @@ SIGTERM, SIGINT and SIGHUP are not caught: each ends the node at once, by the si
 notice it as a crash. The end of standard input ends the node too, so keep it open while it should run.
 
 Status: 0 at the end of the input, after quit and after help, 1 if standard input or output failed or
-the port is not to be had, 2 if the words were refused, 3 if memory ran out, the node has halted or its
+the port cannot be bound, 2 if the words were refused, 3 if memory ran out, the node has halted or its
 journal is full.";

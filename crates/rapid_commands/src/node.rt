@@ -1,6 +1,8 @@
 // The command `node`.
 
-ghost use Rattle.std.specs.Prelude.{◌≡◌, ◌≤◌, true};
+ghost use Rattle.std.specs.Prelude.{◌≡◌, ◌≤◌, true, false, IfOk};
+ghost use Rattle.clap.specs.Words.{rule_of, app_of};
+ghost use Rattle.rapid_commands.specs.Grammar.{text_option, node_words};
 ghost use Rattle.rapid_commands.specs.NodeWords.{NamesNode};
 
 use crate::explain::{note_no_ticks, note_unused, tell_params, tell_port, tell_texts};
@@ -8,7 +10,7 @@ use crate::help::NODE_LINES;
 use crate::words::{DONE, REFUSED, number, with_params};
 use clap::{Arg, ArgAction, ArgMatches, Command};
 use rapid_run::run_node;
-use rapid_service::{NodeFault, NodeOptions, NodeWords, OptionsError, judge};
+use rapid_service::{NodeOptions, NodeWords, OptionsError, RunningFault, judge};
 use std::alloc::{AllocError, Global};
 use std::convert::AsStr;
 use std::io::{Read, Write};
@@ -22,7 +24,10 @@ use std::time::Clock;
 pub(crate) const NODE: &str = "node";
 
 /// An option whose value is a text.
-pub(crate) fn text<'a>(alloc: Global, name: &'a str, kind: &'a str, help: &'a str) -> Arg<'a> {
+pub(crate) fn text<'a>(alloc: Global, name: &'a str, kind: &'a str, help: &'a str) -> Arg<'a>
+    ensures rule { rule_of result ≡ text_option name.entry.now }
+    ensures local { result.global ≡ false }
+{
     Arg::new(alloc, name)
         .long(name)
         .value_name(kind)
@@ -31,7 +36,9 @@ pub(crate) fn text<'a>(alloc: Global, name: &'a str, kind: &'a str, help: &'a st
 }
 
 /// The words that `node` takes.
-pub(crate) fn node<'a>(alloc: Global) -> Result<Command<'a>, AllocError> {
+pub(crate) fn node<'a>(alloc: Global) -> Result<Command<'a>, AllocError>
+    ensures app { IfOk result (λ c. app_of c ≡ node_words) }
+{
     let listen = text(
         alloc,
         "listen",
@@ -154,7 +161,7 @@ where
     match run_node(rt, alloc, options, rt, reader, out, err) {
         Ok(()) => DONE,
         Err(fault) => {
-            if fault == NodeFault::NoPort {
+            if fault == RunningFault::NoPort {
                 tell_port(rt, listen, err);
             }
             fault.status()

@@ -1,9 +1,12 @@
 //! The command line.
 
-ghost use Rattle.std.specs.Prelude.{◌≡◌, ◌≢◌, ◌≤◌, ◌<◌, ◌⊎◌, IfSome, OnOk, OnErr};
-ghost use Rattle.clap.specs.Words.{kind_of};
+ghost use Rattle.std.specs.Prelude.{◌≡◌, ◌≢◌, ◌≤◌, ◌<◌, ◌⊎◌, false, [], map, IfOk, IfErr, IfSome, OnOk, OnErr, Some};
+ghost use Rattle.clap.specs.Words.{kind_of, rule_of, rows_of, app_of, found_of, subcommand_rows_of, subcommand_of, HasKind, fault_of};
 ghost use Rattle.std.specs.IoError.{error_kind};
 ghost use Rattle.std.specs.declared.io.ErrorKind.TheVariants.{OutOfMemory};
+ghost use Rattle.rapid_model.specs.Configuration.{AreParams};
+ghost use Rattle.rapid_commands.specs.Asked.{AsksForHelp, IsAsked, IsHelp, IsInOrder, job_found, number_in, setting_in};
+ghost use Rattle.rapid_commands.specs.Grammar.{cluster_words, grammar, number_option, with_params};
 ghost use Rattle.rapid_commands.specs.Jobs.{CanRun, Wrote, WroteFront};
 ghost use Rattle.rapid_commands.specs.NodeWords.{NamesNode};
 ghost use Rattle.rapid_commands.specs.Statuses.{run_status};
@@ -76,7 +79,10 @@ pub(crate) fn number<'a>(
     least: i64,
     most: i64,
     help: &'a str,
-) -> Arg<'a> {
+) -> Arg<'a>
+    ensures rule { rule_of result ≡ number_option name.entry.now default.entry.now least most }
+    ensures local { result.global ≡ false }
+{
     text(alloc, name, "NUMBER", help)
         .default_value(default)
         .value_parser(ValueParser::signed(least, most))
@@ -86,7 +92,9 @@ pub(crate) fn number<'a>(
 pub(crate) fn with_params<'a>(
     alloc: Global,
     command: Command<'a>,
-) -> Result<Command<'a>, AllocError> {
+) -> Result<Command<'a>, AllocError>
+    ensures app { IfOk result (λ c. app_of c ≡ with_params (app_of command.entry)) }
+{
     let k = number(
         alloc,
         "k",
@@ -115,7 +123,9 @@ pub(crate) fn with_params<'a>(
 }
 
 /// The words that `cluster` takes.
-fn cluster<'a>(alloc: Global) -> Result<Command<'a>, AllocError> {
+fn cluster<'a>(alloc: Global) -> Result<Command<'a>, AllocError>
+    ensures app { IfOk result (λ c. app_of c ≡ cluster_words) }
+{
     let nodes = number(alloc, "nodes", "3", 1, 64, "How many nodes, 1 to 64");
     let workers = number(alloc, "workers", "4", 1, 32, "How many threads, 1 to 32");
     let turns = number(
@@ -136,7 +146,9 @@ fn cluster<'a>(alloc: Global) -> Result<Command<'a>, AllocError> {
 }
 
 /// The words that the program takes.
-fn grammar<'a>(alloc: Global) -> Result<Command<'a>, AllocError> {
+fn grammar<'a>(alloc: Global) -> Result<Command<'a>, AllocError>
+    ensures app { IfOk result (λ c. app_of c ≡ grammar) }
+{
     let detect = Command::new(alloc, "detect")
         .about(
             "Reads who observes whom and alerts from standard input, and prints the cuts that they make",
@@ -244,6 +256,7 @@ fn tell<S: AsStr, O: Write, E: Write>(error: &Error, words: &[S], out: &mut O, e
     ensures refused { kind_of error.now ≢ ErrorKind.OutOfMemory → kind_of error.now ≢ ErrorKind.DisplayHelp
         → kind_of error.now ≢ ErrorKind.DisplayVersion → result ≡ 2 }
     ensures status { result ≤ 3 }
+    ensures asked { result ≤ 1 → IsHelp (kind_of error.now) }
     ensures silent { 1 < result → out.new ≡ out.old }
 {
     match error.kind() {
@@ -275,23 +288,34 @@ pub fn without_words<E: Write>(error: &io::Error, err: &mut E) -> u8
 }
 
 /// What the words ask for.
-fn matches_of<'a, S: AsStr>(alloc: Global, words: &'a [S]) -> Result<ArgMatches<'a>, Error> {
+fn matches_of<'a, S: AsStr>(alloc: Global, words: &'a [S]) -> Result<ArgMatches<'a>, Error>
+    ensures found { IfOk result (λ m. subcommand_rows_of m ≡ subcommand_of grammar (map S.text words.entry.now)) }
+    ensures taken { OnOk result (fault_of grammar (map S.text words.entry.now) ≡ []) }
+    ensures fails { IfErr result (HasKind (fault_of grammar (map S.text words.entry.now))) }
+{
     grammar(alloc)?.try_get_matches_from(words)
 }
 
 /// The number behind an option, if it is a byte.
-fn byte_behind(words: &ArgMatches, option: &str) -> Option<u8> {
+fn byte_behind(words: &ArgMatches, option: &str) -> Option<u8>
+    ensures { IfSome result (λ n. number_in (rows_of (found_of words.now)) option.now ≡ Some n) }
+{
     words.get_one::<u8>(option)
 }
 
 /// The number behind an option, if it has at most 16 bits.
-fn number_behind(words: &ArgMatches, option: &str) -> Option<u16> {
+fn number_behind(words: &ArgMatches, option: &str) -> Option<u16>
+    ensures { IfSome result (λ n. number_in (rows_of (found_of words.now)) option.now ≡ Some n) }
+{
     words.get_one::<u16>(option)
 }
 
 /// The setting of a cluster, if K, H and L are in order.
+#[tactic(auto, using(crate::proofs::Asking::setting_found))]
 fn setting_of(words: &ArgMatches) -> Option<Setting>
     ensures runs { IfSome result (λ setting. setting.workers ≤ 32) }
+    ensures found { IfSome result (λ setting. setting_in (rows_of (found_of words.now)) ≡ Some setting) }
+    ensures in_order { IfSome result (λ setting. AreParams setting.params) }
 {
     let k = byte_behind(words, "k")?;
     let h = byte_behind(words, "h")?;
@@ -312,8 +336,11 @@ fn setting_of(words: &ArgMatches) -> Option<Setting>
 }
 
 /// The command that the words name, if K, H and L are in order.
+#[tactic(auto, using(crate::proofs::Asking::detect_found, crate::proofs::Asking::sim_found, crate::proofs::Asking::cluster_found))]
 fn job_of(words: &ArgMatches) -> Option<Job>
     ensures runs { IfSome result CanRun }
+    ensures named { IfSome result (λ job. job_found (subcommand_rows_of words.now) ≡ Some job) }
+    ensures in_order { IfSome result IsInOrder }
 {
     if words.subcommand_matches("detect").is_some() {
         return Some(Job::Detect);
@@ -368,11 +395,12 @@ where
 }
 
 /// Does what the words ask for, of which the first is the program's name. The answer is the status.
-/// If it is 0, the words name a command, and what the input prints by it was written and nothing
-/// else; or they ask for help or the version, and the input was not read. If it is 1, a beginning
-/// of that was written, or help or the version could not be written. If it is 2, nothing was
-/// written. If it is 3, a beginning of what the input prints by the command was written, or
-/// nothing. What `node` writes is not promised, unless its words are refused.
+/// If it is 0, what the input prints by the command that the words name, with its options, was
+/// written and nothing else; or the words ask for help or the version, and the input was not read.
+/// If it is 1, a beginning of that was written, or help or the version could not be written. If it
+/// is 2, nothing was written. If it is 3, a beginning of what the input prints by the command that
+/// the words name was written, or nothing. What `node` writes is not promised, unless its words are
+/// refused.
 pub fn run_words<T, S, R, O, E>(
     rt: &T,
     alloc: Global,
@@ -393,14 +421,15 @@ where
     O: Write + Send,
     E: Write + Send,
     ensures written { result ≡ 0 → NamesNode S.text words.now ⊎
-        ((job : Job) × Wrote job (R.remaining reader.old) (O.contents out.old) (O.contents out.new)) ⊎
-        (reader.new ≡ reader.old) }
+        ((job : Job) × IsAsked (map S.text words.now) job × Wrote job (R.remaining reader.old) (O.contents out.old) (O.contents out.new)) ⊎
+        ((reader.new ≡ reader.old) × AsksForHelp (map S.text words.now)) }
     ensures failed { result ≡ 1 → NamesNode S.text words.now ⊎
-        ((job : Job) × WroteFront job (R.remaining reader.old) (O.contents out.old) (O.contents out.new)) ⊎
-        (reader.new ≡ reader.old) }
+        ((job : Job) × IsAsked (map S.text words.now) job × WroteFront job (R.remaining reader.old) (O.contents out.old) (O.contents out.new)) ⊎
+        ((reader.new ≡ reader.old) × AsksForHelp (map S.text words.now)) }
     ensures refused { result ≡ 2 → out.new ≡ out.old }
     ensures memory { result ≡ 3 → NamesNode S.text words.now ⊎
-        ((job : Job) × WroteFront job (R.remaining reader.old) (O.contents out.old) (O.contents out.new)) }
+        ((job : Job) × IsAsked (map S.text words.now) job × WroteFront job (R.remaining reader.old) (O.contents out.old) (O.contents out.new)) ⊎
+        (out.new ≡ out.old) }
     ensures status { result ≤ 3 }
 {
     if names_node(words) {

@@ -7,11 +7,12 @@ use Rattle.rapid_model.specs.Configuration.{Configuration, Stamp, stamp, is_memb
 use Rattle.rapid_model.specs.Apply.{apply}
 use Rattle.rapid_model.specs.Joiner.{Joiner}
 use Rattle.rapid_model.specs.Message.{Message, Body, Batch, FastVote, Prepare, Promise, Accept, Accepted, Decision, PreJoin, Reply, JoinRequest, Confirm, Probe, ProbeAck}
-use Rattle.rapid_model.specs.Node.{Node, Decisions, MemberState, Phase, Joining, Member, Removed, Halted, Event, EdgeDown, Tick, Receive, Says, To, Outcome, configuration_of, seed_node, joiner_node, fresh_member}
+use Rattle.rapid_model.specs.Message as message
+use Rattle.rapid_model.specs.Node.{Node, Decisions, MemberState, Phase, Joining, Member, Removed, Halted, Event, EdgeDown, Tick, Receive, Leave, Says, To, Outcome, configuration_of, seed_node, joiner_node, fresh_member}
 use Rattle.rapid_model.specs.Member.{Work, still, after_effects, current_id}
 use Rattle.rapid_model.specs.Tick.{on_tick}
 use Rattle.rapid_model.specs.Receive.{take, is_about, receive_as_member, receive_as_joiner, joins_on, sends, catch_up}
-use Rattle.rapid_model.specs.NodeStep.{step_tick, step_edge_down, step_receive, phase_in, is_history_full, install, put_before, settle_at, settle, node_step}
+use Rattle.rapid_model.specs.NodeStep.{step_tick, step_edge_down, step_receive, step_leave, phase_in, is_history_full, install, put_before, settle_at, settle, node_step}
 use Rattle.rapid_model.specs.Journal.{Entered, node_at, is_kept}
 use Rattle.rapid_desk.specs.Desks.{no_installs_in, JoinsEmpty}
 use Rattle.rapid_desk.proofs.Ticking.{is_kept_event, is_below}
@@ -77,6 +78,7 @@ joined n j PreJoin none = (none, inl refl)
 joined n j (JoinRequest id k) none = (none, inl refl)
 joined n j (Probe id) none = (none, inl refl)
 joined n j (ProbeAck id) none = (none, inl refl)
+joined n j (message.Leave id k) none = (none, inl refl)
 
 goes_tick : (n : Node) → JoinsEmpty n → (p : Phase) → no_installs_in p n.installed → Goes n.installed (step_tick n p)
 goes_tick n h (Joining j) q = (q, inl refl)
@@ -96,11 +98,18 @@ goes_receive n h (Member s) q m = settles n _
 goes_receive n h (Removed c) q m = (h, inl refl)
 goes_receive n h (Halted shown) q m = (h, inl refl)
 
+goes_leave : (n : Node) → JoinsEmpty n → (p : Phase) → Goes n.installed (step_leave n p)
+goes_leave n h (Joining j) = (h, inl refl)
+goes_leave n h (Member s) = settles n _
+goes_leave n h (Removed c) = (h, inl refl)
+goes_leave n h (Halted shown) = (h, inl refl)
+
 pub goes : (n : Node) (e : Event) → JoinsEmpty n → Goes n.installed (node_step n e)
 unfolding node_step
 goes n Tick h = goes_tick n h n.phase h
 goes n (EdgeDown id k p) h = goes_down n h n.phase id k p
 goes n (Receive m) h = goes_receive n h n.phase h m
+goes n Leave h = goes_leave n h n.phase
 
 pub went : (n : Node) (e : Event) (o : Outcome) → JoinsEmpty n → node_step n e ≡ Some o → Went n.installed o.node
 went n e o h is = subst (Goes n.installed) is (goes n e h)
@@ -140,6 +149,7 @@ asked n s is from PreJoin h = absurd (cc)
 asked n s is from (Reply j a) h = absurd (cc)
 asked n s is from (JoinRequest id k) h = absurd (cc)
 asked n s is from (Confirm c) h = absurd (cc)
+asked n s is from (message.Leave id k) h = absurd (cc)
 
 joiner_asked : (n : Node) (j : Joiner) → n.phase ≡ Joining j → (b : Body) → is_kept b ≡ false → (receive_as_joiner n j b).node ≡ n
 unfolding receive_as_joiner
@@ -156,6 +166,7 @@ joiner_asked n j is PreJoin h = absurd (cc)
 joiner_asked n j is (Reply k a) h = absurd (cc)
 joiner_asked n j is (JoinRequest id k) h = absurd (cc)
 joiner_asked n j is (Confirm c) h = absurd (cc)
+joiner_asked n j is (message.Leave id k) h = absurd (cc)
 
 heard : (n : Node) (p : Phase) → n.phase ≡ p → (m : Message) → is_kept m.body ≡ false → Stays n (step_receive n p m)
 heard n (Joining j) is m h = joiner_asked n j is m.body h
@@ -167,6 +178,7 @@ stays : (n : Node) (e : Event) → is_kept_event e ≡ false → Stays n (node_s
 unfolding node_step
 stays n Tick h = absurd (cc)
 stays n (EdgeDown id k p) h = absurd (cc)
+stays n Leave h = absurd (cc)
 stays n (Receive m) h = heard n n.phase refl m h
 
 pub not_kept_stays : (n : Node) (e : Event) (o : Outcome) → is_kept_event e ≡ false → node_step n e ≡ Some o → o.node ≡ n

@@ -2,7 +2,7 @@
 use Rattle.std.proofs.Common.{◌≡◌, ℕ, ◌+◌, ◌≤◌, Bool, true, false, cond, List, [], ◌∷◌, ◌++◌, length, refl, sym, ap, ◌∙◌, subst, arith}
 use Rattle.std.specs.Prelude.{Option, Some, None, nat_lt}
 use Rattle.rapid_model.specs.Configuration.{Configuration, Stamp, stamp}
-use Rattle.rapid_model.specs.Node.{Node, Event, EdgeDown, Tick, Receive, Outcome, Output, configuration_of, has_installed, is_halted, halt}
+use Rattle.rapid_model.specs.Node.{Node, Event, EdgeDown, Tick, Receive, Leave, Outcome, Output, configuration_of, has_installed, is_halted, halt}
 use Rattle.rapid_model.specs.NodeStep.{node_step}
 use Rattle.rapid_model.specs.Process.{Process}
 use Rattle.rapid_model.specs.Journal.{JournalRecord, Entered, node_at, is_kept, with_event, is_full_for}
@@ -25,6 +25,7 @@ added_few j Tick = by (joins j)
     by true = omega arith
     by false = omega arith
 added_few j (EdgeDown id k p) = omega arith
+added_few j Leave = omega arith
 added_few j (Receive m) = by (is_kept m.body)
   where
     by : (b : Bool) → cond b 1 0 ≤ 1

@@ -1,7 +1,7 @@
 -- Journals that grow by an event.
 use Rattle.std.proofs.Common.{◌≡◌, ℕ, zero, suc, ◌+◌, ◌<◌, ◌≤◌, Bool, true, false, cond, List, [], ◌∷◌, ◌++◌, length, refl, sym, ap, ◌∙◌, arith, append_assoc, append-nil, length-append, replicate}
 use Rattle.std.specs.Prelude.{◌-◌, ◌^◌, nat_lt, slice_get, Option, Some, None, Result, Ok, Err, OnOk}
-use Rattle.rapid_model.specs.Node.{Event, EdgeDown, Tick, Receive}
+use Rattle.rapid_model.specs.Node.{Event, EdgeDown, Tick, Receive, Leave}
 use Rattle.rapid_model.specs.Journal.{JournalRecord, Ticks, Other, events_of, journal_events, with_tick, with_event, is_kept}
 use Rattle.rapid_desk.specs.declared.journal.JournalRecord.{JournalRecord as Kept}
 use Rattle.rapid_desk.specs.declared.journal.JournalRecord.TheVariants as kept
@@ -122,10 +122,12 @@ abbrev pub is_kept_event : Event → Bool
 is_kept_event Tick = true
 is_kept_event (EdgeDown id k p) = true
 is_kept_event (Receive m) = is_kept m.body
+is_kept_event Leave = true
 
 pub event_length : (j : List JournalRecord) (e : Event) → length (with_event j e) ≡ length j + added_by j e
 event_length j Tick = tick_length j
 event_length j (EdgeDown id k p) = length-append j (Other (EdgeDown id k p) ∷ [])
+event_length j Leave = length-append j (Other Leave ∷ [])
 event_length j (Receive m) = by (is_kept m.body)
   where
     by : (b : Bool) → length (cond b (j ++ Other (Receive m) ∷ []) j) ≡ length j + cond b 1 0
@@ -135,11 +137,13 @@ event_length j (Receive m) = by (is_kept m.body)
 pub kept_events : (j : List JournalRecord) (e : Event) → is_kept_event e ≡ true → journal_events (with_event j e) ≡ journal_events j ++ e ∷ []
 kept_events j Tick h = ticked_events j
 kept_events j (EdgeDown id k p) h = events_append j (Other (EdgeDown id k p) ∷ [])
+kept_events j Leave h = events_append j (Other Leave ∷ [])
 kept_events j (Receive m) h = ap (λ b. journal_events (cond b (j ++ Other (Receive m) ∷ []) j)) h ∙ events_append j (Other (Receive m) ∷ [])
 
 pub left_out : (j : List JournalRecord) (e : Event) → is_kept_event e ≡ false → with_event j e ≡ j
 left_out j Tick h = cc
 left_out j (EdgeDown id k p) h = cc
+left_out j Leave h = cc
 left_out j (Receive m) h = ap (λ b. cond b (j ++ Other (Receive m) ∷ []) j) h
 
 pub on_ok : {A B : Type 0} {P Q : Type 0} (r : Result A B) → (P → Q) → OnOk r P → OnOk r Q

@@ -1,6 +1,6 @@
 -- The journal that is kept, as the definitions see it.
 use Rattle.std.specs.Prelude.{ℕ, ◌-◌, ◌^◌, Bool, false, List, [], ◌∷◌, map, nat_lt, if◌then◌else◌}
-use Rattle.rapid_model.specs.Node.{Event, EdgeDown, Tick, Receive}
+use Rattle.rapid_model.specs.Node.{Event, EdgeDown, Tick, Receive, Leave}
 use Rattle.rapid_model.specs.Journal as model
 use Rattle.rapid_node.specs.Steps.{event_of}
 use Rattle.rapid_desk.specs.declared.journal.JournalRecord.{JournalRecord}
@@ -27,3 +27,4 @@ abbrev pub added_by : List model.JournalRecord → Event → ℕ
 added_by journal Tick = if joins journal then 0 else 1
 added_by journal (EdgeDown id k p) = 1
 added_by journal (Receive m) = if model.is_kept m.body then 1 else 0
+added_by journal Leave = 1

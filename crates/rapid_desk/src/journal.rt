@@ -47,7 +47,7 @@ pub(crate) fn added(journal: &[JournalRecord], event: &Event) -> usize
 {
     let joined = match event {
         Event::Tick => joins_last(journal),
-        Event::EdgeDown(..) => false,
+        Event::EdgeDown(..) | Event::Leave => false,
         Event::Receive(message) => !is_kept(message.body()),
     };
     if joined { 0 } else { 1 }
@@ -88,6 +88,8 @@ pub(crate) fn add(journal: &mut Vec<JournalRecord>, event: Event) -> Result<(), 
         }
         Event::Tick => push(journal, JournalRecord::Ticks(1)),
         Event::Receive(message) if !is_kept(message.body()) => Ok(()),
-        Event::EdgeDown(..) | Event::Receive(_) => push(journal, JournalRecord::Other(event)),
+        Event::EdgeDown(..) | Event::Receive(_) | Event::Leave => {
+            push(journal, JournalRecord::Other(event))
+        }
     }
 }

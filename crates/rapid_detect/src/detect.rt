@@ -232,7 +232,7 @@ impl Engine for DetectRun {
 
     ghost too_long = { λ state line other later text n h k p. p ∙ long_lines (run_of state) line other later h k };
 
-    ghost speaks = { λ state lines. (text_of_lines (run_of state) lines, 0, refl) };
+    ghost speaks = { λ state lines. (text_of_lines (run_of state) lines, refl) };
 }
 
 /// Reads lines and writes what they print, and nothing else. After a fault a beginning of that is

@@ -10,6 +10,7 @@ ghost use Rattle.rapid_join.specs.Answers.{answered_of};
 ghost use Rattle.rapid_join.specs.Answers.{AnswersObservers};
 
 mod changing;
+mod leaving;
 mod parts;
 mod quiet;
 mod receiving;

@@ -6,7 +6,7 @@ ghost use Rattle.std.specs.Prelude.{◌≤◌, length};
 use crate::numbered::{cut, endpoint, id, process};
 use rapid_config::{Configuration, Params, Stamp};
 use rapid_endpoint::Process;
-use rapid_world::WorldEvent::{Crash, Deliver, Probe, Start, Tick};
+use rapid_world::WorldEvent::{Crash, Deliver, Leave, Probe, Start, Tick};
 use rapid_world::{World, WorldEvent};
 use std::alloc::Global;
 use std::process::Abort;
@@ -118,6 +118,19 @@ fn join(world: &mut World) -> usize {
         .fold(begun, |sum: usize, count| sum.saturating_add(*count))
 }
 
+/// Process 2 of two founders leaves: process 1 observes it, and both vote to take it out. Says how many
+/// events were refused.
+fn leave(world: &mut World) -> usize {
+    let begun = refused(world, &[Leave(id(2))]);
+    let told = flow(world, 1);
+    let next = next_packet(world);
+    let alerted = refused(world, &[Tick(id(1))]);
+    let voted = flow(world, next);
+    [told, alerted, voted]
+        .iter()
+        .fold(begun, |sum: usize, count| sum.saturating_add(*count))
+}
+
 /// Whether a node halted out of memory in an event that the world keeps.
 fn has_halted_node(world: &World) -> bool {
     for number in 0..world.accepted() {
@@ -155,6 +168,18 @@ fn out_of_memory_leaves_one_line_of_a_join(rt: HostRuntime) -> Result<(), Fail> 
     let founders = [process(1)];
     let (mut world, line) = begun(rt.alloc(), &founders, 2)?;
     let refused = join(&mut world);
+    assert_on_one_line(&rt, &world, &line, &[1, 2]);
+    if refused == 0 && !has_halted_node(&world) {
+        assert_at_the_end(&rt, &world, &line, &[1, 2]);
+    }
+    Ok(())
+}
+
+#[test]
+fn out_of_memory_leaves_one_line_of_a_leave(rt: HostRuntime) -> Result<(), Fail> {
+    let founders = [process(1), process(2)];
+    let (mut world, line) = begun(rt.alloc(), &founders, 2)?;
+    let refused = leave(&mut world);
     assert_on_one_line(&rt, &world, &line, &[1, 2]);
     if refused == 0 && !has_halted_node(&world) {
         assert_at_the_end(&rt, &world, &line, &[1, 2]);

@@ -21,6 +21,8 @@ enum Said {
     Vote(u16),
     /// A configuration of this many members.
     Confirm(usize),
+    /// A wish to leave, to an observer on this ring.
+    Leave(u8),
     /// What no node says here.
     Other,
 }
@@ -47,6 +49,10 @@ enum Word {
     JoinRequest,
     /// The batch of the one alert of its observer that the third process joins.
     Joining,
+    /// That it is to leave.
+    Leave,
+    /// The process with this number says that it leaves, on this ring.
+    Leaves(u8, u16),
 }
 
 /// The configuration of a node after a step that has memory.
@@ -83,6 +89,7 @@ fn said_by(body: &Body) -> Said {
         Body::Batch(_, batch) => Said::Batch(batch.alerts().len()),
         Body::FastVote(_, cut) => Said::Vote(only(cut)),
         Body::Confirm(configuration) => Said::Confirm(configuration.members().len()),
+        Body::Leave(_, ring) => Said::Leave(*ring),
         _ => Said::Other,
     }
 }
@@ -195,6 +202,8 @@ fn event(rt: &impl Abort, alloc: Global, node: &Node, word: Word) -> Result<Even
         }
         Word::JoinRequest => heard(3, Body::JoinRequest(shown(rt, node), 0)),
         Word::Joining => batch(rt, alloc, node),
+        Word::Leave => Ok(Event::Leave),
+        Word::Leaves(ring, number) => heard(number, Body::Leave(shown(rt, node), ring)),
     }
 }
 
@@ -368,4 +377,40 @@ const DECISION: [Step; 2] = [
 #[test]
 fn out_of_memory_at_a_decision(rt: HostRuntime) -> Result<(), Fail> {
     lives(&rt, rt.alloc(), (1, 1, 1), &[1], &DECISION)
+}
+
+/// The second of two founders observes the first on each ring, which leaves.
+const LEAVE: [Step; 1] = [Step::Tries(
+    Word::Leave,
+    &[1, 2],
+    Outcome {
+        sent: &[
+            (To::Node(2), Said::Leave(0)),
+            (To::Node(2), Said::Leave(1)),
+            (To::Node(2), Said::Leave(2)),
+        ],
+        height: 0,
+        members: &[1, 2],
+    },
+)];
+
+#[test]
+fn out_of_memory_as_it_leaves(rt: HostRuntime) -> Result<(), Fail> {
+    lives(&rt, rt.alloc(), (3, 3, 1), &[1, 2], &LEAVE)
+}
+
+/// The first of two founders, which observes the second on each ring, hears that it leaves.
+const LEAVES: [Step; 1] = [Step::Tries(
+    Word::Leaves(0, 2),
+    &[1, 2],
+    Outcome {
+        sent: &[],
+        height: 0,
+        members: &[1, 2],
+    },
+)];
+
+#[test]
+fn out_of_memory_as_another_leaves(rt: HostRuntime) -> Result<(), Fail> {
+    lives(&rt, rt.alloc(), (3, 3, 1), &[1, 2], &LEAVES)
 }

@@ -4,7 +4,7 @@ use bytes::Bytes;
 use rapid_config::Params;
 use rapid_endpoint::{Endpoint, ProcessId};
 use rapid_run::run_node;
-use rapid_service::{NodeFault, NodeOptions};
+use rapid_service::{NodeOptions, RunningFault};
 use rapid_transport::{Metered, SenderQueue, receive};
 use rapid_wire::Feed;
 use std::alloc::Global;
@@ -67,7 +67,7 @@ fn ran<R, I, O, E>(
     reader: &mut I,
     writer: &mut O,
     err: &mut E,
-) -> Result<(), NodeFault>
+) -> Result<(), RunningFault>
 where
     R: Net<Listener = TcpListener, Stream = TcpStream>
         + Threads
@@ -80,7 +80,7 @@ where
     E: Write + Send,
 {
     let Ok(params) = Params::new(10, 9, 3) else {
-        return Err(NodeFault::Halted);
+        return Err(RunningFault::Halted);
     };
     let id = [0, 0, 0, 0, 0, 0, 0, 0, 0, 0, 0, 0, 0, 0, 0, 1];
     let asked = NodeOptions {
@@ -94,17 +94,17 @@ where
     run_node(rt, alloc, asked, rt, reader, writer, err)
 }
 
-/// What a founder prints for its lines.
+/// What a founder prints for its lines. It has no observer to tell that it leaves.
 const WHOLE: &[u8] = b"height 0 members 127.0.0.1:7413\nheight 0 members 127.0.0.1:7413\n";
 
 #[test]
 fn out_of_memory_in_a_founder(rt: HostRuntime) -> Result<(), Fail> {
-    let mut input = b"tick 3\nview\nquit\n".as_slice();
+    let mut input = b"tick 3\nleave\nview\nquit\n".as_slice();
     let mut printed = Vec::with_capacity(rt.alloc(), 256)?;
     let mut err = Vec::with_capacity(rt.alloc(), 256)?;
     let ended = ran(&rt, rt.alloc(), 7_413, &mut input, &mut printed, &mut err);
     assert!(rt; WHOLE.starts_with(printed.as_slice()));
-    if ended == Err(NodeFault::OutOfMemory) {
+    if ended == Err(RunningFault::OutOfMemory) {
         assert_eq!(rt; err.as_slice(), b"error: out of memory\n".as_slice());
     }
     ended?;

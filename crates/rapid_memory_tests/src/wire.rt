@@ -76,11 +76,12 @@ fn survives(alloc: Global, body: &Parts) -> Result<bool, Fail> {
     }
 }
 
-const GROWING: [Parts; 4] = [
+const GROWING: [Parts; 5] = [
     (1, &[&ID, &[0, 1], &[3, 1], &TWO]),
     (2, &[&ID, &[0, 2], &TWO, &THREE]),
     (9, &[&TWO, &[1], &ID, &[2], &ONE, &ONE]),
     (11, &[&HEAD, &[0, 2], &ONE, &TWO]),
+    (14, &[&ID, &[2]]),
 ];
 
 /// After a refused growth the feed is as it was: the piece is fed again, and the message comes when

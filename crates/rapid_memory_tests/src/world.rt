@@ -2,7 +2,7 @@
 
 use crate::numbered::{endpoint, id, process};
 use rapid_config::{Configuration, Params};
-use rapid_world::WorldEvent::{Deliver, Start, Tick};
+use rapid_world::WorldEvent::{Deliver, Leave, Start, Tick};
 use rapid_world::{Report, World, WorldError, WorldEvent};
 use std::alloc::Global;
 use std::test::Fail;
@@ -11,6 +11,14 @@ use std::test::Fail;
 fn alone(alloc: Global) -> Result<World, Fail> {
     let params = Params::new(3, 3, 1)?;
     let founders = [process(1)];
+    let _configuration = Configuration::seed(alloc, params, &founders)?;
+    Ok(World::new(alloc, params, &founders)?)
+}
+
+/// A world of the processes 1 and 2, with 3 rings and the marks 3 and 1.
+fn pair(alloc: Global) -> Result<World, Fail> {
+    let params = Params::new(3, 3, 1)?;
+    let founders = [process(1), process(2)];
     let _configuration = Configuration::seed(alloc, params, &founders)?;
     Ok(World::new(alloc, params, &founders)?)
 }
@@ -106,5 +114,21 @@ fn an_event_refused_for_memory_is_taken_again(rt: HostRuntime) -> Result<(), Fai
         }
     }
     assert!(rt; has_halted(&world) || taken == 9 && has_sent_all(&world));
+    Ok(())
+}
+
+/// The node of process 2 tells process 1 on each of three rings that it leaves, or halts. An event that
+/// the world refused for memory is taken when it is given again.
+#[test]
+fn out_of_memory_as_a_node_leaves(rt: HostRuntime) -> Result<(), Fail> {
+    let mut world = pair(rt.alloc())?;
+    let leave = Leave(id(2));
+    assert!(rt; is_accounted_for(&mut world, &leave));
+    if world.accepted() == 0 {
+        assert!(rt; world.packets() == 0);
+        let _reports = world.step(&leave)?;
+    }
+    let told = if has_halted(&world) { 0 } else { 3 };
+    assert_eq!(rt; world.packets(), told);
     Ok(())
 }

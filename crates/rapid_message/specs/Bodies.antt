@@ -11,7 +11,7 @@ use Rattle.rapid_join.specs.Answers.{NamesObservers, answer_of}
 use Rattle.rapid_message.specs.declared.error.MessageError.{MessageError}
 use Rattle.rapid_message.specs.declared.error.MessageError.TheVariants.{OtherObserver, OtherConfiguration, FastBallot, NoObserver}
 use Rattle.rapid_message.specs.declared.message.Body.{Body}
-use Rattle.rapid_message.specs.declared.message.Body.TheVariants.{Batch, FastVote, Prepare, Promise, Accept, Accepted, Decision, PreJoin, Reply, JoinRequest, Confirm, Probe, ProbeAck}
+use Rattle.rapid_message.specs.declared.message.Body.TheVariants.{Batch, FastVote, Prepare, Promise, Accept, Accepted, Decision, PreJoin, Reply, JoinRequest, Confirm, Probe, ProbeAck, Leave}
 
 -- What a message says.
 abbrev pub body_of : Body → model.Body
@@ -28,6 +28,7 @@ body_of (JoinRequest id k) = model.JoinRequest id k
 body_of (Confirm c) = model.Confirm c
 body_of (Probe id) = model.Probe id
 body_of (ProbeAck id) = model.ProbeAck id
+body_of (Leave id k) = model.Leave id k
 
 -- The alert is of this observer and for this configuration.
 abbrev pub IsFrom : Process → ConfigurationId → Alert → Type 0
@@ -49,6 +50,7 @@ CanSay sender (JoinRequest id k) = Unit {0}
 CanSay sender (Confirm c) = Unit {0}
 CanSay sender (Probe id) = Unit {0}
 CanSay sender (ProbeAck id) = Unit {0}
+CanSay sender (Leave id k) = Unit {0}
 
 -- Why the process cannot say this. Not all alerts of a batch are its own, or else not all are for the configuration
 -- that the batch names. It asks, promises or accepts at the fast ballot. A reply Safe names no observer.

@@ -43,6 +43,8 @@ pub enum Body {
     Probe(ConfigId),
     /// The receiver of a probe is there.
     ProbeAck(ConfigId),
+    /// The sender asks its observer on this ring, from 0, to have it removed.
+    Leave(ConfigId, u8),
 }
 
 impl Body {
@@ -66,6 +68,7 @@ impl Body {
             Body::Confirm(configuration) => Body::Confirm(configuration.try_copy(alloc)?),
             Body::Probe(id) => Body::Probe(*id),
             Body::ProbeAck(id) => Body::ProbeAck(*id),
+            Body::Leave(id, ring) => Body::Leave(*id, *ring),
         })
     }
 
@@ -81,7 +84,8 @@ impl Body {
             | Body::Accept(id, _, _)
             | Body::Accepted(id, _, _)
             | Body::Probe(id)
-            | Body::ProbeAck(id) => Some(*id),
+            | Body::ProbeAck(id)
+            | Body::Leave(id, _) => Some(*id),
             Body::Decision(..)
             | Body::PreJoin
             | Body::Reply(..)

@@ -86,6 +86,7 @@ pub(crate) fn check(sender: &Process, body: &Body) -> Result<(), MessageError>
         | Body::JoinRequest(..)
         | Body::Confirm(_)
         | Body::Probe(_)
-        | Body::ProbeAck(_) => Ok(()),
+        | Body::ProbeAck(_)
+        | Body::Leave(..) => Ok(()),
     }
 }

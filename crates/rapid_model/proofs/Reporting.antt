@@ -1,5 +1,5 @@
 -- The reports of a step are those of the node at which its event happens.
-use Rattle.std.proofs.Common.{◌≡◌, ℕ, zero, suc, Bool, true, false, cond, not, ◌&&◌, List, [], ◌∷◌, ◌++◌, map, length, drop, slice_get, slice_set, refl, sym, ap, subst, ◌∙◌, Option, Some, None, arith}
+use Rattle.std.proofs.Common.{◌≡◌, ℕ, zero, suc, Bool, true, false, cond, not, ◌&&◌, List, [], ◌∷◌, ◌++◌, map, length, drop, slice_get, slice_set, refl, sym, ap, subst, ◌∙◌, Option, Some, None, arith, append_assoc}
 use Rattle.std.specs.Prelude.{position, is_some, nat_lt}
 use Rattle.std.proofs.lemmas.List.Quantifiers.{position-Some}
 use Rattle.std.proofs.lemmas.Option.{slice_get-get_or}
@@ -17,11 +17,11 @@ use Rattle.rapid_model.specs.Node as node
 use Rattle.rapid_model.specs.Node.{Node, MemberState, fresh_member, seed_node, Phase, Joining, Member, Removed, Halted, Event, EdgeDown, Receive, Effect, Outcome, configuration_of, has_installed, is_halted, is_halted_phase, halt}
 use Rattle.rapid_model.specs.Member.{Work}
 use Rattle.rapid_model.specs.Receive.{receive_as_joiner, joins_on}
-use Rattle.rapid_model.specs.NodeStep.{node_step, settle, settle_at, step_edge_down, step_tick, step_receive, install, put_before, phase_in, is_history_full}
-use Rattle.rapid_model.specs.World.{World, Peer, Packet, Act, Took, Did, Ticked, Probed, Installed, HasHalted, Crashed, Entry, WorldEvent, Start, Probe, Tick, Deliver, Crash, MarkedEvent, is_running, has_identifier, has_endpoint, running_under, running_at, peer_at, packet, observed}
+use Rattle.rapid_model.specs.NodeStep.{node_step, settle, settle_at, step_edge_down, step_tick, step_receive, step_leave, install, put_before, phase_in, is_history_full}
+use Rattle.rapid_model.specs.World.{World, Peer, Packet, Act, Took, Did, Ticked, Probed, Installed, HasHalted, Crashed, Entry, WorldEvent, Start, Probe, Tick, Deliver, Crash, Leave, MarkedEvent, is_running, has_identifier, has_endpoint, running_under, running_at, peer_at, packet, observed}
 use Rattle.rapid_model.specs.WorldStep.{world_step, entry, install_acts, hands, settled, halted, moved, noted, edges_after, started, probes, crashed, deliver, with_found, with_peer, with_edge, edge_on}
 use Rattle.rapid_model.specs.Refusal.{refusal}
-use Rattle.rapid_model.specs.Run.{WorldReport, ReportInstalled, ReportHalted, report_of_act, reports_of, step_reports}
+use Rattle.rapid_model.specs.Run.{WorldReport, ReportInstalled, ReportHalted, reports_of, step_reports}
 use Rattle.rapid_model.specs.NodeReports.{installed_report, reports_between, receiver, peer_reports, node_reports}
 
 some_is : {A : Type 0} (x y : A) → Some x ≡ Some y → x ≡ y
@@ -94,6 +94,7 @@ joiner_up n j (Reply who a) = refl
 joiner_up n j (JoinRequest id k) = refl
 joiner_up n j (message.Probe id) = refl
 joiner_up n j (message.ProbeAck id) = refl
+joiner_up n j (message.Leave id k) = refl
 
 step_up : (n : Node) (e : Event) (o : Outcome) → is_halted n ≡ false → node_step n e ≡ Some o → is_halted o.node ≡ false
 unfolding node_step
@@ -118,13 +119,24 @@ step_up n (Receive m) o up h = by n.phase up h
     by (Member s) u e = settle_up n _ o e
     by (Removed c) u e = subst (λ (x : Outcome). is_halted x.node ≡ false) (some_is _ o e) up
     by (Halted shown) u e = cc
+step_up n node.Leave o up h = by n.phase up h
+  where
+    by : (ph : Phase) → is_halted_phase ph ≡ false → step_leave n ph ≡ Some o → is_halted o.node ≡ false
+    by (Joining j) u e = subst (λ (x : Outcome). is_halted x.node ≡ false) (some_is _ o e) up
+    by (Member s) u e = settle_up n _ o e
+    by (Removed c) u e = subst (λ (x : Outcome). is_halted x.node ≡ false) (some_is _ o e) up
+    by (Halted shown) u e = cc
 
 -- ---- the node that makes a step
 
--- what is new in the log is these acts of a node, the first of which reports nothing
-new_acts : (log : List Entry) (n : Node) (a : Act) (acts : List Act) → report_of_act n.me a ≡ [] →
-    reports_of (drop (length log) (log ++ map (entry n) (a ∷ acts))) ≡ reports_of (map (entry n) acts)
-new_acts log n a acts quiet = ap reports_of (behind log (map (entry n) (a ∷ acts))) ∙ ap (λ r. r ++ reports_of (map (entry n) acts)) quiet
+-- acts that report nothing, whatever follows
+abbrev AreQuiet : Node → List Act → Type 0
+AreQuiet n before = (acts : List Act) → reports_of (map (entry n) (before ++ acts)) ≡ reports_of (map (entry n) acts)
+
+-- what is new in the log is these acts of a node, the first of which report nothing
+new_acts : (log : List Entry) (n : Node) (before acts : List Act) → AreQuiet n before →
+    reports_of (drop (length log) (log ++ map (entry n) (before ++ acts))) ≡ reports_of (map (entry n) acts)
+new_acts log n before acts quiet = ap reports_of (behind log (map (entry n) (before ++ acts))) ∙ quiet acts
 
 both : (b : Bool) (rs : List WorldReport) → rs ≡ cond b rs rs
 both true rs = refl
@@ -175,34 +187,35 @@ still_tells : (w : World) (i : ℕ) (p : Peer) → slice_get w.peers i ≡ Some 
 still_tells w i p at = ap reports_of (whole w.log) ∙ sym (same_quiet p.node) ∙ sym (ap (peer_reports (Some p)) at)
 
 -- an act that reports nothing, if the node stays
-quiet_tells : (w : World) (i : ℕ) (p : Peer) (a : Act) (q : Peer) → slice_get w.peers i ≡ Some p → q.node ≡ p.node → report_of_act p.node.me a ≡ [] →
+quiet_tells : (w : World) (i : ℕ) (p : Peer) (a : Act) (q : Peer) → slice_get w.peers i ≡ Some p → q.node ≡ p.node → AreQuiet p.node (a ∷ []) →
     Tells w i p (record w { peers = slice_set w.peers i q; log = w.log ++ entry p.node a ∷ [] })
 quiet_tells w i p a q at same quiet =
-    new_acts w.log p.node a [] quiet ∙ sym (same_quiet p.node) ∙ ap (reports_between p.node) (sym same) ∙ sym (put_reports w i p q at)
+    new_acts w.log p.node (a ∷ []) [] quiet ∙ sym (same_quiet p.node) ∙ ap (reports_between p.node) (sym same) ∙ sym (put_reports w i p q at)
 
-halted_tells : (w : World) (i : ℕ) (p : Peer) (es : Monitors) (a : Act) → slice_get w.peers i ≡ Some p → is_halted p.node ≡ false → report_of_act p.node.me a ≡ [] →
-    Tells w i p (halted w i (record p { edges = es }) (a ∷ []))
-halted_tells w i p es a at up quiet =
-    new_acts w.log p.node a (HasHalted ∷ []) quiet ∙ sym (ends_here p.node up) ∙ sym (put_reports w i p (record p { edges = es; node = halt p.node }) at)
+halted_tells : (w : World) (i : ℕ) (p : Peer) (es : Monitors) (before : List Act) → slice_get w.peers i ≡ Some p → is_halted p.node ≡ false → AreQuiet p.node before →
+    Tells w i p (halted w i (record p { edges = es }) before)
+halted_tells w i p es before at up quiet =
+    new_acts w.log p.node before (HasHalted ∷ []) quiet ∙ sym (ends_here p.node up) ∙ sym (put_reports w i p (record p { edges = es; node = halt p.node }) at)
 
-moved_tells : (w : World) (i : ℕ) (p : Peer) (es : Monitors) (a : Act) (o : Outcome) → slice_get w.peers i ≡ Some p → is_halted p.node ≡ false → is_halted o.node ≡ false → report_of_act p.node.me a ≡ [] →
-    Tells w i p (moved w i (record p { edges = es }) (a ∷ []) o)
-moved_tells w i p es a o at up still quiet =
-    new_acts w.log p.node a (map Did o.effects ++ install_acts p.node o.node (configuration_of o.node)) quiet
+moved_tells : (w : World) (i : ℕ) (p : Peer) (es : Monitors) (before : List Act) (o : Outcome) → slice_get w.peers i ≡ Some p → is_halted p.node ≡ false → is_halted o.node ≡ false → AreQuiet p.node before →
+    Tells w i p (moved w i (record p { edges = es }) before o)
+moved_tells w i p es before o at up still quiet =
+    ap (λ acts. reports_of (drop (length w.log) (w.log ++ map (entry p.node) acts))) (append_assoc before (map Did o.effects) (install_acts p.node o.node (configuration_of o.node)))
+    ∙ new_acts w.log p.node before (map Did o.effects ++ install_acts p.node o.node (configuration_of o.node)) quiet
     ∙ did_quiet p.node o.effects (install_acts p.node o.node (configuration_of o.node))
     ∙ installs p.node o.node (configuration_of o.node)
     ∙ sym (goes_on p.node o.node up still)
     ∙ sym (put_reports w i p (record p { node = o.node; edges = edges_after (record p { edges = es }) o.node }) at)
 
-hands_tells : (w : World) (i : ℕ) (p : Peer) (es : Monitors) (a : Act) (e : Event) (halts : Bool) → slice_get w.peers i ≡ Some p → is_halted p.node ≡ false → report_of_act p.node.me a ≡ [] →
-    Tells w i p (hands w i (record p { edges = es }) (a ∷ []) e halts)
+hands_tells : (w : World) (i : ℕ) (p : Peer) (es : Monitors) (before : List Act) (e : Event) (halts : Bool) → slice_get w.peers i ≡ Some p → is_halted p.node ≡ false → AreQuiet p.node before →
+    Tells w i p (hands w i (record p { edges = es }) before e halts)
 unfolding hands
-hands_tells w i p es a e true at up quiet = halted_tells w i p es a at up quiet
-hands_tells w i p es a e false at up quiet = by (node_step p.node e) refl
+hands_tells w i p es before e true at up quiet = halted_tells w i p es before at up quiet
+hands_tells w i p es before e false at up quiet = by (node_step p.node e) refl
   where
-    by : (o : Option Outcome) → node_step p.node e ≡ o → Tells w i p (settled w i (record p { edges = es }) (a ∷ []) o)
-    by None h = halted_tells w i p es a at up quiet
-    by (Some o) h = moved_tells w i p es a o at up (step_up p.node e o up h) quiet
+    by : (o : Option Outcome) → node_step p.node e ≡ o → Tells w i p (settled w i (record p { edges = es }) before o)
+    by None h = halted_tells w i p es before at up quiet
+    by (Some o) h = moved_tells w i p es before o at up (step_up p.node e o up h) quiet
 
 -- ---- each event
 
@@ -237,8 +250,8 @@ probes_tells w i p k ok halts at up (Some x) = by e.is_down
     e = probed (edge_on p.edges k) ok
 
     by : (down : Bool) → Tells w i p (cond down (hands w i (with_edge p k e) (Probed k ok ∷ []) (EdgeDown (configuration_id x.0) k x.1) halts) (noted w i p k ok e))
-    by true = hands_tells w i p (slice_set p.edges k (Some e)) (Probed k ok) (EdgeDown (configuration_id x.0) k x.1) halts at up refl
-    by false = quiet_tells w i p (Probed k ok) (with_edge p k e) at refl refl
+    by true = hands_tells w i p (slice_set p.edges k (Some e)) (Probed k ok ∷ []) (EdgeDown (configuration_id x.0) k x.1) halts at up (λ acts. refl)
+    by false = quiet_tells w i p (Probed k ok) (with_edge p k e) at refl (λ acts. refl)
 
 started_tells : (w v : World) (b : Bool) → v.log ≡ w.log → reports_of (drop (length w.log) (cond b w v).log) ≡ []
 started_tells w v true h = ap reports_of (whole w.log)
@@ -248,7 +261,7 @@ deliver_tells : (w : World) (halts : Bool) (o : Option Packet) → reports_of (d
 deliver_tells w halts None = ap reports_of (whole w.log)
 deliver_tells w halts (Some x) =
     with_tells w (running_at w x.to) (λ i p. hands w i p (Took x.message ∷ []) (Receive x.message) halts)
-    (λ i p e h. hands_tells w i p p.edges (Took x.message) (Receive x.message) halts h (at_up w x.to i p e h) refl)
+    (λ i p e h. hands_tells w i p p.edges (Took x.message ∷ []) (Receive x.message) halts h (at_up w x.to i p e h) (λ acts. refl))
 
 pub nodes_report : (w : World) (m : MarkedEvent) → step_reports w m ≡ node_reports w m
 unfolding world_step
@@ -261,8 +274,11 @@ nodes_report w m = by m.event m.halts
         (λ i p e h. probes_tells w i p k ok halts h (under_up w id i p e h) (observed p k))
     by (Tick id) halts =
         with_tells w (running_under w id) (λ i p. hands w i p (Ticked ∷ []) node.Tick halts)
-        (λ i p e h. hands_tells w i p p.edges Ticked node.Tick halts h (under_up w id i p e h) refl)
+        (λ i p e h. hands_tells w i p p.edges (Ticked ∷ []) node.Tick halts h (under_up w id i p e h) (λ acts. refl))
     by (Deliver k) halts = deliver_tells w halts (packet w k)
     by (Crash id) halts =
         with_tells w (running_under w id) (λ i p. crashed w i p)
-        (λ i p e h. quiet_tells w i p Crashed (record p { crashed = true }) h refl refl)
+        (λ i p e h. quiet_tells w i p Crashed (record p { crashed = true }) h refl (λ acts. refl))
+    by (Leave id) halts =
+        with_tells w (running_under w id) (λ i p. hands w i p [] node.Leave halts)
+        (λ i p e h. hands_tells w i p p.edges [] node.Leave halts h (under_up w id i p e h) (λ acts. refl))

@@ -3,7 +3,7 @@ use Rattle.std.specs.Prelude.{◌≡◌, ℕ, not, ◌&&◌, List, [], ◌∷◌
 use Rattle.rapid_model.specs.Process.{identifier}
 use Rattle.rapid_model.specs.Configuration.{Configuration}
 use Rattle.rapid_model.specs.Node.{Node, configuration_of, has_installed, is_halted}
-use Rattle.rapid_model.specs.World.{World, Peer, Packet, WorldEvent, Start, Probe, Tick, Deliver, Crash, MarkedEvent, running_under, running_at, peer_at, packet}
+use Rattle.rapid_model.specs.World.{World, Peer, Packet, WorldEvent, Start, Probe, Tick, Deliver, Crash, Leave, MarkedEvent, running_under, running_at, peer_at, packet}
 use Rattle.rapid_model.specs.WorldStep.{world_step}
 use Rattle.rapid_model.specs.Run.{WorldReport, ReportInstalled, ReportHalted, step_reports}
 
@@ -31,6 +31,7 @@ place_of w (Probe id k ok) = running_under w id
 place_of w (Tick id) = running_under w id
 place_of w (Deliver k) = receiver w (packet w k)
 place_of w (Crash id) = running_under w id
+place_of w (Leave id) = running_under w id
 
 -- What the peer of a place reports, if there is one.
 abbrev pub peer_reports : Option Peer → Option Peer → List WorldReport

@@ -113,6 +113,10 @@ tick_in [] = None
 abbrev pub crash : Identifier → SimLine
 crash id = Events (world.Crash id) 1
 
+-- A node wants to leave.
+abbrev pub leave : Identifier → SimLine
+leave id = Events (world.Leave id) 1
+
 -- A command that has no words but its name.
 abbrev pub alone : SimLine → List Word → Option SimLine
 alone c [] = Some c
@@ -131,5 +135,6 @@ command_named name ws =
     else if bytes_eq name (codes "drop") then option_map Drop (packet_in ws)
     else if bytes_eq name (codes "flow") then alone Flow ws
     else if bytes_eq name (codes "crash") then option_map crash (identifier_in ws)
+    else if bytes_eq name (codes "leave") then option_map leave (identifier_in ws)
     else if bytes_eq name (codes "packets") then alone Packets ws
     else None

@@ -5,7 +5,7 @@ use Rattle.rapid_model.specs.Process.{Process}
 use Rattle.rapid_model.specs.Node as model
 use Rattle.rapid_model.specs.NodeStep.{node_step}
 use Rattle.rapid_node.specs.declared.event.Event.{Event}
-use Rattle.rapid_node.specs.declared.event.Event.TheVariants.{EdgeDown, Tick, Receive}
+use Rattle.rapid_node.specs.declared.event.Event.TheVariants.{EdgeDown, Tick, Receive, Leave}
 use Rattle.rapid_node.specs.declared.fault.NodeFault.{NodeFault}
 use Rattle.rapid_node.specs.declared.fault.NodeFault.TheVariants.{Halted, OutOfMemory, HistoryFull}
 
@@ -14,6 +14,7 @@ abbrev pub event_of : Event → model.Event
 event_of (EdgeDown id k p) = model.EdgeDown id k p
 event_of Tick = model.Tick
 event_of (Receive m) = model.Receive m
+event_of Leave = model.Leave
 
 -- The number of a fault.
 abbrev pub fault_code : NodeFault → ℕ

@@ -25,7 +25,7 @@ use crate::installed::Installed;
 use crate::past::Past;
 use crate::phase::State;
 use crate::shown::Shown;
-use crate::views::{View, Views};
+use crate::views::{ViewWithRings, Views};
 use crate::{Event, NodeFault, Phase};
 use rapid_alerts::{Alert, Kind};
 use rapid_config::{ConfigId, Configuration, Cut, Stamp};
@@ -266,7 +266,12 @@ impl Node {
     }
 
     /// Enters a view from that of a member, by a cut.
-    fn enter(&mut self, before: &MemberState, view: &View, cut: Cut) -> Result<(), AllocError>
+    fn enter(
+        &mut self,
+        before: &MemberState,
+        view: &ViewWithRings,
+        cut: Cut,
+    ) -> Result<(), AllocError>
         ensures me { OnOk result (self.new.me ≡ self.old.me) }
         ensures phase { OnOk result (self.new.phase ≡ step.phase_in view.now self.old.me) }
         ensures installed { OnOk result (self.new.installed ≡ self.old.installed ++ stamp view.now ∷ []) }
@@ -397,6 +402,23 @@ impl Node {
         Ok(())
     }
 
+    /// A member that is to leave.
+    #[tactic(auto, unfolding(rapid_model::specs::NodeStep::settle))]
+    fn member_leave(
+        &mut self,
+        out: &mut Vec<Output>,
+        member: Box<MemberState>,
+    ) -> Result<(), AllocError>
+        requires me { member.value.me ≡ self.old.me }
+        requires shown { self.old.phase ≡ model.Halted (Some member.value.config) }
+        ensures ok { OnOk result (Continues self.old.me (step.step_leave (in_phase self.old (model.Member member.value)) (model.Member member.value)) self.new out.old.items out.new.items) }
+        ensures unchanged { OnErr result (self.new ≡ self.old) }
+    {
+        member.leave(out)?;
+        self.be_member(member);
+        Ok(())
+    }
+
     /// A tick while it joins.
     #[tactic(auto, using(crate::proofs::Asking::asked))]
     fn joiner_tick(&mut self, out: &mut Vec<Output>, mut joiner: Joiner) -> Result<(), AllocError>
@@ -480,7 +502,8 @@ impl Node {
             | Body::PreJoin
             | Body::JoinRequest(..)
             | Body::Probe(_)
-            | Body::ProbeAck(_) => {
+            | Body::ProbeAck(_)
+            | Body::Leave(..) => {
                 self.be_joining(joiner);
                 Ok(())
             }
@@ -536,7 +559,7 @@ impl Node {
             State::Joining(joiner) => match event {
                 Event::Tick => Ok(self.joiner_tick(out, joiner)?),
                 Event::Receive(message) => Ok(self.joiner_receive(views, out, joiner, message)?),
-                Event::EdgeDown(..) => {
+                Event::EdgeDown(..) | Event::Leave => {
                     self.be_joining(joiner);
                     Ok(())
                 }
@@ -547,10 +570,11 @@ impl Node {
                 Event::EdgeDown(config, ring, subject) => {
                     Ok(self.member_edge_down(member, *config, *ring, subject)?)
                 }
+                Event::Leave => Ok(self.member_leave(out, member)?),
             },
             State::Removed(configuration) => match event {
                 Event::Receive(message) => Ok(self.removed_receive(out, configuration, message)?),
-                Event::Tick | Event::EdgeDown(..) => {
+                Event::Tick | Event::EdgeDown(..) | Event::Leave => {
                     self.be_removed(configuration);
                     Ok(())
                 }
@@ -568,6 +592,7 @@ impl Node {
     {
         match event {
             Event::EdgeDown(..) => true,
+            Event::Leave => false,
             Event::Tick => match &self.state {
                 State::Member(member) => member.has_quiet_tick(),
                 State::Removed(_) => true,

@@ -7,7 +7,7 @@ ghost use Rattle.rapid_model.specs.Node.{Member, fresh_member};
 ghost use Rattle.rapid_model.specs.NodeStep.{phase_in};
 ghost use Rattle.rapid_node.specs.Phases.{phase_of, IsState};
 
-use crate::views::View;
+use crate::views::ViewWithRings;
 use rapid_config::Configuration;
 use rapid_endpoint::Process;
 use rapid_join::Joiner;
@@ -43,7 +43,11 @@ pub(crate) enum State {
 
 impl State {
     /// The state of a founder, a member of the configuration of this view.
-    pub(crate) fn found(alloc: Global, view: &View, me: Process) -> Result<State, AllocError>
+    pub(crate) fn found(
+        alloc: Global,
+        view: &ViewWithRings,
+        me: Process,
+    ) -> Result<State, AllocError>
         requires { is_member view.now me ≡ true }
         ensures phase { IfOk result (λ s. phase_of (Some view.now) s ≡ Member (fresh_member view.now me)) }
         ensures state { IfOk result (IsState me (Some view.now)) }
@@ -55,7 +59,11 @@ impl State {
     }
 
     /// The state of a process that enters a view.
-    pub(crate) fn enter(alloc: Global, view: &View, me: Process) -> Result<State, AllocError>
+    pub(crate) fn enter(
+        alloc: Global,
+        view: &ViewWithRings,
+        me: Process,
+    ) -> Result<State, AllocError>
         ensures phase { IfOk result (λ s. phase_of (Some view.now) s ≡ phase_in view.now me) }
         ensures state { IfOk result (IsState me (Some view.now)) }
     {

@@ -67,12 +67,12 @@ fn apply_cut(
 
 /// A configuration with its rings, both shared.
 #[derive(Debug, Drop)]
-pub(crate) struct View {
+pub(crate) struct ViewWithRings {
     configuration: Arc<Configuration, Global>,
     rings: Arc<Rings, Global>,
 }
 
-impl Model for View {
+impl Model for ViewWithRings {
     ghost use Rattle.std.specs.Prelude.{◌≡◌};
     ghost use Rattle.std.specs.Arc.{arc_value};
     ghost use Rattle.rapid_model.specs.Configuration.{Configuration as ModelConfiguration};
@@ -84,28 +84,28 @@ impl Model for View {
     ghost invariant = { λ v. arc_value v.rings ≡ arc_value v.configuration };
 }
 
-impl View {
+impl ViewWithRings {
     /// The view of a configuration, whose rings are computed.
-    fn of(alloc: Global, configuration: &Configuration) -> Result<View, AllocError>
+    fn of(alloc: Global, configuration: &Configuration) -> Result<ViewWithRings, AllocError>
         ensures { IfOk result (λ view. view ≡ configuration.now) }
     {
         let rings = Arc::new(alloc, Rings::new(alloc, configuration)?)?;
         let configuration = Arc::new(alloc, configuration.try_copy(alloc)?)?;
-        Ok(View {
+        Ok(ViewWithRings {
             configuration,
             rings,
         })
     }
 
     /// The view after a member's by a cut: keys of rings are computed of newcomers only.
-    fn after(alloc: Global, before: &MemberState, cut: &Cut) -> Result<View, AllocError>
+    fn after(alloc: Global, before: &MemberState, cut: &Cut) -> Result<ViewWithRings, AllocError>
         requires { before.now.config.height < 2 ^ 64 - 1 }
         ensures { IfOk result (λ view. view ≡ apply before.now.config cut.now) }
     {
         let next = apply_cut(alloc, before.configuration(), cut)?;
         let rings = Arc::new(alloc, before.rings().next(alloc, &next)?)?;
         let configuration = Arc::new(alloc, next)?;
-        Ok(View {
+        Ok(ViewWithRings {
             configuration,
             rings,
         })
@@ -126,12 +126,12 @@ impl View {
     }
 
     /// The same view, shared.
-    fn share(&self) -> Result<View, AllocError>
+    fn share(&self) -> Result<ViewWithRings, AllocError>
         ensures { IfOk result (λ view. view ≡ self.now) }
     {
         let configuration = Arc::try_clone(&self.configuration)?;
         let rings = Arc::try_clone(&self.rings)?;
-        Ok(View {
+        Ok(ViewWithRings {
             configuration,
             rings,
         })
@@ -142,7 +142,7 @@ impl View {
 #[derive(Debug, Drop)]
 struct Known {
     before: Option<(Configuration, Cut)>,
-    view: View,
+    view: ViewWithRings,
 }
 
 impl Model for Known {
@@ -177,7 +177,7 @@ impl Known {
     }
 
     /// The view, shared.
-    fn share(&self) -> Result<View, AllocError>
+    fn share(&self) -> Result<ViewWithRings, AllocError>
         ensures { IfOk result (λ view. view ≡ self.now) }
     {
         self.view.share()
@@ -218,26 +218,30 @@ impl Views {
     }
 
     /// The view of a configuration.
-    pub(crate) fn of(&mut self, configuration: &Configuration) -> Result<View, AllocError>
+    pub(crate) fn of(&mut self, configuration: &Configuration) -> Result<ViewWithRings, AllocError>
         ensures { IfOk result (λ view. view ≡ configuration.now) }
     {
         if let Some(view) = found(self.known.as_slice(), configuration)? {
             return Ok(view);
         }
-        let view = View::of(self.alloc, configuration)?;
+        let view = ViewWithRings::of(self.alloc, configuration)?;
         self.keep(None, &view)?;
         Ok(view)
     }
 
     /// The view after a member's by a cut.
-    pub(crate) fn after(&mut self, before: &MemberState, cut: &Cut) -> Result<View, AllocError>
+    pub(crate) fn after(
+        &mut self,
+        before: &MemberState,
+        cut: &Cut,
+    ) -> Result<ViewWithRings, AllocError>
         requires { before.now.config.height < 2 ^ 64 - 1 }
         ensures { IfOk result (λ view. view ≡ apply before.now.config cut.now) }
     {
         if let Some(view) = found_after(self.known.as_slice(), before.configuration(), cut)? {
             return Ok(view);
         }
-        let view = View::after(self.alloc, before, cut)?;
+        let view = ViewWithRings::after(self.alloc, before, cut)?;
         let configuration = before.configuration().try_copy(self.alloc)?;
         let cut = cut.try_copy(self.alloc)?;
         self.keep(Some((configuration, cut)), &view)?;
@@ -245,7 +249,11 @@ impl Views {
     }
 
     /// Keeps a view, with what led to it, if any are kept.
-    fn keep(&mut self, before: Option<(Configuration, Cut)>, view: &View) -> Result<(), AllocError>
+    fn keep(
+        &mut self,
+        before: Option<(Configuration, Cut)>,
+        view: &ViewWithRings,
+    ) -> Result<(), AllocError>
         requires { LeadsTo before view.now }
     {
         if self.most == 0 {
@@ -261,7 +269,10 @@ impl Views {
 }
 
 /// The view of a configuration among these.
-fn found(known: &[Known], configuration: &Configuration) -> Result<Option<View>, AllocError>
+fn found(
+    known: &[Known],
+    configuration: &Configuration,
+) -> Result<Option<ViewWithRings>, AllocError>
     ensures { IfOk result (λ found. IfSome found (λ view. view ≡ configuration.now)) }
 {
     for entry in known {
@@ -277,7 +288,7 @@ fn found_after(
     known: &[Known],
     before: &Configuration,
     cut: &Cut,
-) -> Result<Option<View>, AllocError>
+) -> Result<Option<ViewWithRings>, AllocError>
     ensures { IfOk result (λ found. IfSome found (λ view. view ≡ apply before.now cut.now)) }
 {
     for entry in known {

@@ -9,6 +9,7 @@ mod edges;
 mod founding;
 mod join;
 mod kept;
+mod leave;
 mod network;
 mod plays;
 mod probes;

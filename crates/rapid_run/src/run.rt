@@ -3,7 +3,7 @@
 use crate::posts::Posts;
 use crate::threads::{Start, Streams, run_threads, tell};
 use rapid_endpoint::Process;
-use rapid_service::{NodeFault, NodeOptions, Post, Service, Shared, identify};
+use rapid_service::{NodeOptions, Post, RunningFault, Service, Shared, identify};
 use rapid_transport::{ListenError, Peers, SenderEnd};
 use std::alloc::Global;
 use std::io::{Read, Write};
@@ -19,14 +19,14 @@ fn listen<R>(
     rt: &R,
     alloc: Global,
     options: &NodeOptions,
-) -> Result<(Peers, Vec<SenderEnd>), NodeFault>
+) -> Result<(Peers, Vec<SenderEnd>), RunningFault>
 where
     R: Net<Listener = TcpListener, Stream = TcpStream>,
 {
     match Peers::listen(rt, alloc, options.listen) {
         Ok(heard) => Ok(heard),
-        Err(ListenError::NoPort) => Err(NodeFault::NoPort),
-        Err(ListenError::OutOfMemory) => Err(NodeFault::OutOfMemory),
+        Err(ListenError::NoPort) => Err(RunningFault::NoPort),
+        Err(ListenError::OutOfMemory) => Err(RunningFault::OutOfMemory),
     }
 }
 
@@ -37,7 +37,7 @@ fn open<'a, 'b, R: Wait>(
     options: &NodeOptions,
     me: Process,
     peers: &'b Peers,
-) -> Result<Service<&'a R, Posts<'b>>, NodeFault> {
+) -> Result<Service<&'a R, Posts<'b>>, RunningFault> {
     let posts = Posts { peers };
     match options.join {
         None => Service::found(rt, alloc, options.params, me, posts),
@@ -46,9 +46,9 @@ fn open<'a, 'b, R: Wait>(
 }
 
 /// Prints the view with which the node begins, if there is one.
-fn print_first<O: Write>(lines: &[u8], writer: &mut O) -> Result<(), NodeFault> {
+fn print_first<O: Write>(lines: &[u8], writer: &mut O) -> Result<(), RunningFault> {
     if writer.write_all(lines).is_err() || writer.flush().is_err() {
-        return Err(NodeFault::Write);
+        return Err(RunningFault::Write);
     }
     Ok(())
 }
@@ -61,7 +61,7 @@ fn serve<W, R, P, I, O, E>(
     mut service: Service<R, P>,
     streams: Streams<&mut I, &mut O, &mut E>,
     told: &AtomicBool,
-) -> Result<(), NodeFault>
+) -> Result<(), RunningFault>
 where
     W: Net<Listener = TcpListener, Stream = TcpStream> + Threads + Wait + Clock + Sync,
     R: Wait + Copy + Drop + Send + Sync,
@@ -93,7 +93,7 @@ fn run<R, S, I, O, E>(
     source: &S,
     streams: Streams<&mut I, &mut O, &mut E>,
     told: &AtomicBool,
-) -> Result<(), NodeFault>
+) -> Result<(), RunningFault>
 where
     R: Net<Listener = TcpListener, Stream = TcpStream> + Threads + Wait + Clock + Sync,
     S: RandomSource,
@@ -144,7 +144,7 @@ pub fn run_node<R, S, I, O, E>(
     reader: &mut I,
     writer: &mut O,
     err: &mut E,
-) -> Result<(), NodeFault>
+) -> Result<(), RunningFault>
 where
     R: Net<Listener = TcpListener, Stream = TcpStream> + Threads + Wait + Clock + Sync,
     S: RandomSource,

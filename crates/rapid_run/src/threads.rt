@@ -4,7 +4,7 @@ ghost use Rattle.std.specs.Thread.{IsSend, IsSync};
 
 use crate::arrivals::Arrivals;
 use crate::until::Until;
-use rapid_service::{NodeFault, Note, Post, Shared, run_lines, run_prober, run_ticker};
+use rapid_service::{Note, Post, RunningFault, Shared, run_lines, run_prober, run_ticker};
 use rapid_transport::{Peers, SenderEnd};
 use std::alloc::Global;
 use std::io::{Read, Write};
@@ -37,8 +37,15 @@ pub(crate) struct Streams<I: Drop, O: Drop, E: Drop> {
     pub err: E,
 }
 
+/// Where the fault that ends a node is reported, and whether it was.
+#[derive(Drop)]
+struct Reporter<'a, E: Drop> {
+    err: E,
+    told: &'a AtomicBool,
+}
+
 /// Reports a fault by one line.
-pub(crate) fn tell<E: Write>(fault: NodeFault, err: &mut E) {
+pub(crate) fn tell<E: Write>(fault: RunningFault, err: &mut E) {
     let _ = writeln!(err, "error: {fault}");
     let _ = err.flush();
 }
@@ -47,7 +54,7 @@ pub(crate) fn tell<E: Write>(fault: NodeFault, err: &mut E) {
 fn warn<E: Write>(err: &mut E) {
     let _ = writeln!(
         err,
-        "warning: no file descriptor was to be had for a connection: messages are lost"
+        "warning: no file descriptor was left for a connection: messages are lost"
     );
     let _ = err.flush();
 }
@@ -71,7 +78,7 @@ fn print<W: Wait + Clock, R: Wait + Copy + Drop, P: Post + Drop, O: Write + Drop
     let mut writer = Until::new(rt, shared.ending(), writer);
     if !shared.console().print(rt, &mut writer) {
         unwritten.store(true, Ordering::SeqCst);
-        shared.ending().end(rt, Some(NodeFault::Write));
+        shared.ending().end(rt, Some(RunningFault::Write));
     }
 }
 
@@ -128,7 +135,7 @@ fn stop_at_the_end<W: Wait + Clock, R: Wait + Copy + Drop, P: Post + Drop, E: Wr
 
 /// Ends the node because a thread of it could not be started.
 fn give_up<W: Wait, R: Wait + Copy + Drop, P: Post + Drop>(rt: &W, shared: &Shared<R, P>) {
-    shared.ending().end(rt, Some(NodeFault::OutOfMemory));
+    shared.ending().end(rt, Some(RunningFault::OutOfMemory));
 }
 
 /// Lets the node take lines, ticks and messages until it ends. It returns when the threads for that
@@ -139,8 +146,7 @@ fn work<W, R, P, I, E>(
     peers: &Peers,
     shared: &Shared<R, P>,
     reader: I,
-    err: E,
-    told: &AtomicBool,
+    teller: Reporter<'_, E>,
 )
 where
     W: Net<Listener = TcpListener, Stream = TcpStream> + Threads + Wait + Clock + Sync,
@@ -155,6 +161,7 @@ where
         period,
         probers,
     } = start;
+    let Reporter { err, told } = teller;
     thread::scope(
         thread::scope_env(),
         rt,
@@ -198,7 +205,7 @@ pub(crate) fn run_threads<W, R, P, I, O, E>(
     shared: &Shared<R, P>,
     streams: Streams<I, O, E>,
     told: &AtomicBool,
-) -> Result<(), NodeFault>
+) -> Result<(), RunningFault>
 where
     W: Net<Listener = TcpListener, Stream = TcpStream> + Threads + Wait + Clock + Sync,
     R: Wait + Copy + Drop + Send + Sync,
@@ -226,7 +233,7 @@ where
             {
                 return give_up(rt, shared);
             }
-            work(rt, start, peers, shared, reader, err, told);
+            work(rt, start, peers, shared, reader, Reporter { err, told });
             // only now: all threads that print have ended, and what they added is still written
             shared.console().close(rt);
         },
@@ -234,7 +241,7 @@ where
     shared.ending().outcome(rt)?;
     // the node may have ended well, and its last lines were not taken
     if unwritten.load(Ordering::SeqCst) {
-        return Err(NodeFault::Write);
+        return Err(RunningFault::Write);
     }
     Ok(())
 }

@@ -520,7 +520,7 @@ fn a_port_in_use_is_named(rt: HostRuntime) -> Result<(), Fail> {
     assert!(rt; status == 1 && out.is_empty(), "{status}");
     assert!(rt;
         err.as_str()
-            == "error: the port is not to be had\n  --listen 127.0.0.1:7443: Address already in use (os error 98)\n",
+            == "error: the port cannot be bound\n  --listen 127.0.0.1:7443: Address already in use (os error 98)\n",
         "{err}"
     );
     Ok(())

@@ -201,7 +201,7 @@ fn a_node_wants_its_port(rt: HostRuntime) -> io::Result<()> {
     let (status, out, err) = ran(&rt, rt.alloc(), &words, b"view\n");
     assert_eq!(rt; status, 1);
     assert!(rt; out.is_empty());
-    assert!(rt; err.starts_with(b"error: the port is not to be had\n"));
+    assert!(rt; err.starts_with(b"error: the port cannot be bound\n"));
     Ok(())
 }
 

@@ -4,6 +4,7 @@ mod clusters;
 mod consoles;
 mod devices;
 mod ends;
+mod leaving;
 mod notes;
 mod probing;
 mod repeats;

@@ -4,11 +4,11 @@ use Rattle.rapid_safety.proofs.Basics.{filter_map, is_some, min, take, drop, cou
 use Rattle.std.specs.FinSet as set
 use Rattle.std.specs.FinMap as map
 use Rattle.rapid_safety.proofs.Told.{in_drop}
-use Rattle.rapid_safety.proofs.Values.{Process, same_bytes, process_cmp, Cut, Configuration, configuration_id, is_member, AreMembers, Alert, is_well_formed, Kind, Remove, Join, kind_for, kind_fits, Observers, observers_of, observes, Message, AlertItem, Body, Batch, batch_alerts, JoinRequest, item_of}
+use Rattle.rapid_safety.proofs.Values.{Process, same_bytes, process_cmp, Cut, Configuration, configuration_id, is_member, AreMembers, Alert, is_well_formed, Kind, Remove, Join, kind_for, kind_fits, Observers, observers_of, observes, Message, AlertItem, Body, Batch, batch_alerts, JoinRequest, Leave, item_of}
 use Rattle.rapid_safety.proofs.Parts.{Report, report_cmp, Reports, report_of, direct_reports, cut_of, reports, is_unstable, subjects, Detector, empty_detector, is_taken, taken, with_alerts, batch_taken, batch_cut, after_batch, Outbox, raise, is_own, unflushed, HasDownStretch}
 use Rattle.rapid_safety.proofs.Working.{MemberState, fresh_member, Says, current_id, alert_on, clock_moved, age_of, next_ages, unstable_now}
-use Rattle.rapid_safety.proofs.Worlds.{Act, Ticked, World, Entry, Did, MarkedEvent, batch_in, taken_of, alerts_taken, was_unstable, is_tick, IsUnstableThrough, HasCause, IsEchoed, IsJustified, taken_by, result_on, sent, alerts_said, SentAlert, received, run, founded, AlertsJustified}
-use Rattle.rapid_safety.proofs.Atoms.{push, message, taken_in, IsIdle, Atom, marks, ignores, hears_batch, proposes, Lives, enters, does, leaves, IsMark, ticks, atom_me, HasReason, asked_to, went_down, echoes, raises, flushes, AreOwn, lives_own, raise_goes}
+use Rattle.rapid_safety.proofs.Worlds.{Act, Ticked, World, Entry, Did, MarkedEvent, batch_in, taken_of, alerts_taken, was_unstable, is_tick, IsUnstableThrough, HasCause, IsEchoed, IsJustified, taken_by, result_on, results, sent, alerts_said, SentAlert, received, run, founded, AlertsJustified}
+use Rattle.rapid_safety.proofs.Atoms.{push, message, taken_in, IsIdle, Atom, marks, ignores, hears_batch, proposes, Lives, enters, does, leaves, IsMark, ticks, atom_me, HasReason, asked_to, went_down, wants_out, echoes, raises, flushes, AreOwn, lives_own, raise_goes}
 use Rattle.rapid_safety.proofs.Voting.{VoteKept, lives_vote, Said, body_of, said_body, mark_body}
 use Rattle.rapid_safety.proofs.Members.{some_is, of_flat, passes_filter}
 use Rattle.rapid_safety.proofs.Rows.{own_drop, own_first, items_back}
@@ -315,7 +315,8 @@ lives_ages c me _ _ _ _ (leaves acts heard s v a l mark) = ages_quiet acts (Some
 
 -- what causes an alert of a kind, in the acts of me in c
 abbrev pub CauseIn : Configuration → Process → List Act → Alert → Kind → Type 0
-CauseIn c me acts a Remove = HasDownStretch (filter_map (result_on a.ring) acts)
+CauseIn c me acts a Remove =
+    HasDownStretch (filter_map (result_on a.ring) acts) ⊎ In (taken_in me acts) (message a.subject (Leave (configuration_id c) a.ring))
 CauseIn c me acts a Join = In (taken_in me acts) (message a.subject (JoinRequest (configuration_id c) a.ring))
 
 -- in some stretch of acts it was unstable for long
@@ -334,7 +335,9 @@ pub down_more : (xs ys : List Bool) → HasDownStretch xs → HasDownStretch (xs
 down_more xs ys h = (h.0, h.1, h.2 ++ ys, ap (λ l. l ++ ys) h.3 ∙ append_assoc h.0 (h.1 ++ h.2) ys ∙ ap (λ l. h.0 ++ l) (append_assoc h.1 h.2 ys), h.4, h.5)
 
 cause_more : (c : Configuration) (me : Process) (acts more : List Act) (a : Alert) (k : Kind) → CauseIn c me acts a k → CauseIn c me (acts ++ more) a k
-cause_more c me acts more a Remove h = subst HasDownStretch (sym (filter_map-append (result_on a.ring) acts more)) (down_more _ _ h)
+cause_more c me acts more a Remove (inl h) = inl (subst HasDownStretch (sym (filter_map-append (result_on a.ring) acts more)) (down_more _ _ h))
+cause_more c me acts more a Remove (inr h) =
+    inr (subst (λ l. In l (message a.subject (Leave (configuration_id c) a.ring))) (sym (filter_map-append (taken_by me) acts more)) (in_left (taken_in me acts) _ _ h))
 cause_more c me acts more a Join h = subst (λ l. In l (message a.subject (JoinRequest (configuration_id c) a.ring))) (sym (filter_map-append (taken_by me) acts more)) (in_left (taken_in me acts) _ _ h)
 
 echo_more : (c : Configuration) (me : Process) (acts more : List Act) (q : Process) → EchoIn c me acts q → EchoIn c me (acts ++ more) q
@@ -376,7 +379,8 @@ asked_kind c j e = ap (λ b. cond b Remove Join) e
 
 caused : (acts : List Act) (s : MemberState) (a : Alert) → AgesKept acts s → HasReason acts s a → CauseIn s.config s.me acts a a.kind ⊎ EchoIn s.config s.me acts a.subject
 caused acts s _ k (asked_to j n off known) = inl (subst (CauseIn s.config s.me acts (alert_on s j n)) (sym (asked_kind s.config j off)) known)
-caused acts s _ k (went_down id n q h) = inl h
+caused acts s _ k (went_down id n q h) = inl (inl h)
+caused acts s _ k (wants_out q n known) = inl (inr known)
 caused acts s _ k (echoes q n e) =
     let u : Unstable (observers_of s.config) s.me q acts (age_of s.ages q) = k.young q in
     inr (u.before, u.stretch, [], u.splits ∙ ap (λ l. u.before ++ l) (sym (append-nil u.stretch)), subst (λ m. m ≤ count_by is_tick u.stretch) e u.long, u.through)
@@ -451,7 +455,8 @@ of_batch p (Batch id xs) a h = (id, xs, refl, h)
 of_batch p x a h = absurd h
 
 pub cause_here : (w : World) (c : Configuration) (me : Process) (a : Alert) (k : Kind) → a.observer ≡ me → CauseIn c me (acts_at w.log me c) a k → HasCause w c a k
-cause_here w c me a Remove own h = subst (λ p. HasCause w c (record a { observer = p }) Remove) (sym own) h
+cause_here w c me a Remove own (inl h) = inl (subst (λ p. HasDownStretch (results w p c a.ring)) (sym own) h)
+cause_here w c me a Remove own (inr h) = inr (contains_from (received w a.observer c) _ (subst (λ p. In (received w p c) (message a.subject (Leave (configuration_id c) a.ring))) (sym own) h))
 cause_here w c me a Join own h = contains_from (received w a.observer c) _ (subst (λ p. In (received w p c) (record { sender = a.subject; body = Rattle.rapid_model.specs.Message.JoinRequest (configuration_id c) a.ring })) (sym own) h)
 
 -- what is sound is justified

@@ -10,9 +10,9 @@ use Rattle.rapid_safety.proofs.Worlds.{Act, Entry, observed_in, World, Peer, Pac
 use Rattle.rapid_safety.proofs.Parts.{Edge, fresh_edge, edge_after, probed, HasDownStretch, Monitors, edge_at, Joiner}
 use Rattle.rapid_model.proofs.Edges.{down_is_stretch}
 use Rattle.rapid_safety.proofs.Atoms.{taken_in, Lives, marks, ticks, does, lives_me}
-use Rattle.rapid_safety.proofs.Steps.{StandsAt, Comes, by_tick, by_packet, by_probe}
+use Rattle.rapid_safety.proofs.Steps.{StandsAt, Comes, by_tick, by_packet, by_probe, by_wish}
 use Rattle.rapid_safety.proofs.Members.{some_is}
-use Rattle.rapid_safety.proofs.NodeWorks.{Stepped, ticks_step, receive_step, probe_step}
+use Rattle.rapid_safety.proofs.NodeWorks.{Stepped, ticks_step, receive_step, probe_step, leave_step}
 
 -- what happened at p in c
 abbrev pub acts_at : List Entry → Process → Configuration → List Act
@@ -390,6 +390,9 @@ meets w old i _ _ _ s (by_probe p c k q ok at ob down) member =
       windows = λ j. window_after p.edges (acts_at w.log p.node.me s.config) k j ok there.0 there.1 m.windows;
       sees = sees_next s.config p.node.me p.edges k there.0 (probed (edge_on p.edges k) ok) there.1 m.sees;
     }
+meets w old i p _ _ s (by_wish _ at) member =
+    let m = now_member w old i p s at member in
+    record { heard = m.heard; life = m.life; sync = m.sync; fresh = m.fresh; windows = λ k. m.windows k ∙ ap (λ acts. edge_after fresh_edge (results_in k acts)) (sym (append-nil (acts_at w.log p.node.me s.config))); sees = m.sees }
 
 -- what the step makes of the member
 pub comes_steps : (w : World) (old : Lived w) (i : ℕ) (p : Peer) (before : List Act) (e : Event) (s : MemberState) (o : Outcome) → Comes w i p before e → p.node.phase ≡ Member s → node_step p.node e ≡ Some o →
@@ -400,6 +403,9 @@ comes_steps w old i p _ _ s o (by_tick _ at) member h =
 comes_steps w old i p _ _ s o (by_packet _ x at sent to) member h =
     let m = now_member w old i p s at member in
     receive_step s.config p.node (acts_at w.log p.node.me s.config) m.heard s m.life m.sync member x.message o h
+comes_steps w old i p _ _ s o (by_wish _ at) member h =
+    let m = now_member w old i p s at member in
+    leave_step s.config p.node (acts_at w.log p.node.me s.config) m.heard s m.life m.sync member o h
 comes_steps w old i _ _ _ s o (by_probe p c k q ok at ob down) member h =
     let m = now_member w old i p s at member in
     let acts = acts_at w.log p.node.me s.config in
@@ -441,3 +447,6 @@ halts_life w old i _ _ _ s (by_probe p c k q ok at ob down) member =
     let m = now_member w old i p s at member in
     let acts = acts_at w.log p.node.me s.config in
     halts_after s.config p.node.me acts m.heard (Probed k ok) s (does acts m.heard s (Some (Probed k ok)) None s None m.life (marks (Probed k ok) tt))
+halts_life w old i p _ _ s (by_wish _ at) member =
+    let m = now_member w old i p s at member in
+    (m.heard, s, does (acts_at w.log p.node.me s.config) m.heard s (Some HasHalted) None s None m.life (marks HasHalted tt))

@@ -3,14 +3,14 @@ use Rattle.std.proofs.Common.{◌≡◌, ◌≢◌, ◌⊎◌, ◌<◌, ◌+◌,
 use Rattle.rapid_safety.proofs.Basics.{slice_get, nat_lt, list_any, list_all, is_lt, and_parts, or_parts, false_from_ne_true, cond_both, filter_map-append, and-false, same_bytes_decides, In}
 use Rattle.rapid_safety.proofs.Values.{Process, identifier, bytes_cmp, same_bytes, is_in, Cut, Configuration, AreMembers, is_member, identifiers_ascend, apply, Message, Body, Reply, Confirm}
 use Rattle.rapid_safety.proofs.Parts.{fresh_edge, probed, edge_after, Monitors, Joiner, after_tick, asks_at_tick}
-use Rattle.rapid_safety.proofs.Working.{Node, Phase, Joining, Member, Removed, Halted, MemberState, Effect, Outcome, Event, EdgeDown, Receive, member_in, member_config, fresh_member, seed_node, has_installed, halt, receive_as_joiner, joins_on, replied, node_step, step_tick, step_receive, step_edge_down, phase_in, question_to, idle}
+use Rattle.rapid_safety.proofs.Working.{Node, Phase, Joining, Member, Removed, Halted, MemberState, Effect, Outcome, Event, EdgeDown, Receive, member_in, member_config, fresh_member, seed_node, has_installed, halt, receive_as_joiner, joins_on, replied, node_step, step_tick, step_receive, step_edge_down, step_leave, phase_in, question_to, idle}
 use Rattle.rapid_safety.proofs.Worlds.{World, Peer, Act, Probed, Installed, HasHalted, Crashed, Entry, Start, MarkedEvent, observed, observed_in, has_identifier, entry, edge_on, with_edge, edges_after, windows_in, acts_of, noted, halted, moved, crashed, added, started, refusal, run, founded, is_act_in, result_on}
 use Rattle.rapid_model.specs.Node as node
 use Rattle.rapid_safety.proofs.Atoms.{taken_in, message, marks, Lives, enters, does, lives_config}
 use Rattle.rapid_safety.proofs.NodeWorks.{length-push, not_below, below_next, Stepped, goes_on, installs}
 use Rattle.rapid_safety.proofs.Members.{position_in, not_below_itself, some_is, or_right}
 use Rattle.rapid_safety.proofs.Histories.{acts_at, acts_here, acts_elsewhere, here_from, elsewhere, get_push, push_get, Sees, sees_next, windows_fresh, windows_seen, Bare, NodeNow, PastLife, was_not, was, Lived, lived_next, now_same, results_in, no_results, window_after, now_member, results_acts, Met, meets, comes_steps, halts_life}
-use Rattle.rapid_safety.proofs.Steps.{StandsAt, Comes, by_tick, by_packet, by_probe, Steps, stays, starts, notes, stops, moves, ends, run_keeps}
+use Rattle.rapid_safety.proofs.Steps.{StandsAt, Comes, by_tick, by_packet, by_probe, by_wish, Steps, stays, starts, notes, stops, moves, ends, run_keeps}
 
 -- ---- what a step makes of a node that is no member
 
@@ -49,6 +49,7 @@ module _ (n : Node) (j : Joiner) (joining : n.phase ≡ Joining j) where
   unfolding node_step
   joiner_steps (EdgeDown id k p) o h = idles (EdgeDown id k p) o (subst (λ (x : Phase). step_edge_down n x id k p ≡ Some o) joining h)
   joiner_steps node.Tick o h = ticks_on o (subst (λ (x : Phase). step_tick n x ≡ Some o) joining h)
+  joiner_steps node.Leave o h = idles node.Leave o (subst (λ (x : Phase). step_leave n x ≡ Some o) joining h)
   joiner_steps (Receive m) o h = receives m.sender m.body o (subst (λ (x : Phase). step_receive n x m ≡ Some o) joining h)
 
 -- a node that was removed or has halted stays as it is
@@ -61,11 +62,13 @@ pub stays_out_of : (n : Node) (ph : Phase) (e : Event) (o : Outcome) → IsOut p
 unfolding node_step
 stays_out_of n (Removed c) (EdgeDown id k p) o out at h = let g : Some (idle n) ≡ Some o = subst (λ (x : Phase). step_edge_down n x id k p ≡ Some o) at h in cc
 stays_out_of n (Removed c) node.Tick o out at h = let g : Some (idle n) ≡ Some o = subst (λ (x : Phase). step_tick n x ≡ Some o) at h in cc
+stays_out_of n (Removed c) node.Leave o out at h = let g : Some (idle n) ≡ Some o = subst (λ (x : Phase). step_leave n x ≡ Some o) at h in cc
 stays_out_of n (Removed c) (Receive m) o out at h =
     let g = subst (λ (x : Phase). step_receive n x m ≡ Some o) at h in
     ap (λ (x : Outcome). x.node) (sym (some_is g))
 stays_out_of n (Halted c) (EdgeDown id k p) o out at h = let g : Some (idle n) ≡ Some o = subst (λ (x : Phase). step_edge_down n x id k p ≡ Some o) at h in cc
 stays_out_of n (Halted c) node.Tick o out at h = let g : Some (idle n) ≡ Some o = subst (λ (x : Phase). step_tick n x ≡ Some o) at h in cc
+stays_out_of n (Halted c) node.Leave o out at h = let g : Some (idle n) ≡ Some o = subst (λ (x : Phase). step_leave n x ≡ Some o) at h in cc
 stays_out_of n (Halted c) (Receive m) o out at h = let g : Some (idle n) ≡ Some o = subst (λ (x : Phase). step_receive n x m ≡ Some o) at h in cc
 stays_out_of n ph e o out at h = absurd out
 
@@ -131,17 +134,20 @@ lived_come : (w : World) (old : Lived w) (i : ℕ) (p : Peer) (before : List Act
     Lived (record w { peers = Rattle.std.specs.Prelude.slice_set w.peers i q; packets = packets; log = w.log ++ map (entry p.node) xs })
 lived_come w old i p _ _ (by_tick _ at) q same xs packets now past bare = lived_next w old i p q at same xs packets now past bare
 lived_come w old i p _ _ (by_packet _ x at sent to) q same xs packets now past bare = lived_next w old i p q at same xs packets now past bare
+lived_come w old i p _ _ (by_wish _ at) q same xs packets now past bare = lived_next w old i p q at same xs packets now past bare
 lived_come w old i _ _ _ (by_probe p c k s ok at ob down) q same xs packets now past bare = lived_next w old i p q at same xs packets now past bare
 
 come_now : (w : World) (old : Lived w) (i : ℕ) (p : Peer) (before : List Act) (e : Event) (j : Joiner) → Comes w i p before e → p.node.phase ≡ Joining j → NodeNow w.log p.node.me p.edges (Joining j)
 come_now w old i p _ _ j (by_tick _ at) joining = subst (λ (x : Phase). NodeNow w.log p.node.me p.edges x) joining (old.now i p at)
 come_now w old i p _ _ j (by_packet _ x at sent to) joining = subst (λ (x : Phase). NodeNow w.log p.node.me p.edges x) joining (old.now i p at)
+come_now w old i p _ _ j (by_wish _ at) joining = subst (λ (x : Phase). NodeNow w.log p.node.me p.edges x) joining (old.now i p at)
 come_now w old i _ _ _ j (by_probe p c k s ok at ob down) joining =
     let g : ◌≡◌ {A = Option (Configuration × Process)} None (Some (c, s)) = subst (λ (x : Phase). observed_in (member_config x) p.node.me k ≡ Some (c, s)) joining ob in cc
 
 come_bare : (w : World) (old : Lived w) (i : ℕ) (p : Peer) (before : List Act) (e : Event) → Comes w i p before e → Bare p.node
 come_bare w old i p _ _ (by_tick _ at) = old.bare i p at
 come_bare w old i p _ _ (by_packet _ x at sent to) = old.bare i p at
+come_bare w old i p _ _ (by_wish _ at) = old.bare i p at
 come_bare w old i _ _ _ (by_probe p c k s ok at ob down) = old.bare i p at
 
 -- ---- each step

@@ -7,7 +7,7 @@ use Rattle.rapid_safety.proofs.Working.{Output, output_of, outputs, Destination,
 use Rattle.rapid_safety.specs.Packets.{PacketsSent}
 use Rattle.rapid_safety.specs.Received.{ReceivedWereSaid}
 use Rattle.rapid_safety.proofs.Atoms.{message, taken_in}
-use Rattle.rapid_safety.proofs.Steps.{Steps, stays, starts, notes, stops, moves, ends, run_keeps, StandsAt, Comes, by_tick, by_packet, by_probe, log_grows}
+use Rattle.rapid_safety.proofs.Steps.{Steps, stays, starts, notes, stops, moves, ends, run_keeps, StandsAt, Comes, by_tick, by_packet, by_probe, by_wish, log_grows}
 use Rattle.rapid_safety.proofs.Histories.{get_set, get_push, acts_at, of_option, same_configuration_decides}
 use Rattle.rapid_safety.proofs.Members.{of_map, some_is, of_flat}
 
@@ -124,6 +124,7 @@ pub record Moves (w v : World) : Type 0 where
 pub come_stands : (w : World) (i : ℕ) (p : Peer) (before : List Act) (e : Event) → Comes w i p before e → (q : Peer) × (StandsAt w i q) × (q.node ≡ p.node)
 come_stands w i p _ _ (by_tick _ at) = (p, at, refl)
 come_stands w i p _ _ (by_packet _ x at sent to) = (p, at, refl)
+come_stands w i p _ _ (by_wish _ at) = (p, at, refl)
 come_stands w i _ _ _ (by_probe p c k s ok at ob down) = (p, at, refl)
 
 -- the message that comes was said
@@ -131,6 +132,7 @@ pub came_said : (w : World) (i : ℕ) (p : Peer) (before : List Act) (e : Event)
 unfolding PacketsSaid
 came_said w i p _ _ m (by_tick _ at) said is = cc
 came_said w i p _ _ m (by_packet _ x at sent to) said is = let same : x.message ≡ m = cc in subst (λ (z : Message). SaidIn w.log z.sender z.body) same (said x (in_from w.packets x sent))
+came_said w i p _ _ m (by_wish _ at) said is = cc
 came_said w i _ _ _ m (by_probe p c k s ok at ob down) said is = cc
 
 -- ---- the log
@@ -157,6 +159,7 @@ came_new : (w v : World) (i : ℕ) (p : Peer) (before : List Act) (e : Event) (a
 came_new w v i p _ _ a x (by_tick _ at) (inl s) is = quiet i p Ticked at tt (ap (entry p.node) s ∙ is)
 came_new w v i p _ _ a x (by_packet _ y at sent to) (inl s) is = takes i p y at sent (ap (entry p.node) s ∙ is)
 came_new w v i _ _ _ a x (by_probe p c k q ok at ob down) (inl s) is = quiet i p (Probed k ok) at tt (ap (entry p.node) s ∙ is)
+came_new w v i p _ _ a x (by_wish _ at) n is = absurd n
 came_new w v i p _ _ a x (by_tick _ at) (inr n) is = absurd n
 came_new w v i p _ _ a x (by_packet _ y at sent to) (inr n) is = absurd n
 came_new w v i _ _ _ a x (by_probe p c k q ok at ob down) (inr n) is = absurd n

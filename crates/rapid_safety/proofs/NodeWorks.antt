@@ -1,9 +1,9 @@
 -- What each event makes of a member.
 use Rattle.std.proofs.Common.{◌≡◌, ◌+◌, ℕ, Bool, true, false, cond, List, [], ◌∷◌, ◌++◌, map, refl, sym, ap, subst, ◌∙◌, Option, Some, None, append_assoc, length, arith, append-nil, inl}
 use Rattle.rapid_safety.proofs.Basics.{flat_map, nat_lt, filter_map, filter_map-append, map-append, cond_both, In, in_right, in_filter}
-use Rattle.rapid_safety.proofs.Values.{Process, Cut, Configuration, configuration_id, stamp, is_member, apply, Message, Alert, Remove}
+use Rattle.rapid_safety.proofs.Values.{Process, Cut, Configuration, configuration_id, stamp, is_member, apply, Message, Alert, Remove, observers_of, rings}
 use Rattle.rapid_safety.proofs.Parts.{HostAnswer, Nothing, Replies, Confirms, Raises, confirms, HasDownStretch}
-use Rattle.rapid_safety.proofs.Working.{Node, Member, Removed, MemberState, Effect, Outcome, shown_in, configuration_of, fresh_member, Phase, EdgeDown, Tick, Receive, Work, still, raise_alert, answer_to, receive_as_member, last_64, phase_in, is_history_full, install, stays_member, put_before, settle_at, settle, node_step, step_tick, step_receive, step_edge_down, on_tick}
+use Rattle.rapid_safety.proofs.Working.{Node, Member, Removed, MemberState, Effect, Outcome, shown_in, configuration_of, fresh_member, Phase, EdgeDown, Tick, Receive, Leave, Work, sends, leave_to, farewells, still, raise_alert, answer_to, receive_as_member, last_64, phase_in, is_history_full, install, stays_member, put_before, settle_at, settle, node_step, step_tick, step_receive, step_edge_down, step_leave, on_tick}
 use Rattle.rapid_safety.proofs.Worlds.{Act, Did, Installed, Took, Ticked, Probed, install_acts, acts_of, taken_by, result_on}
 use Rattle.rapid_safety.proofs.Atoms.{taken_in, IsMark, Lives, leaves, lives_config, went_down, marks, raises, does, lives_me}
 use Rattle.rapid_safety.proofs.Rows.{own, LivesOn, receive_works, tick_works, rests_still, as_me}
@@ -68,6 +68,50 @@ all_answers_taken me (y ∷ ys) =
     ∙ filter_map-append (taken_by me) (map Did (answer_to y.0 y.1)) (map Did (flat_map (λ x. answer_to x.0 x.1) ys))
     ∙ ap (λ l. l ++ taken_in me (map Did (flat_map (λ x. answer_to x.0 x.1) ys))) (answers_taken me y.0 y.1)
     ∙ all_answers_taken me ys
+
+-- marks of a member that lives on
+marked_all : (c : Configuration) (me : Process) (acts : List Act) (heard : List Message) (s : MemberState) (xs : List Act) → AllMarks xs → Lives c me acts heard s None → Lives c me (acts ++ xs) heard s None
+unfolding AllMarks
+marked_all c me acts heard s [] h l = subst (λ a. Lives c me a heard s None) (sym (append-nil acts)) l
+marked_all c me acts heard s (a ∷ xs) h l =
+    subst (λ a. Lives c me a heard s None) (append_assoc acts (a ∷ []) xs) (marked_all c me (acts ++ a ∷ []) heard s xs h.1 (does acts heard s (Some a) None s None l (marks a h.0)))
+
+-- to say farewell is a mark, by which nothing is taken
+leave_mark : (s : MemberState) (k : ℕ) (o : Option Process) → AllMarks (map Did (leave_to s k o))
+unfolding AllMarks
+leave_mark s k None = tt
+leave_mark s k (Some p) = (tt, tt)
+
+leave_taken : (me : Process) (s : MemberState) (k : ℕ) (o : Option Process) → taken_in me (map Did (leave_to s k o)) ≡ []
+leave_taken me s k None = refl
+leave_taken me s k (Some p) = refl
+
+module _ (s : MemberState) where
+  abbrev leave_on : ℕ → List Effect
+  leave_on k = leave_to s k ((observers_of s.config).observer k s.me)
+
+  leaves_mark : (ks : List ℕ) → AllMarks (map Did (flat_map leave_on ks))
+  unfolding AllMarks
+  leaves_mark [] = tt
+  leaves_mark (k ∷ ks) =
+      subst AllMarks (sym (map-append Did (leave_on k) (flat_map leave_on ks)))
+      (marks_append (map Did (leave_on k)) _ (leave_mark s k ((observers_of s.config).observer k s.me)) (leaves_mark ks))
+
+  leaves_taken : (me : Process) (ks : List ℕ) → taken_in me (map Did (flat_map leave_on ks)) ≡ []
+  leaves_taken me [] = refl
+  leaves_taken me (k ∷ ks) =
+      ap (taken_in me) (map-append Did (leave_on k) (flat_map leave_on ks))
+      ∙ filter_map-append (taken_by me) (map Did (leave_on k)) (map Did (flat_map leave_on ks))
+      ∙ ap (λ l. l ++ taken_in me (map Did (flat_map leave_on ks))) (leave_taken me s k ((observers_of s.config).observer k s.me))
+      ∙ leaves_taken me ks
+
+  farewells_mark : AllMarks (map Did (farewells s))
+  unfolding farewells
+  farewells_mark = leaves_mark (rings (observers_of s.config))
+
+  farewells_taken : (me : Process) → taken_in me (map Did (farewells s)) ≡ []
+  unfolding farewells
+  farewells_taken me = leaves_taken me (rings (observers_of s.config))
 
 pub not_below : (n : ℕ) → nat_lt n n ≡ false
 not_below n = Prim.grind arith
@@ -174,6 +218,17 @@ module _ (c : Configuration) (n : Node) (acts : List Act) (heard : List Message)
       (as_me c n.me (acts ++ Took m ∷ []) heard (m ∷ []) s w mine (receive_works c n.me (acts ++ Took m ∷ []) heard s one n.decisions m.sender m.body known))
       (taken_more (Took m)) o
       (subst (λ (p : Phase). step_receive n p m ≡ Some o) member h)
+
+  pub leave_step : (o : Outcome) → node_step n Leave ≡ Some o → Stepped c acts n (acts_of [] n o) o.node
+  unfolding node_step
+  leave_step o h =
+      let xs : List Effect = farewells s in
+      let now : Lives c n.me (acts ++ []) heard s None = subst (λ a. Lives c n.me a heard s None) (sym (append-nil acts)) l in
+      let said : Lives c n.me ((acts ++ []) ++ map Did xs) heard s None = marked_all c n.me (acts ++ []) heard s (map Did xs) (farewells_mark s) now in
+      let same : heard ≡ heard ++ own n.me xs = sym (append-nil heard) ∙ ap (λ ms. heard ++ ms) (sym (farewells_taken s n.me)) in
+      settled_steps c n acts [] heard [] (sends s xs) (subst (λ h. Lives c n.me ((acts ++ []) ++ map Did xs) h s None) same said)
+      (append-nil heard ∙ sync ∙ ap (taken_in n.me) (sym (append-nil acts))) o
+      (subst (λ (p : Phase). step_leave n p ≡ Some o) member h)
 
   pub probe_step : (id : List ℕ) (k : ℕ) (q : Process) (j : ℕ) (ok : Bool) (o : Outcome) → HasDownStretch (filter_map (result_on k) (acts ++ Probed j ok ∷ [])) → node_step n (EdgeDown id k q) ≡ Some o →
       Stepped c acts n (acts_of (Probed j ok ∷ []) n o) o.node

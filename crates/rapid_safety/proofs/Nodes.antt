@@ -11,7 +11,7 @@ use Rattle.rapid_safety.proofs.NodeWorks.{not_below, Stepped, goes_on, installs,
 use Rattle.rapid_safety.proofs.Histories.{acts_at, Bare, Lived, comes_steps, get_set, get_push}
 use Rattle.rapid_safety.proofs.Lived.{JoinerSteps, joins_still, joins, joiner_steps, stays_out_of, apply_height, get_map, not_theirs}
 use Rattle.rapid_safety.proofs.News.{SaidIn, PacketsSaid, Moves, came_said, come_stands, log_new, new_at}
-use Rattle.rapid_safety.proofs.Steps.{StandsAt, Comes, by_tick, by_packet, by_probe, Steps, stays, starts, notes, stops, moves, ends, log_grows}
+use Rattle.rapid_safety.proofs.Steps.{StandsAt, Comes, by_tick, by_packet, by_probe, by_wish, Steps, stays, starts, notes, stops, moves, ends, log_grows}
 use Rattle.rapid_safety.proofs.Members.{of_map, some_is, Distinct, not_in, founders_differ}
 
 -- the acts of the node in a configuration after the step, if it is a member there
@@ -126,6 +126,7 @@ of_installs (e ∷ log) p c h = by (same_bytes p e.who) refl h (of_installs log 
 come_none : (w : World) (i : ℕ) (p : Peer) (before : List Act) (e : Event) → Comes w i p before e → new_installs before ≡ []
 come_none w i p _ _ (by_tick _ at) = refl
 come_none w i p _ _ (by_packet _ x at sent to) = refl
+come_none w i p _ _ (by_wish _ at) = refl
 come_none w i _ _ _ (by_probe p c k s ok at ob down) = refl
 
 done_none : (es : List Effect) → new_installs (map Did es) ≡ []

@@ -15,7 +15,7 @@ use Rattle.rapid_safety.proofs.Histories.{acts_at, is_here, here_to, acts_here, 
 use Rattle.rapid_safety.proofs.Lived.{lived_founded, lived_kept, lived_run}
 use Rattle.rapid_safety.proofs.Voting.{lives_vote}
 use Rattle.rapid_safety.proofs.Alerts.{lives_detector, detector_taken, batches_of, taken_of-append, formed_all, observers_id, raised_in, justified}
-use Rattle.rapid_safety.proofs.Steps.{Comes, by_tick, by_packet, by_probe, Steps, stays, starts, notes, stops, moves, ends, run_keeps}
+use Rattle.rapid_safety.proofs.Steps.{Comes, by_tick, by_packet, by_probe, by_wish, Steps, stays, starts, notes, stops, moves, ends, run_keeps}
 use Rattle.rapid_safety.proofs.Members.{some_is, member_at, in_is, in_of, or_left, or_right, exists_counted, of_flat, passes_filter}
 use Rattle.rapid_safety.proofs.News.{from_acts, received_were_said}
 use Rattle.rapid_safety.proofs.Speaking.{asides_run}
@@ -89,6 +89,7 @@ quiet_cut w n xs old none c v h =
 quiet_halt : (w : World) (i : ℕ) (p : Peer) (before : List Act) (e : Event) → Comes w i p before e → filter_map proposed_by (before ++ HasHalted ∷ []) ≡ []
 quiet_halt w i p _ _ (by_tick _ at) = refl
 quiet_halt w i p _ _ (by_packet _ x at sent to) = refl
+quiet_halt w i p _ _ (by_wish _ at) = refl
 quiet_halt w i _ _ _ (by_probe p c k s ok at ob down) = refl
 
 move_cut : (w : World) → Lived w → (i : ℕ) (p : Peer) (before : List Act) (e : Event) (o : Outcome) → Comes w i p before e → node_step p.node e ≡ Some o →

@@ -1,9 +1,9 @@
 -- What is told in a run: a Confirm names what its sender installed, and a Decision what its sender left, by its cut.
 use Rattle.std.proofs.Common.{◌≡◌, ◌⊎◌, inl, inr, ℕ, Bool, true, false, cond, not, ◌+◌, ◌==◌, ◌%◌, List, [], ◌∷◌, ◌++◌, map, refl, sym, ap, subst, ◌∙◌, Option, Some, None, append_assoc, zero, suc, ◌-◌, length}
 use Rattle.rapid_safety.proofs.Basics.{flat_map, Result, Ok, Err, drop, find, option_eq, option_map, filter_map-append, slice_get-get_or, cond_both, In, in_split, in_right, in_from, contains_from, same_bytes_decides}
-use Rattle.rapid_safety.proofs.Values.{Process, ProcessSet, same_bytes, Cut, Configuration, configuration_id, position_of, is_member, AreMembers, apply, collides, observers_of, observes, Alert, Remove, Ballot, Vote, fast_ballot, item_of, Answer, Safe, EndpointInUse, ConfigurationChanged, TooManyJoiners, Body, Batch, FastVote, Prepare, Promise, Accept, Accepted, Decision, PreJoin, Reply, JoinRequest, Confirm, Probe, caught_up_by, batch_alerts}
+use Rattle.rapid_safety.proofs.Values.{Process, ProcessSet, same_bytes, Cut, Configuration, configuration_id, position_of, is_member, AreMembers, apply, collides, observers_of, observes, rings, Alert, Remove, Ballot, Vote, fast_ballot, item_of, Answer, Safe, EndpointInUse, ConfigurationChanged, TooManyJoiners, Body, Batch, FastVote, Prepare, Promise, Accept, Accepted, Decision, PreJoin, Reply, JoinRequest, Confirm, Probe, caught_up_by, batch_alerts}
 use Rattle.rapid_safety.proofs.Parts.{resend, flush, unflushed, after_batch, batch_cut, AcceptorRefusal, accepts, promise_answer, after_promise, after_accept, next_ballot, begun, after_report, accept_cut, HostAnswer, Nothing, Replies, Confirms, Raises, confirms, pre_join, join_request, is_full_for, Joiner, asks_at_tick, requests_from, sent_at_reply}
-use Rattle.rapid_safety.proofs.Working.{Node, Decisions, Phase, Joining, Member, Removed, Halted, MemberState, Destination, To, Others, Itself, Effect, Says, Proposes, Outcome, Event, EdgeDown, Receive, member_in, seed_node, configuration_of, Work, still, says, and_then, then_if, current_id, own_place, vote_seen, raise_alert, take_vote, take_accepted, take_accept, send_accept, take_promise, give_promise, take_prepare, cast_vote, propose, take_batch, at_position, clock_moved, aged, vote_again, repeats, send_alerts, sends_batch, is_due, begin_at, recovers, quiet_tick, batch_tick, on_tick, take, decided_in, decision_to, catch_up, answer_to, sends, take_or_catch_up, is_about, receive_as_member, receive_as_joiner, node_step, step_tick, step_receive, step_edge_down, question_to, idle, install, put_before, stays_member, settle_at, settle, is_history_full}
+use Rattle.rapid_safety.proofs.Working.{Node, Decisions, Phase, Joining, Member, Removed, Halted, MemberState, Destination, To, Others, Itself, Effect, Says, Proposes, Outcome, Event, EdgeDown, Receive, member_in, seed_node, configuration_of, Work, still, says, and_then, then_if, current_id, own_place, vote_seen, raise_alert, take_vote, take_accepted, take_accept, send_accept, take_promise, give_promise, take_prepare, cast_vote, propose, take_batch, at_position, clock_moved, aged, vote_again, repeats, send_alerts, sends_batch, is_due, begin_at, recovers, quiet_tick, batch_tick, on_tick, take, decided_in, decision_to, catch_up, answer_to, sends, take_or_catch_up, is_about, receive_as_member, receive_as_joiner, node_step, step_tick, step_receive, step_edge_down, step_leave, leave_to, farewells, question_to, idle, install, put_before, stays_member, settle_at, settle, is_history_full}
 use Rattle.rapid_safety.proofs.Worlds.{Installed, World, Peer, Did, Entry, MarkedEvent, install_acts, added, entry, acts_of, run, founded, sent, installed_by, InstallsRise, HasInstalled, IsNext, ConfirmsInstalled, DecisionsInstalled}
 use Rattle.rapid_model.specs.Node as node
 use Rattle.rapid_safety.proofs.Atoms.{IsAside, message, Lives}
@@ -138,6 +138,18 @@ take_plain s from (Promise id b vote) = at_plain s (position_of s.config from) (
 take_plain s from (Accept id b v) = all_if IsPlain (option_eq (◌==◌) (position_of s.config from) (Some b.position)) (take_accept s b v) (still s) (accept_plain s b v) tt
 take_plain s from (Accepted id b v) = at_plain s (position_of s.config from) (λ p. take_accepted s p b v) (λ p. tt)
 take_plain s from b = tt
+
+leaves_plain : (s : MemberState) (ks : List ℕ) → AllSay IsPlain (flat_map (λ k. leave_to s k ((observers_of s.config).observer k s.me)) ks)
+leaves_plain s [] = tt
+leaves_plain s (k ∷ ks) = all_append IsPlain (leave_to s k ((observers_of s.config).observer k s.me)) _ (by ((observers_of s.config).observer k s.me)) (leaves_plain s ks)
+  where
+    by : (o : Option Process) → AllSay IsPlain (leave_to s k o)
+    by None = tt
+    by (Some p) = (tt, tt)
+
+farewells_plain : (s : MemberState) → AllSay IsPlain (farewells s)
+unfolding farewells
+farewells_plain s = leaves_plain s (rings (observers_of s.config))
 
 -- ---- what is told to one endpoint
 
@@ -317,11 +329,14 @@ unfolding node_step
 told_by n (Member s) (EdgeDown id k p) o at h = settled_told n s at (still (raise_alert s (record { observer = s.me; subject = p; ring = k; kind = Remove; config = id }))) tt o (subst (λ (x : Phase). step_edge_down n x id k p ≡ Some o) at h)
 told_by n (Member s) node.Tick o at h = settled_told n s at (on_tick s) (plain_tells s.config n.decisions (on_tick s).effects (tick_plain s)) o (subst (λ (x : Phase). step_tick n x ≡ Some o) at h)
 told_by n (Member s) (Receive m) o at h = settled_told n s at (receive_as_member n.decisions s m.sender m.body) (member_tells s n.decisions m.sender m.body) o (subst (λ (x : Phase). step_receive n x m ≡ Some o) at h)
+told_by n (Member s) node.Leave o at h = settled_told n s at (sends s (farewells s)) (plain_tells s.config n.decisions (farewells s) (farewells_plain s)) o (subst (λ (x : Phase). step_leave n x ≡ Some o) at h)
 told_by n (Joining j) (EdgeDown id k p) o at h = from_questions n (idle n) o tt (subst (λ (x : Phase). step_edge_down n x id k p ≡ Some o) at h)
 told_by n (Joining j) node.Tick o at h = from_questions n _ o (question_asks (asks_at_tick j)) (subst (λ (x : Phase). step_tick n x ≡ Some o) at h)
+told_by n (Joining j) node.Leave o at h = from_questions n (idle n) o tt (subst (λ (x : Phase). step_leave n x ≡ Some o) at h)
 told_by n (Joining j) (Receive m) o at h = from_questions n _ o (joiner_asks n j m.body) (subst (λ (x : Phase). step_receive n x m ≡ Some o) at h)
 told_by n (Removed c) (EdgeDown id k p) o at h = from_questions n (idle n) o tt (subst (λ (x : Phase). step_edge_down n x id k p ≡ Some o) at h)
 told_by n (Removed c) node.Tick o at h = from_questions n (idle n) o tt (subst (λ (x : Phase). step_tick n x ≡ Some o) at h)
+told_by n (Removed c) node.Leave o at h = from_questions n (idle n) o tt (subst (λ (x : Phase). step_leave n x ≡ Some o) at h)
 told_by n (Removed c) (Receive m) o at h =
     let g = subst (λ (x : Phase). step_receive n x m ≡ Some o) at h in
     let out : Outcome = record { node = n; effects = catch_up n.decisions m.sender (caught_up_by m.body) } in
@@ -337,6 +352,7 @@ told_by n (Removed c) (Receive m) o at h =
     removed_told x (Some id) = decision_told x id (decided_in n.decisions id) refl
 told_by n (Halted c) (EdgeDown id k p) o at h = from_questions n (idle n) o tt (subst (λ (x : Phase). step_edge_down n x id k p ≡ Some o) at h)
 told_by n (Halted c) node.Tick o at h = from_questions n (idle n) o tt (subst (λ (x : Phase). step_tick n x ≡ Some o) at h)
+told_by n (Halted c) node.Leave o at h = from_questions n (idle n) o tt (subst (λ (x : Phase). step_leave n x ≡ Some o) at h)
 told_by n (Halted c) (Receive m) o at h = from_questions n (idle n) o tt (subst (λ (x : Phase). step_receive n x m ≡ Some o) at h)
 
 -- what a node tells in a step

@@ -10,4 +10,4 @@ unfoldable pub use Rattle.rapid_model.specs.Ring.{observers_of, ring_key}
 pub use Rattle.rapid_model.specs.Alert.{Alert, Join, Kind, Remove, is_well_formed, kind_fits, kind_for, same_alert}
 pub use Rattle.rapid_model.specs.Ballot.{Ballot, Before, UpTo, Vote, ballot_cmp, fast_ballot, is_below, same_ballot}
 pub use Rattle.rapid_model.specs.Quorum.{IsClassic, IsFast, classic_size, fast_size, size}
-pub use Rattle.rapid_model.specs.Message.{Accept, Accepted, AlertItem, Answer, Batch, Body, ConfigurationChanged, Confirm, Decision, EndpointInUse, FastVote, JoinRequest, Message, PreJoin, Prepare, Probe, ProbeAck, Promise, Reply, Safe, TooManyJoiners, batch_alerts, caught_up_by, item_of}
+pub use Rattle.rapid_model.specs.Message.{Accept, Accepted, AlertItem, Answer, Batch, Body, ConfigurationChanged, Confirm, Decision, EndpointInUse, FastVote, JoinRequest, Leave, Message, PreJoin, Prepare, Probe, ProbeAck, Promise, Reply, Safe, TooManyJoiners, batch_alerts, caught_up_by, item_of}

@@ -1,19 +1,19 @@
 -- What is kept was let through.
-use Rattle.std.proofs.Common.{◌≡◌, ℕ, ◌≤◌, Bool, true, false, cond, Bor, List, [], ◌∷◌, ◌++◌, All, Contains, Option, Some, None, IfSome, Result, Ok, Err, OnOk, OnErr, sym, subst, ◌∙◌}
+use Rattle.std.proofs.Common.{◌≡◌, ℕ, ◌≤◌, Bool, true, false, cond, Bor, List, [], ◌∷◌, ◌++◌, length, All, Contains, Option, Some, None, IfSome, Result, Ok, Err, OnOk, OnErr, refl, sym, ap, subst, ◌∙◌, ◌+◌, arith}
+use Rattle.std.specs.Prelude.{◌-◌, ◌^◌, min}
 use Rattle.std.specs.declared.cmp.Ordering.{Ordering}
-use Rattle.std.specs.BTreeMap as tree
 use Rattle.std.specs.BTreeMap.{insert_entry}
 use Rattle.std.specs.Option.{option_copied}
 use Rattle.std.specs.Map.{lookup, values_of}
-use Rattle.std.proofs.lemmas.List.Elements.{All-weaker, All-head, All-tail, Contains-append_left}
+use Rattle.std.proofs.lemmas.List.Elements.{All-nil, All-weaker, All-head, All-tail, Contains-append_left}
 use Rattle.std.proofs.lemmas.Map.Views.{All-values-insert_entry}
-use Rattle.rapid_model.specs.Process.{same_bytes}
+use Rattle.rapid_model.specs.Process.{Process, same_bytes}
 use Rattle.rapid_model.proofs.Orders.{same_bytes_decides}
 use Rattle.rapid_model.specs.Message.{Message}
 use Rattle.rapid_model.specs.Configuration.{Configuration}
-use Rattle.rapid_service.specs.Repeating.{Passed, HoldsOf, IsTimely, passed_after}
-use Rattle.rapid_service.specs.declared.repeats.Repeats.{Repeats}
-use Rattle.rapid_service.specs.Remembering.{Remembers}
+use Rattle.rapid_service.specs.declared.said.Kind.{Kind}
+use Rattle.rapid_service.specs.Repeating.{Passed, IsTimely, passed_after}
+use Rattle.rapid_service.specs.Remembering.{Filter, IsPlaced, Remembers}
 
 -- Messages of one sender that say the same.
 pub same_message : (x y : Message) (s t : List ℕ) → s ≡ x.sender → t ≡ y.sender → same_bytes s t ≡ true → x.body ≡ y.body → x ≡ y
@@ -50,39 +50,73 @@ pub was_let : (passed : List Passed) (m : Message) (now : ℕ) (k : Passed) → 
 was_let passed m now k c e t = (k.ticks, subst (λ x. Contains passed (record { message = x; ticks = k.ticks })) e c, t)
 
 -- A message more was let through, which is not kept.
-pub remembers_more : (r : Repeats) (c : Configuration) (now : ℕ) (passed : List Passed) (x : Passed) → Remembers r c now passed → Remembers r c now (passed ++ x ∷ [])
+pub remembers_more : (r : Filter) (c : Configuration) (now : ℕ) (passed : List Passed) (x : Passed) → Remembers r c now passed → Remembers r c now (passed ++ x ∷ [])
 remembers_more r c now passed x h =
     record {
       configuration = h.configuration;
       ticks = h.ticks;
       members = holds_more passed x _ h.members;
       others = holds_more passed x _ h.others;
+      members_placed = h.members_placed;
+      others_placed = h.others_placed;
       few_members = h.few_members;
       few_others = h.few_others;
     }
 
 -- A message was let through or not, and the table of members is changed for it.
-pub remembers_members : (r : Repeats) (c : Configuration) (now : ℕ) (passed : List Passed) (b : Bool) (m : Message) (t : tree.BTreeMap _ Passed) → Remembers r c now passed → HoldsOf (passed_after b m r.ticks passed) t → tree.btree_map_len t ≤ 2048
-    → Remembers (record r { members = t }) c now (passed_after b m now passed)
-remembers_members r c now passed b m t h k few =
+pub remembers_members : (r : Filter) (c : Configuration) (now : ℕ) (passed : List Passed) (b : Bool) (m : Message) (es : List ((Process × Kind) × Passed)) → Remembers r c now passed → All (Contains (passed_after b m r.ticks passed)) (values_of es) → All (IsPlaced c true) es → length es ≤ 2048
+    → Remembers (record r { members = es }) c now (passed_after b m now passed)
+remembers_members r c now passed b m es h k p few =
     record {
       configuration = h.configuration;
       ticks = h.ticks;
-      members = subst (λ n. HoldsOf (passed_after b m n passed) t) h.ticks k;
+      members = subst (λ n. All (Contains (passed_after b m n passed)) (values_of es)) h.ticks k;
       others = holds_after b m now passed _ h.others;
+      members_placed = p;
+      others_placed = h.others_placed;
       few_members = few;
       few_others = h.few_others;
     }
 
 -- The same of the table of others.
-pub remembers_others : (r : Repeats) (c : Configuration) (now : ℕ) (passed : List Passed) (b : Bool) (m : Message) (t : tree.BTreeMap _ Passed) → Remembers r c now passed → HoldsOf (passed_after b m r.ticks passed) t → tree.btree_map_len t ≤ 4096
-    → Remembers (record r { others = t }) c now (passed_after b m now passed)
-remembers_others r c now passed b m t h k few =
+pub remembers_others : (r : Filter) (c : Configuration) (now : ℕ) (passed : List Passed) (b : Bool) (m : Message) (es : List ((Process × Kind) × Passed)) → Remembers r c now passed → All (Contains (passed_after b m r.ticks passed)) (values_of es) → All (IsPlaced c false) es → length es ≤ 4096
+    → Remembers (record r { others = es }) c now (passed_after b m now passed)
+remembers_others r c now passed b m es h k p few =
     record {
       configuration = h.configuration;
       ticks = h.ticks;
       members = holds_after b m now passed _ h.members;
-      others = subst (λ n. HoldsOf (passed_after b m n passed) t) h.ticks k;
+      others = subst (λ n. All (Contains (passed_after b m n passed)) (values_of es)) h.ticks k;
+      members_placed = h.members_placed;
+      others_placed = p;
       few_members = h.few_members;
       few_others = few;
+    }
+
+-- A tick more.
+pub remembers_tick : (r : Filter) (c : Configuration) (now : ℕ) (passed : List Passed) (n : ℕ) → n ≡ min (r.ticks + 1) (2 ^ 64 - 1) → Remembers r c now passed → Remembers (record r { ticks = n }) c (min (now + 1) (2 ^ 64 - 1)) passed
+remembers_tick r c now passed n e h =
+    record {
+      configuration = h.configuration;
+      ticks = e ∙ ap (λ t. min (t + 1) (2 ^ 64 - 1)) h.ticks;
+      members = h.members;
+      others = h.others;
+      members_placed = h.members_placed;
+      others_placed = h.others_placed;
+      few_members = h.few_members;
+      few_others = h.few_others;
+    }
+
+-- At first nothing is kept.
+pub remembers_nothing : (c : Configuration) (ms os : List ((Process × Kind) × Passed)) → ms ≡ [] → os ≡ [] → Remembers (record { configuration = c; ticks = 0; members = ms; others = os }) c 0 []
+remembers_nothing c ms os e k =
+    record {
+      configuration = refl;
+      ticks = refl;
+      members = subst (λ es. All (Contains []) (values_of es)) (sym e) (All-nil _);
+      others = subst (λ es. All (Contains []) (values_of es)) (sym k) (All-nil _);
+      members_placed = subst (All (IsPlaced c true)) (sym e) (All-nil _);
+      others_placed = subst (All (IsPlaced c false)) (sym k) (All-nil _);
+      few_members = subst (λ es. length es ≤ 2048) (sym e) (omega arith);
+      few_others = subst (λ es. length es ≤ 4096) (sym k) (omega arith);
     }

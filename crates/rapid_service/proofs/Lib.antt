@@ -2,3 +2,4 @@ pub mod Written
 pub mod Refusing
 pub mod Sames
 pub mod Keeping
+pub mod Finding

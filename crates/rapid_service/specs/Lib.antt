@@ -7,3 +7,4 @@ pub mod Repeating
 pub mod Remembering
 pub mod Asking
 pub mod PartRounds
+pub mod Stepping

@@ -6,7 +6,7 @@ use Rattle.rapid_model.specs.Bytes.{Line, Word}
 use Rattle.rapid_model.specs.Lines.{line_words}
 use Rattle.rapid_model.specs.SimLine.{count_in}
 use Rattle.rapid_service.specs.declared.command.Command.{Command}
-use Rattle.rapid_service.specs.declared.command.Command.TheVariants.{Ticks, View, Edges, Quit}
+use Rattle.rapid_service.specs.declared.command.Command.TheVariants.{Ticks, View, Edges, Leave, Quit}
 use Rattle.rapid_service.specs.declared.command.Asked.{Asked}
 use Rattle.rapid_service.specs.declared.command.Asked.TheVariants.{Nothing, Unknown, Taken}
 
@@ -21,6 +21,7 @@ command_named name ws =
     if bytes_eq name (codes "tick") then option_map Ticks (count_in ws)
     else if bytes_eq name (codes "view") then alone View ws
     else if bytes_eq name (codes "edges") then alone Edges ws
+    else if bytes_eq name (codes "leave") then alone Leave ws
     else if bytes_eq name (codes "quit") then alone Quit ws
     else None
 

@@ -1,6 +1,6 @@
 -- Clauses of public calls cite this file.
 -- What a round of a part of the probes asks for.
-use Rattle.std.specs.Prelude.{ℕ, List, replicate, slice_set, Option, Some, None}
+use Rattle.std.specs.Prelude.{ℕ, List, replicate, slice_set, Some, None}
 use Rattle.rapid_model.specs.Process.{Process}
 use Rattle.rapid_service.specs.declared.part.PartRound.{PartRound}
 

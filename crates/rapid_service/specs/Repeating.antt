@@ -1,9 +1,12 @@
 -- Clauses of public calls cite this file.
 -- Messages that change nothing, since an equal one was let through before in the same configuration.
-use Rattle.std.specs.Prelude.{◌≡◌, ℕ, ◌+◌, ◌<◌, Bool, true, false, List, [], ◌∷◌, ◌++◌, All, Contains}
+use Rattle.std.specs.Prelude.{◌≡◌, ℕ, ◌+◌, ◌<◌, Bool, true, false, List, [], ◌∷◌, ◌++◌, All, Contains, Option, Some, None, if◌then◌else◌}
 use Rattle.std.specs.BTreeMap as tree
 use Rattle.rapid_model.specs.Bytes.{ConfigurationId}
-use Rattle.rapid_model.specs.Message.{Message, Body, Batch, FastVote, Prepare, Promise, Accept, Accepted, Decision, PreJoin, Reply, JoinRequest, Confirm, Probe, ProbeAck}
+use Rattle.rapid_model.specs.Process.{same_bytes}
+use Rattle.rapid_model.specs.Message.{Message, Body, Batch, FastVote, Prepare, Promise, Accept, Accepted, Decision, PreJoin, Reply, JoinRequest, Confirm, Probe, ProbeAck, Leave}
+use Rattle.rapid_service.specs.declared.said.Kind.{Kind}
+use Rattle.rapid_service.specs.declared.said.Kind.TheVariants as kind
 
 -- A message that was let through, and how many ticks there had been then.
 pub record Passed : Type 0 where
@@ -39,6 +42,7 @@ IsRepeatIn here now passed m (Reply j a) = ⊥
 IsRepeatIn here now passed m (Confirm c) = ⊥
 IsRepeatIn here now passed m (Probe id) = ⊥
 IsRepeatIn here now passed m (ProbeAck id) = ⊥
+IsRepeatIn here now passed m (Leave id k) = ⊥
 
 abbrev pub IsRepeat : ConfigurationId → ℕ → List Passed → Message → Type 0
 IsRepeat here now passed m = IsRepeatIn here now passed m m.body
@@ -52,21 +56,29 @@ passed_after false m now passed = passed
 abbrev pub HoldsOf : {K : Type 0} → List Passed → tree.BTreeMap K Passed → Type 0
 HoldsOf passed kept = All (Contains passed) (tree.values kept)
 
--- A repeat of what says this is looked for, in this configuration.
-abbrev pub IsSought : ConfigurationId → Body → Type 0
-IsSought here (Batch id xs) = id ≡ here
-IsSought here (FastVote id v) = id ≡ here
-IsSought here (JoinRequest id k) = id ≡ here
-IsSought here PreJoin = Unit {0}
-IsSought here (Prepare id b) = ⊥
-IsSought here (Promise id b vote) = ⊥
-IsSought here (Accept id b v) = ⊥
-IsSought here (Accepted id b v) = ⊥
-IsSought here (Decision id v) = ⊥
-IsSought here (Reply j a) = ⊥
-IsSought here (Confirm c) = ⊥
-IsSought here (Probe id) = ⊥
-IsSought here (ProbeAck id) = ⊥
+-- The kind of what says this in this configuration, if repeats of it are looked for.
+abbrev pub kind_in : ConfigurationId → Body → Option Kind
+kind_in here (Batch id xs) = if same_bytes id here then Some kind.Batch else None
+kind_in here (FastVote id v) = if same_bytes id here then Some kind.Vote else None
+kind_in here (JoinRequest id k) = if same_bytes id here then Some (kind.Request k) else None
+kind_in here PreJoin = Some kind.Question
+kind_in here (Prepare id b) = None
+kind_in here (Promise id b vote) = None
+kind_in here (Accept id b v) = None
+kind_in here (Accepted id b v) = None
+kind_in here (Decision id v) = None
+kind_in here (Reply j a) = None
+kind_in here (Confirm c) = None
+kind_in here (Probe id) = None
+kind_in here (ProbeAck id) = None
+kind_in here (Leave id k) = None
+
+-- Members alone are to say it.
+abbrev pub is_of_members : Kind → Bool
+is_of_members kind.Batch = true
+is_of_members kind.Vote = true
+is_of_members kind.Question = false
+is_of_members (kind.Request k) = false
 
 -- If it asks to join, it is within this many ticks.
 abbrev pub IsTimely : Body → ℕ → ℕ → Type 0
@@ -83,3 +95,4 @@ IsTimely (Reply j a) before now = Unit {0}
 IsTimely (Confirm c) before now = Unit {0}
 IsTimely (Probe id) before now = Unit {0}
 IsTimely (ProbeAck id) before now = Unit {0}
+IsTimely (Leave id k) before now = Unit {0}

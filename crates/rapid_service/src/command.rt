@@ -20,6 +20,8 @@ pub enum Command {
     View,
     /// The observed edges.
     Edges,
+    /// The node is to leave its cluster.
+    Leave,
     /// The node is to end.
     Quit,
 }
@@ -82,6 +84,8 @@ fn command_by(name: &[u8], rest: &[u8]) -> Option<Command>
         alone(Command::View, rest)
     } else if name == b"edges".as_slice() {
         alone(Command::Edges, rest)
+    } else if name == b"leave".as_slice() {
+        alone(Command::Leave, rest)
     } else if name == b"quit".as_slice() {
         alone(Command::Quit, rest)
     } else {

@@ -1,9 +1,9 @@
 // What is printed, as whole lines.
 
 ghost use Rattle.std.specs.Prelude.{◌≡◌, ◌⊎◌, ◌+◌, ◌≤◌, ◌<◌, ◌++◌, length, nat_le, IfErr, OnOk, OnErr};
-ghost use Rattle.rapid_service.specs.declared.fault.NodeFault.TheVariants.{OutOfMemory, Write as CannotWrite};
+ghost use Rattle.rapid_service.specs.declared.fault.RunningFault.TheVariants.{OutOfMemory, Write as CannotWrite};
 
-use crate::fault::NodeFault;
+use crate::fault::RunningFault;
 use std::alloc::Global;
 use std::io::Write;
 use std::mem;
@@ -37,18 +37,18 @@ fn has_room(waiting: usize, added: usize) -> bool
 
 impl Pending {
     /// Adds lines, if there is room for them.
-    fn add(&mut self, lines: &[u8]) -> Result<(), NodeFault>
+    fn add(&mut self, lines: &[u8]) -> Result<(), RunningFault>
         ensures waits { OnOk result ((self.new.lines.items ≡ self.old.lines.items ++ lines.now) × (length self.new.lines.items ≤ 1048576)) }
         ensures refused { IfErr result (λ e. ((e ≡ CannotWrite) × (1048576 < length self.old.lines.items + length lines.now)) ⊎ (e ≡ OutOfMemory)) }
         ensures unchanged { OnErr result (self.new.lines.items ≡ self.old.lines.items) }
         ensures open { self.new.closed ≡ self.old.closed }
     {
         if !has_room(self.lines.len(), lines.len()) {
-            return Err(NodeFault::Write);
+            return Err(RunningFault::Write);
         }
         match self.lines.extend_from_slice(lines) {
             Ok(()) => Ok(()),
-            Err(_) => Err(NodeFault::OutOfMemory),
+            Err(_) => Err(RunningFault::OutOfMemory),
         }
     }
 
@@ -73,7 +73,7 @@ impl Console {
 
     /// Adds lines. A console that is closed prints nothing more. `Write` if more than 1 MiB would
     /// wait then, since the output takes nothing; the lines are not added.
-    pub fn add<R: Wait>(&self, rt: &R, lines: &[u8]) -> Result<(), NodeFault> {
+    pub fn add<R: Wait>(&self, rt: &R, lines: &[u8]) -> Result<(), RunningFault> {
         if lines.is_empty() {
             return Ok(());
         }

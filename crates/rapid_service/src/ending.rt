@@ -1,6 +1,6 @@
 // The end of a node.
 
-use crate::fault::NodeFault;
+use crate::fault::RunningFault;
 use std::sync::{Condvar, Mutex, Wait};
 use std::time::{Clock, Duration};
 
@@ -10,7 +10,7 @@ enum State {
     /// It goes on.
     Running,
     /// It ends, by a fault or as it was told to.
-    Ending(Option<NodeFault>),
+    Ending(Option<RunningFault>),
 }
 
 /// Whether a node goes on, and why it ends: the threads of a node share it.
@@ -30,7 +30,7 @@ impl Ending {
     }
 
     /// Ends the node, by a fault or as it was told to. The first that ends it says why.
-    pub fn end<R: Wait>(&self, rt: &R, fault: Option<NodeFault>) {
+    pub fn end<R: Wait>(&self, rt: &R, fault: Option<RunningFault>) {
         let mut state = self.state.lock(rt);
         if let State::Running = *state {
             *state = State::Ending(fault);
@@ -74,7 +74,7 @@ impl Ending {
     }
 
     /// Why the node ended.
-    pub fn outcome<R: Wait>(&self, rt: &R) -> Result<(), NodeFault> {
+    pub fn outcome<R: Wait>(&self, rt: &R) -> Result<(), RunningFault> {
         let state = self.state.lock(rt);
         match *state {
             State::Running | State::Ending(None) => Ok(()),

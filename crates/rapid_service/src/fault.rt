@@ -1,17 +1,17 @@
 // The fault by which a node ends.
 
 ghost use Rattle.std.specs.Prelude.{◌≡◌};
-ghost use Rattle.rapid_service.specs.declared.fault.NodeFault.TheVariants.{OutOfMemory};
+ghost use Rattle.rapid_service.specs.declared.fault.RunningFault.TheVariants.{OutOfMemory};
 ghost use Rattle.rapid_service.specs.Statuses.{status_of};
 
 use rapid_desk::DeskError;
-use rapid_node::NodeFault as StepFault;
+use rapid_node::NodeFault;
 use std::alloc::{AllocError, AllocFailed};
 use thiserror::Error;
 
 /// The fault by which a node ends.
 #[derive(Clone, Copy, Debug, PartialEq, Eq, Error)]
-pub enum NodeFault {
+pub enum RunningFault {
     /// The lines could not be read.
     #[error("the input could not be read")]
     Read,
@@ -19,7 +19,7 @@ pub enum NodeFault {
     #[error("the output could not be written")]
     Write,
     /// The port could not be bound.
-    #[error("the port is not to be had")]
+    #[error("the port cannot be bound")]
     NoPort,
     /// No identifier could be drawn.
     #[error("no identifier could be drawn")]
@@ -35,52 +35,52 @@ pub enum NodeFault {
     Halted,
 }
 
-impl NodeFault {
+impl RunningFault {
     /// The status that the program ends with: 1 for `Read`, `Write` and `NoPort`, else 3.
     pub fn status(&self) -> u8
         ensures { result ≡ status_of self.now }
     {
         match self {
-            NodeFault::Read | NodeFault::Write | NodeFault::NoPort => 1,
-            NodeFault::NoIdentifier
-            | NodeFault::OutOfMemory
-            | NodeFault::JournalFull
-            | NodeFault::Halted => 3,
+            RunningFault::Read | RunningFault::Write | RunningFault::NoPort => 1,
+            RunningFault::NoIdentifier
+            | RunningFault::OutOfMemory
+            | RunningFault::JournalFull
+            | RunningFault::Halted => 3,
         }
     }
 }
 
-impl From<AllocError> for NodeFault {
+impl From<AllocError> for RunningFault {
     ghost from_gives = { λ _ e. e ≡ OutOfMemory };
 
-    fn from(_error: AllocError) -> NodeFault {
-        NodeFault::OutOfMemory
+    fn from(_error: AllocError) -> RunningFault {
+        RunningFault::OutOfMemory
     }
 }
 
-impl<T: Drop> From<AllocFailed<T>> for NodeFault {
+impl<T: Drop> From<AllocFailed<T>> for RunningFault {
     ghost from_gives = { λ _ e. e ≡ OutOfMemory };
 
-    fn from(_error: AllocFailed<T>) -> NodeFault {
-        NodeFault::OutOfMemory
+    fn from(_error: AllocFailed<T>) -> RunningFault {
+        RunningFault::OutOfMemory
     }
 }
 
-impl From<DeskError> for NodeFault {
+impl From<DeskError> for RunningFault {
     ghost use Rattle.rapid_service.specs.Statuses.{fault_of};
 
     ghost from_gives = { λ e fault. fault ≡ fault_of e };
 
-    fn from(error: DeskError) -> NodeFault {
+    fn from(error: DeskError) -> RunningFault {
         match error {
-            DeskError::JournalFull => NodeFault::JournalFull,
-            DeskError::OutOfMemory | DeskError::Node(StepFault::OutOfMemory) => {
-                NodeFault::OutOfMemory
+            DeskError::JournalFull => RunningFault::JournalFull,
+            DeskError::OutOfMemory | DeskError::Node(NodeFault::OutOfMemory) => {
+                RunningFault::OutOfMemory
             }
             DeskError::Node(_)
             | DeskError::Unpublished
             | DeskError::TooManySubscribers
-            | DeskError::BadCapacity => NodeFault::Halted,
+            | DeskError::BadCapacity => RunningFault::Halted,
         }
     }
 }

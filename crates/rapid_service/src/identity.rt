@@ -2,7 +2,7 @@
 
 ghost use Rattle.std.specs.Prelude.{◌≡◌, Ok, IfSome};
 
-use crate::fault::NodeFault;
+use crate::fault::RunningFault;
 use rapid_endpoint::ProcessId;
 use std::random::RandomSource;
 use uuid::Uuid;
@@ -12,14 +12,14 @@ use uuid::Uuid;
 pub fn identify<S: RandomSource>(
     given: Option<ProcessId>,
     source: &S,
-) -> Result<ProcessId, NodeFault>
+) -> Result<ProcessId, RunningFault>
     ensures { IfSome given (λ id. result ≡ Ok id) }
 {
     match given {
         Some(id) => Ok(id),
         None => match Uuid::try_new_v4(source) {
             Ok(uuid) => Ok(ProcessId::new(uuid.into_bytes())),
-            Err(_) => Err(NodeFault::NoIdentifier),
+            Err(_) => Err(RunningFault::NoIdentifier),
         },
     }
 }

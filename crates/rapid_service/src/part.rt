@@ -5,13 +5,13 @@ ghost use Rattle.rapid_model.specs.Process.{Process as ModelProcess};
 ghost use Rattle.rapid_monitor.specs.Probes.{book_when, round_when, all_judged, all_told};
 ghost use Rattle.rapid_service.specs.PartRounds.{blank_round, with_probe, with_down};
 
-use rapid_config::ConfigId;
+use rapid_config::{ConfigId, Params};
 use rapid_endpoint::Process;
 use rapid_monitor::{EdgeSeat, EdgeSink, ProbeBook, probe_part};
 use std::alloc::{AllocError, Global};
 
 /// How many rings there are at most.
-pub(crate) const MOST_RINGS: usize = 16;
+pub(crate) const MOST_RINGS: usize = Params::MOST_RINGS as usize;
 
 /// What a round of a part asks for: whom to probe, and which edges went down, each by ring.
 #[derive(Clone, Copy)]

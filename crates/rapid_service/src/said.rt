@@ -1,8 +1,10 @@
 // The messages of which a repeat changes nothing.
 
-ghost use Rattle.std.specs.Prelude.{◌≡◌, true, IsSome};
-ghost use Rattle.rapid_message.specs.Bodies.{body_of};
-ghost use Rattle.rapid_service.specs.Repeating.{IsSought, IsTimely};
+ghost use Rattle.std.specs.Prelude.{◌≡◌, true, Some};
+ghost use Rattle.rapid_model.specs.Bytes.{ConfigurationId};
+ghost use Rattle.rapid_model.specs.Process.{Process};
+ghost use Rattle.rapid_message.specs.Bodies.{CanSay, body_of};
+ghost use Rattle.rapid_service.specs.Repeating.{IsTimely, kind_in, is_of_members};
 
 use rapid_alerts::Batch;
 use rapid_config::ConfigId;
@@ -28,7 +30,7 @@ impl Kind {
     /// The kind of a message with this body, in the configuration with this identifier; none if its
     /// repeats are not looked for.
     pub(crate) fn of(body: &Body, here: ConfigId) -> Option<Kind>
-        ensures { IsSome result → IsSought here (body_of body.now) }
+        ensures { result ≡ kind_in here (body_of body.now) }
     {
         match body {
             Body::Batch(id, _) if *id == here => Some(Kind::Batch),
@@ -40,21 +42,25 @@ impl Kind {
     }
 
     /// Whether members alone are to say it.
-    pub(crate) fn is_of_members(self) -> bool {
+    pub(crate) fn is_of_members(self) -> bool
+        ensures { result ≡ is_of_members self }
+    {
         matches!(self, Kind::Batch | Kind::Vote)
     }
 }
 
 /// Whether two batches have the same alerts, in order.
 fn are_same(one: &Batch, other: &Batch) -> bool
-    ensures { result ≡ true → one.now ≡ other.now }
+    ensures same { result ≡ true → one.now ≡ other.now }
+    ensures told { one.now ≡ other.now → result ≡ true }
 {
     one.alerts() == other.alerts()
 }
 
 /// Whether two bodies of the kinds that are kept say the same.
 pub(crate) fn say_same(one: &Body, other: &Body) -> bool
-    ensures { result ≡ true → body_of one.now ≡ body_of other.now }
+    ensures same { result ≡ true → body_of one.now ≡ body_of other.now }
+    ensures told { (sender : Process) (here : ConfigurationId) (k : Kind) → CanSay sender one.now → CanSay sender other.now → kind_in here (body_of one.now) ≡ Some k → body_of one.now ≡ body_of other.now → result ≡ true }
 {
     match (one, other) {
         (Body::Batch(id, batch), Body::Batch(other_id, other_batch)) => {
@@ -74,7 +80,8 @@ pub(crate) fn say_same(one: &Body, other: &Body) -> bool
 /// Whether the last message was let through so shortly before that a repeat is dropped: of joiners'
 /// questions within ten ticks, of others at any time.
 pub(crate) fn is_timely(body: &Body, before: u64, now: u64) -> bool
-    ensures { result ≡ true → IsTimely (body_of body.now) before now }
+    ensures timely { result ≡ true → IsTimely (body_of body.now) before now }
+    ensures told { IsTimely (body_of body.now) before now → result ≡ true }
 {
     match body {
         Body::PreJoin => now.saturating_sub(before) < QUESTION_TICKS,

@@ -1,21 +1,24 @@
 // One node at its desk, with its probes.
 
-ghost use Rattle.std.specs.Prelude.{◌≡◌, ◌<◌, [], false, IfOk, IsSomeAnd, OnErr};
+ghost use Rattle.std.specs.Prelude.{◌≡◌, ◌<◌, [], false, Ok, IfOk, IfErr, IsSomeAnd, OnOk, OnErr};
+ghost use Rattle.rapid_model.specs.Node as model;
+ghost use Rattle.rapid_node.specs.Steps.{event_of};
 ghost use Rattle.rapid_service.specs.Remembering.{IsRepeatFor};
-ghost use Rattle.rapid_service.specs.declared.received.Received.TheVariants.{Dropped};
+ghost use Rattle.rapid_service.specs.Stepping.{HasStepped, HasRefused, Steps};
+ghost use Rattle.rapid_service.specs.declared.received.Received.TheVariants as fate;
 
 use crate::asking::Asking;
 use crate::edge_text::EdgeState;
-use crate::fault::NodeFault;
+use crate::fault::RunningFault;
 use crate::journal::shorten;
 use crate::note::{Note, Notes};
+use crate::observed_edges::ObservedEdges;
 use crate::part::{MOST_RINGS, Part, PartRound};
 use crate::post::Post;
 use crate::received::Received;
 use crate::repeats::Repeats;
 use crate::rounds::Rounds;
 use crate::view_text::write_view;
-use crate::watch::Watch;
 use bytes::Bytes;
 use rapid_config::{ConfigId, Configuration, Params};
 use rapid_desk::{Desk, Subscription, Taken};
@@ -57,7 +60,7 @@ pub struct Service<R: Wait + Copy + Drop, P: Post + Drop> {
 #[derive(Drop)]
 struct Present {
     view: View,
-    watch: Watch,
+    watch: ObservedEdges,
     repeats: Repeats,
 }
 
@@ -113,7 +116,7 @@ impl<R: Wait + Copy + Drop, P: Post + Drop> Service<R, P> {
         me: Process,
         mut desk: Desk<R>,
         post: P,
-    ) -> Result<Service<R, P>, NodeFault> {
+    ) -> Result<Service<R, P>, RunningFault> {
         let changes = desk.subscribe(CHANGES)?;
         Ok(Service {
             rt,
@@ -139,16 +142,16 @@ impl<R: Wait + Copy + Drop, P: Post + Drop> Service<R, P> {
         params: Params,
         me: Process,
         post: P,
-    ) -> Result<Service<R, P>, NodeFault> {
+    ) -> Result<Service<R, P>, RunningFault> {
         let Ok(configuration) = Configuration::seed(alloc, params, &[me]) else {
-            return Err(NodeFault::OutOfMemory);
+            return Err(RunningFault::OutOfMemory);
         };
         if !configuration.is_member(&me) {
-            return Err(NodeFault::Halted);
+            return Err(RunningFault::Halted);
         }
         // The only reason why a first view is not published is that there is no memory for it.
         let Ok(desk) = Desk::seed(rt, alloc, &configuration, me, 1) else {
-            return Err(NodeFault::OutOfMemory);
+            return Err(RunningFault::OutOfMemory);
         };
         let mut service = Service::at(rt, alloc, me, desk, post)?;
         service.enter(View::new(configuration))?;
@@ -162,7 +165,7 @@ impl<R: Wait + Copy + Drop, P: Post + Drop> Service<R, P> {
         me: Process,
         seed: Endpoint,
         post: P,
-    ) -> Result<Service<R, P>, NodeFault> {
+    ) -> Result<Service<R, P>, RunningFault> {
         let desk = Desk::joiner(rt, alloc, me, seed, 1)?;
         let mut service = Service::at(rt, alloc, me, desk, post)?;
         service.asking = Some(Asking::new(seed));
@@ -170,7 +173,9 @@ impl<R: Wait + Copy + Drop, P: Post + Drop> Service<R, P> {
     }
 
     /// A tick of the node; whether a round of probes is due after it, as after every tenth.
-    pub fn tick(&mut self) -> Result<bool, NodeFault> {
+    pub fn tick(&mut self) -> Result<bool, RunningFault>
+        ensures { OnOk result (Steps self.old.desk.state model.Tick self.new.desk.state) }
+    {
         self.step(Event::Tick)?;
         self.count_tick();
         self.note_question();
@@ -179,7 +184,7 @@ impl<R: Wait + Copy + Drop, P: Post + Drop> Service<R, P> {
 
     /// The parts of the probes in the current view, as many as are asked for: once for each view,
     /// after it was entered.
-    pub fn take_parts(&mut self, parts: u8) -> Result<Option<Vec<Part>>, NodeFault> {
+    pub fn take_parts(&mut self, parts: u8) -> Result<Option<Vec<Part>>, RunningFault> {
         match &mut self.present {
             Some(present) => present.watch.take_parts(parts),
             None => Ok(None),
@@ -188,7 +193,7 @@ impl<R: Wait + Copy + Drop, P: Post + Drop> Service<R, P> {
 
     /// A round of a part was made: its edges that went down are given to the node, and its probes
     /// go out.
-    pub fn hand_on(&mut self, round: &PartRound) -> Result<(), NodeFault> {
+    pub fn hand_on(&mut self, round: &PartRound) -> Result<(), RunningFault> {
         self.hand_down(round.id, &round.downs)?;
         let frame = frame_of(self.alloc, &probe_of(self.me, round.id))?;
         probe_all(&self.rt, &mut self.post, &round.probes, &frame)?;
@@ -203,12 +208,14 @@ impl<R: Wait + Copy + Drop, P: Post + Drop> Service<R, P> {
         }
     }
 
-    /// A message has come. It is dropped if it repeats one that came before in the present view and
+    /// A message has come. It is dropped if it repeats one that came before in the current view and
     /// changes nothing: a step would only take room in the journal of the desk, which stays as it is
     /// then.
-    pub fn receive(&mut self, message: Message) -> Result<Received, NodeFault>
-        ensures repeats { IfOk result (λ received. received ≡ Dropped → IsSomeAnd self.old.present (λ present. IsRepeatFor present.repeats message)) }
-        ensures desk { IfOk result (λ received. received ≡ Dropped → self.new.desk ≡ self.old.desk) }
+    pub fn receive(&mut self, message: Message) -> Result<Received, RunningFault>
+        ensures repeats { IfOk result (λ received. received ≡ fate.Dropped → IsSomeAnd self.old.present (λ present. IsRepeatFor present.repeats message)) }
+        ensures drops { IsSomeAnd self.old.present (λ present. IsRepeatFor present.repeats message) → result ≡ Ok fate.Dropped }
+        ensures desk { IfOk result (λ received. received ≡ fate.Dropped → self.new.desk ≡ self.old.desk) }
+        ensures taken { IfOk result (λ received. received ≡ fate.Taken → Steps self.old.desk.state (model.Receive message) self.new.desk.state) }
     {
         if let Body::Reply(joiner, reply) = message.body() {
             self.hear(joiner, reply);
@@ -220,9 +227,19 @@ impl<R: Wait + Copy + Drop, P: Post + Drop> Service<R, P> {
         Ok(Received::Taken)
     }
 
+    /// The node is to leave: a member asks those that observe it to have it removed. It goes on as
+    /// before until a view comes without it. One that still has it makes it a member that stays,
+    /// unless it is asked again; nothing else than a member leaves.
+    pub fn leave(&mut self) -> Result<(), RunningFault>
+        ensures { OnOk result (Steps self.old.desk.state model.Leave self.new.desk.state) }
+    {
+        self.step(Event::Leave)
+    }
+
     /// Whether a message is handed to the desk: before the first view each is.
     fn admits(&mut self, message: &Message) -> bool
         ensures repeats { result ≡ false → IsSomeAnd self.old.present (λ present. IsRepeatFor present.repeats message.now) }
+        ensures drops { IsSomeAnd self.old.present (λ present. IsRepeatFor present.repeats message.now) → result ≡ false }
         ensures desk { self.new.desk ≡ self.old.desk }
     {
         match &mut self.present {
@@ -232,7 +249,9 @@ impl<R: Wait + Copy + Drop, P: Post + Drop> Service<R, P> {
     }
 
     /// A tick was made in the current view.
-    fn count_tick(&mut self) {
+    fn count_tick(&mut self)
+        ensures { self.new.desk ≡ self.old.desk }
+    {
         if let Some(present) = &mut self.present {
             present.repeats.tick();
         }
@@ -240,7 +259,9 @@ impl<R: Wait + Copy + Drop, P: Post + Drop> Service<R, P> {
 
     /// A tick was made at which the node may have asked to be let in: what is to be reported of its
     /// questions is noted.
-    fn note_question(&mut self) {
+    fn note_question(&mut self)
+        ensures { self.new.desk ≡ self.old.desk }
+    {
         if let Some(asking) = &mut self.asking
             && let Some(note) = asking.tick()
         {
@@ -281,18 +302,20 @@ impl<R: Wait + Copy + Drop, P: Post + Drop> Service<R, P> {
     }
 
     /// One event at the desk: what is sent goes out, and a new view is entered.
-    fn step(&mut self, event: Event) -> Result<(), NodeFault> {
+    fn step(&mut self, event: Event) -> Result<(), RunningFault>
+        ensures { OnOk result (Steps self.old.desk.state (event_of event) self.new.desk.state) }
+    {
         let sent = self.at_desk(event)?;
         // before a new view is entered: the other members are those of the view of the step
-        for output in sent.as_slice() {
-            self.send(output)?;
-        }
+        self.send_all(sent.as_slice())?;
         self.follow()
     }
 
     /// One event at the desk, whose journal is begun anew before if it is long. If the desk does not
     /// go on its subscribers are told: they get what was put for them, and then that it is closed.
-    fn at_desk(&mut self, event: Event) -> Result<Outputs, NodeFault>
+    fn at_desk(&mut self, event: Event) -> Result<Outputs, RunningFault>
+        ensures stepped { IfOk result (λ sent. HasStepped self.old.desk.state (event_of event) self.new.desk.state sent.items) }
+        ensures refused { IfErr result (HasRefused self.old.desk.state (event_of event) self.new.desk.state) }
         ensures closed { OnErr result (self.new.desk.subscriptions ≡ []) }
     {
         // a journal for which there is no memory now grows on, and the next step tries again
@@ -301,13 +324,25 @@ impl<R: Wait + Copy + Drop, P: Post + Drop> Service<R, P> {
             Ok(sent) => Ok(sent),
             Err(error) => {
                 self.desk.close();
-                Err(NodeFault::from(error))
+                Err(RunningFault::from(error))
             }
         }
     }
 
+    /// Sends the messages of a step to their recipients, in order.
+    fn send_all(&mut self, sent: &[Output]) -> Result<(), AllocError>
+        ensures { self.new.desk ≡ self.old.desk }
+    {
+        for output in sent {
+            self.send(output)?;
+        }
+        Ok(())
+    }
+
     /// Sends a message to its recipients: the other members are those of the view before the step.
-    fn send(&mut self, output: &Output) -> Result<(), AllocError> {
+    fn send(&mut self, output: &Output) -> Result<(), AllocError>
+        ensures { self.new.desk ≡ self.old.desk }
+    {
         let frame = frame_of(self.alloc, output.message())?;
         match output.to() {
             Destination::To(endpoint) => {
@@ -319,7 +354,9 @@ impl<R: Wait + Copy + Drop, P: Post + Drop> Service<R, P> {
     }
 
     /// Sends a frame to the other members.
-    fn send_others(&mut self, frame: &Bytes) -> Result<(), AllocError> {
+    fn send_others(&mut self, frame: &Bytes) -> Result<(), AllocError>
+        ensures { self.new.desk ≡ self.old.desk }
+    {
         match &self.present {
             Some(present) => broadcast(
                 &self.rt,
@@ -333,18 +370,22 @@ impl<R: Wait + Copy + Drop, P: Post + Drop> Service<R, P> {
     }
 
     /// Enters the view that the desk has published, if there is a new one.
-    fn follow(&mut self) -> Result<(), NodeFault> {
+    fn follow(&mut self) -> Result<(), RunningFault>
+        ensures { self.new.desk.state ≡ self.old.desk.state }
+    {
         match self.changes.take(&self.rt) {
             Taken::Change(view) => self.enter(view),
             Taken::Empty => Ok(()),
             // each change is taken at once, so the queue is never full: a lost one found no memory
-            Taken::Lagged | Taken::Closed => Err(NodeFault::OutOfMemory),
+            Taken::Lagged | Taken::Closed => Err(RunningFault::OutOfMemory),
         }
     }
 
     /// Enters a view: its line is printed, and probes begin anew. A view without the node is its
     /// last.
-    fn enter(&mut self, view: View) -> Result<(), NodeFault> {
+    fn enter(&mut self, view: View) -> Result<(), RunningFault>
+        ensures { self.new.desk.state ≡ self.old.desk.state }
+    {
         write_view(view.configuration(), &mut self.lines)?;
         let watch = self.watch(view.configuration())?;
         let repeats = Repeats::new(self.alloc, view.configuration())?;
@@ -366,10 +407,10 @@ impl<R: Wait + Copy + Drop, P: Post + Drop> Service<R, P> {
 
     /// The probes of the members that are observed in a view. The rings are made of those of the
     /// view before: keys are computed of newcomers only.
-    fn watch(&self, configuration: &Configuration) -> Result<Watch, AllocError> {
+    fn watch(&self, configuration: &Configuration) -> Result<ObservedEdges, AllocError> {
         match &self.present {
             Some(present) => present.watch.next(configuration),
-            None => Watch::new(self.alloc, configuration, &self.me),
+            None => ObservedEdges::new(self.alloc, configuration, &self.me),
         }
     }
 
@@ -378,7 +419,7 @@ impl<R: Wait + Copy + Drop, P: Post + Drop> Service<R, P> {
         &mut self,
         id: ConfigId,
         downs: &[Option<Process>; MOST_RINGS],
-    ) -> Result<(), NodeFault> {
+    ) -> Result<(), RunningFault> {
         for ring in 0..MOST_RINGS {
             if let Some(subject) = downs[ring] {
                 self.step(Event::EdgeDown(id, ring as u8, subject))?;

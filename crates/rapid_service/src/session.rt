@@ -3,7 +3,7 @@
 ghost use Rattle.std.specs.Prelude.{◌≡◌, ℕ, ◌<◌, List, [], ◌∷◌, length, OnOk, OnErr};
 
 use crate::command::{Asked, Command, read_line};
-use crate::fault::NodeFault;
+use crate::fault::RunningFault;
 use crate::post::Post;
 use crate::shared::Shared;
 use crate::view_text::{BAD_LINE, NO_VIEW, write_view};
@@ -25,12 +25,12 @@ struct Session<'a, W: Wait, R: Wait + Copy + Drop, P: Post + Drop> {
 }
 
 /// The current view. It is asked for again while the list of members is still older than its stamp.
-fn present<W: Wait>(rt: &W, seat: &mut ViewSeat) -> Result<View, NodeFault> {
+fn present<W: Wait>(rt: &W, seat: &mut ViewSeat) -> Result<View, RunningFault> {
     for _ in rt.forever() {
         match seat.members(rt) {
             Ok(view) => return Ok(view),
             Err(ViewError::Behind(_)) => thread::yield_now(),
-            Err(_) => return Err(NodeFault::OutOfMemory),
+            Err(_) => return Err(RunningFault::OutOfMemory),
         }
     }
     unreachable!()
@@ -41,7 +41,7 @@ fn tick<W: Wait, R: Wait + Copy + Drop, P: Post + Drop>(
     rt: &W,
     shared: &Shared<R, P>,
     count: u64,
-) -> Result<(), NodeFault> {
+) -> Result<(), RunningFault> {
     for _ in 0..count {
         if shared.ending().has_come(rt) {
             return Ok(());
@@ -53,7 +53,7 @@ fn tick<W: Wait, R: Wait + Copy + Drop, P: Post + Drop>(
 
 impl<W: Wait, R: Wait + Copy + Drop, P: Post + Drop> Session<'_, W, R, P> {
     /// Prints the current view.
-    fn view(&mut self) -> Result<(), NodeFault> {
+    fn view(&mut self) -> Result<(), RunningFault> {
         if self.seat.is_none() {
             self.seat = self.shared.take_seat(self.rt);
         }
@@ -67,7 +67,7 @@ impl<W: Wait, R: Wait + Copy + Drop, P: Post + Drop> Session<'_, W, R, P> {
     }
 
     /// Prints the observed edges.
-    fn edges(&mut self) -> Result<(), NodeFault> {
+    fn edges(&mut self) -> Result<(), RunningFault> {
         let mut lines = Vec::new(self.alloc);
         self.shared.write_edges(self.rt, &mut lines)?;
         self.shared.console().add(self.rt, lines.as_slice())?;
@@ -75,7 +75,7 @@ impl<W: Wait, R: Wait + Copy + Drop, P: Post + Drop> Session<'_, W, R, P> {
     }
 
     /// Does what a line asks for.
-    fn obey(&mut self, asked: Asked) -> Result<(), NodeFault> {
+    fn obey(&mut self, asked: Asked) -> Result<(), RunningFault> {
         match asked {
             Asked::Nothing => Ok(()),
             Asked::Unknown => {
@@ -85,6 +85,7 @@ impl<W: Wait, R: Wait + Copy + Drop, P: Post + Drop> Session<'_, W, R, P> {
             Asked::Taken(Command::Ticks(count)) => tick(self.rt, self.shared, count),
             Asked::Taken(Command::View) => self.view(),
             Asked::Taken(Command::Edges) => self.edges(),
+            Asked::Taken(Command::Leave) => self.shared.leave(self.rt),
             Asked::Taken(Command::Quit) => {
                 self.shared.ending().end(self.rt, None);
                 Ok(())
@@ -113,7 +114,7 @@ impl<W: Wait, R: Wait + Copy + Drop, P: Post + Drop> Engine for Session<'_, W, R
 
     ghost too_long = { λ s line other later text n h k p. tt };
 
-    ghost speaks = { λ s lines. ([], 0, tt) };
+    ghost speaks = { λ s lines. ([], tt) };
 }
 
 /// Answers the lines of an input until it ends or the node does, and then ends the node.
@@ -132,9 +133,9 @@ pub fn run_lines<W: Wait, R: Wait + Copy + Drop, P: Post + Drop, I: Read>(
     let mut nothing = Vec::new(alloc);
     let fault = match run(alloc, &mut session, reader, &mut nothing) {
         Ok(()) => None,
-        Err(RunFault::Read) => Some(NodeFault::Read),
-        Err(RunFault::Write) => Some(NodeFault::Write),
-        Err(RunFault::OutOfMemory) => Some(NodeFault::OutOfMemory),
+        Err(RunFault::Read) => Some(RunningFault::Read),
+        Err(RunFault::Write) => Some(RunningFault::Write),
+        Err(RunFault::OutOfMemory) => Some(RunningFault::OutOfMemory),
     };
     shared.ending().end(rt, fault);
 }

@@ -4,7 +4,7 @@ use crate::console::Console;
 use crate::dealer::Dealer;
 use crate::edge_text::write_edges;
 use crate::ending::Ending;
-use crate::fault::NodeFault;
+use crate::fault::RunningFault;
 use crate::note::Note;
 use crate::part::{Part, PartRound};
 use crate::post::Post;
@@ -74,7 +74,7 @@ impl<R: Wait + Copy + Drop, P: Post + Drop> Shared<R, P> {
 
     /// Prints the views that the service has entered, while its lock is held: views are printed in
     /// the order in which they were entered. Probes begin anew in the last of them.
-    fn show<W: Wait>(&self, rt: &W, service: &mut Service<R, P>) -> Result<(), NodeFault> {
+    fn show<W: Wait>(&self, rt: &W, service: &mut Service<R, P>) -> Result<(), RunningFault> {
         let lines = service.take_lines();
         self.console.add(rt, lines.as_slice())?;
         if let Some(parts) = service.take_parts(self.probers)? {
@@ -95,7 +95,7 @@ impl<R: Wait + Copy + Drop, P: Post + Drop> Shared<R, P> {
     }
 
     /// Prints the views that were entered so far.
-    pub fn begin<W: Wait>(&self, rt: &W) -> Result<(), NodeFault> {
+    pub fn begin<W: Wait>(&self, rt: &W) -> Result<(), RunningFault> {
         let mut service = self.service.lock(rt);
         self.show(rt, &mut service)?;
         Ok(())
@@ -104,7 +104,7 @@ impl<R: Wait + Copy + Drop, P: Post + Drop> Shared<R, P> {
     /// A tick of the node. After every tenth the observed members are probed, and edges of which
     /// too many probes were not acknowledged are given to the node. It returns when the round is
     /// made.
-    pub fn tick<W: Wait>(&self, rt: &W) -> Result<(), NodeFault> {
+    pub fn tick<W: Wait>(&self, rt: &W) -> Result<(), RunningFault> {
         if self.step(rt)? {
             // no lock is held here, so messages are taken while the round is made
             self.dealer.begin(rt);
@@ -115,7 +115,7 @@ impl<R: Wait + Copy + Drop, P: Post + Drop> Shared<R, P> {
     }
 
     /// A tick of the node, without the round of probes that may be due after it; whether it is.
-    fn step<W: Wait>(&self, rt: &W) -> Result<bool, NodeFault> {
+    fn step<W: Wait>(&self, rt: &W) -> Result<bool, RunningFault> {
         let mut service = self.service.lock(rt);
         let done = service.tick();
         self.show(rt, &mut service)?;
@@ -123,7 +123,7 @@ impl<R: Wait + Copy + Drop, P: Post + Drop> Shared<R, P> {
     }
 
     /// A round of a part of the probes, if there is a view.
-    fn round_of<W: Wait>(&self, rt: &W, part: usize) -> Result<Option<PartRound>, NodeFault> {
+    fn round_of<W: Wait>(&self, rt: &W, part: usize) -> Result<Option<PartRound>, RunningFault> {
         let Some(slot) = self.parts.get(part) else {
             return Ok(None);
         };
@@ -135,7 +135,7 @@ impl<R: Wait + Copy + Drop, P: Post + Drop> Shared<R, P> {
     }
 
     /// A round of a part of the probes. What it asks for is sent when its lock is free again.
-    fn probe<W: Wait>(&self, rt: &W, part: usize) -> Result<(), NodeFault> {
+    fn probe<W: Wait>(&self, rt: &W, part: usize) -> Result<(), RunningFault> {
         let Some(round) = self.round_of(rt, part)? else {
             return Ok(());
         };
@@ -173,7 +173,7 @@ impl<R: Wait + Copy + Drop, P: Post + Drop> Shared<R, P> {
     }
 
     /// A message has come.
-    pub fn receive<W: Wait>(&self, rt: &W, message: Message) -> Result<(), NodeFault> {
+    pub fn receive<W: Wait>(&self, rt: &W, message: Message) -> Result<(), RunningFault> {
         if let Body::ProbeAck(_) = message.body() {
             // before the lock of the service, so that a long step does not make a peer seem silent
             self.ack(rt, &message.sender());
@@ -185,8 +185,16 @@ impl<R: Wait + Copy + Drop, P: Post + Drop> Shared<R, P> {
         Ok(())
     }
 
+    /// The node is to leave its cluster.
+    pub fn leave<W: Wait>(&self, rt: &W) -> Result<(), RunningFault> {
+        let mut service = self.service.lock(rt);
+        let done = service.leave();
+        self.show(rt, &mut service)?;
+        done
+    }
+
     /// Writes the lines of the observed edges: those of one view, each up or down as it is now.
-    pub fn write_edges<W: Wait>(&self, rt: &W, output: &mut Vec<u8>) -> Result<(), NodeFault> {
+    pub fn write_edges<W: Wait>(&self, rt: &W, output: &mut Vec<u8>) -> Result<(), RunningFault> {
         let mut service = self.service.lock(rt);
         let edges = service.edges()?;
         drop(service);
@@ -207,7 +215,7 @@ impl<R: Wait + Copy + Drop, P: Post + Drop> Shared<R, P> {
     }
 
     /// Ends the node if a step of it has failed; the answer is whether it goes on.
-    pub fn goes_on<W: Wait>(&self, rt: &W, done: Result<(), NodeFault>) -> bool {
+    pub fn goes_on<W: Wait>(&self, rt: &W, done: Result<(), RunningFault>) -> bool {
         match done {
             Ok(()) => !self.ending.has_come(rt),
             Err(fault) => {

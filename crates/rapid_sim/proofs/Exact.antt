@@ -1,8 +1,7 @@
 -- If memory never runs out, `sim` prints what its definitions say.
-use Rattle.std.proofs.Common.{◌≡◌, ℕ, zero, suc, Bool, true, false, cond, not, inl, inr, List, [], ◌∷◌, ◌++◌, refl, ap, sym, ◌∙◌, subst, arith, Option, Some, None, is_some, replicate}
+use Rattle.std.proofs.Common.{◌≡◌, ℕ, zero, suc, Bool, true, false, cond, not, inl, inr, List, [], ◌∷◌, ◌++◌, refl, ap, sym, ◌∙◌, subst, arith, Option, Some, None, replicate}
 use Rattle.rapid_model.specs.World as world
 use Rattle.rapid_model.specs.World.{WorldEvent}
-use Rattle.rapid_model.specs.Refusal.{WorldRefusal}
 use Rattle.rapid_model.specs.Run.{WorldReport, step_reports}
 use Rattle.rapid_model.specs.StoredWorld.{StoredWorld, StoresEvent, with_event, world_of, unmarked, wants_of}
 use Rattle.rapid_model.specs.SimLine.{SimLine, Parameters, Found, Events, Lose, Deliver, Drop, Flow, Packets}

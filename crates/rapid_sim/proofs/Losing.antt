@@ -8,7 +8,7 @@ use Rattle.rapid_model.specs.Edge.{Edge, probed}
 use Rattle.rapid_model.specs.Node as node
 use Rattle.rapid_model.specs.Node.{Outcome, Event}
 use Rattle.rapid_model.specs.NodeStep.{node_step}
-use Rattle.rapid_model.specs.World.{World, Peer, Packet, Act, Took, Ticked, Probed, WorldEvent, Start, Probe, Tick, Deliver, Crash, MarkedEvent, running, running_under, running_at, peer_at, packet, observed}
+use Rattle.rapid_model.specs.World.{World, Peer, Packet, Act, Took, Ticked, Probed, WorldEvent, Start, Probe, Tick, Deliver, Crash, Leave, MarkedEvent, running, running_under, running_at, peer_at, packet, observed}
 use Rattle.rapid_model.specs.Refusal.{refusal}
 use Rattle.rapid_model.specs.WorldStep.{settled, hands, started, edge_on, with_edge, noted, probes, with_found, with_peer, deliver, by_event, world_step}
 use Rattle.rapid_model.specs.Run.{run, founded}
@@ -111,6 +111,7 @@ keeps_step w m = by m.event
     by (Tick id) = keeps_peer w (running_under w id) _ (λ i p. keeps_hands w i p (Ticked ∷ []) node.Tick m.halts)
     by (Deliver k) = keeps_deliver w (packet w k) m.halts
     by (Crash id) = keeps_peer w (running_under w id) _ (λ i p. refl)
+    by (Leave id) = keeps_peer w (running_under w id) _ (λ i p. keeps_hands w i p [] node.Leave m.halts)
 
 run_keeps : (ms : List MarkedEvent) (w : World) → (run ms w).founding ≡ w.founding
 run_keeps [] w = refl

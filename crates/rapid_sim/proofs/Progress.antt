@@ -1,9 +1,8 @@
 -- How events, one after another, come to what is to be done.
-use Rattle.std.proofs.Common.{◌≡◌, ℕ, zero, suc, ◌+◌, ◌-◌, ◌<◌, ◌≤◌, add-one, Bool, true, false, ◌⊎◌, inl, inr, List, [], ◌∷◌, ◌++◌, append_assoc, append-nil, length, length-append, get_or, slice_get, drop, map, refl, ap, sym, ◌∙◌, subst, arith, Some, None}
+use Rattle.std.proofs.Common.{◌≡◌, ℕ, zero, suc, ◌+◌, ◌<◌, ◌≤◌, add-one, Bool, true, false, ◌⊎◌, inl, inr, List, [], ◌∷◌, ◌++◌, append_assoc, append-nil, length, get_or, drop, map, refl, ap, sym, ◌∙◌, subst, arith, Some, None}
 use Rattle.rapid_model.specs.World as world
 use Rattle.rapid_model.specs.World.{WorldEvent, MarkedEvent}
-use Rattle.rapid_model.specs.Run.{WorldReport}
-use Rattle.rapid_model.specs.StoredWorld.{StoredWorld, StoresEvent, wants_of}
+use Rattle.rapid_model.specs.StoredWorld.{wants_of}
 use Rattle.rapid_model.specs.Refusal as faults
 use Rattle.rapid_model.specs.SimText.{Simulation, SimState, Underway, Asked, Nothing, Command, answer, after, printed, refused, reports_text, settling, least_unsettled, can_reach}
 use Rattle.rapid_model.specs.SimLine.{SimLine}

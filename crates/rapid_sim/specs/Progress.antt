@@ -1,6 +1,6 @@
 -- How far a simulator has come with what it does.
-use Rattle.std.specs.Prelude.{◌≡◌, ℕ, suc, ◌+◌, Bool, true, false, ◌⊎◌, List, ◌++◌, length, slice_get, ◌-◌, Option, Some, None}
-use Rattle.rapid_model.specs.World.{WorldEvent, MarkedEvent}
+use Rattle.std.specs.Prelude.{◌≡◌, ℕ, suc, ◌+◌, Bool, true, false, ◌⊎◌, List, ◌++◌}
+use Rattle.rapid_model.specs.World.{WorldEvent}
 use Rattle.rapid_model.specs.Refusal as faults
 use Rattle.rapid_model.specs.Run.{WorldReport}
 use Rattle.rapid_model.specs.StoredWorld.{StoredWorld, StoresEvent, wants_of}

@@ -19,6 +19,6 @@ run_ends r = record { later = 0; prints = none_print (state_of r); counts = omeg
 pub run_too_long : (r : SimRun) (line other : List ℕ) (later : List (List ℕ)) (text : List ℕ) (n : ℕ) → 256 < length line → 256 < length other → RunPrints r (line ∷ later) text n → RunPrints r (other ∷ later) text n
 run_too_long r line other later text n h k p = record { later = p.later; prints = long_lines (state_of r) line other later text p.later h k p.prints; counts = p.counts }
 
--- Whatever the lines are, they print something.
-pub run_speaks : (r : SimRun) (ls : List (List ℕ)) → (text : List ℕ) × (n : ℕ) × RunPrints r ls text n
-run_speaks r ls = (text_of_lines (state_of r) ls, wants_in r, record { later = 0; prints = definitions_print (state_of r) ls; counts = omega arith })
+-- Whatever the lines are, they print something, and memory runs out no more.
+pub run_speaks : (r : SimRun) (ls : List (List ℕ)) → (text : List ℕ) × RunPrints r ls text (wants_in r)
+run_speaks r ls = (text_of_lines (state_of r) ls, record { later = 0; prints = definitions_print (state_of r) ls; counts = omega arith })

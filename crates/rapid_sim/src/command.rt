@@ -238,6 +238,8 @@ fn plain_command(name: &[u8], rest: &[u8]) -> Option<Command>
         alone(Command::Flow, rest)
     } else if name == b"crash".as_slice() {
         Some(Command::Events(WorldEvent::Crash(one_identifier(rest)?), 1))
+    } else if name == b"leave".as_slice() {
+        Some(Command::Events(WorldEvent::Leave(one_identifier(rest)?), 1))
     } else if name == b"packets".as_slice() {
         alone(Command::Packets, rest)
     } else {

@@ -7,4 +7,4 @@ mod sim;
 mod simulator;
 mod view;
 
-pub use sim::run_sim;
+pub use sim::{SimRan, run_sim, run_sim_counted};

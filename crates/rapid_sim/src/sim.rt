@@ -1,12 +1,13 @@
 // A run of `sim`.
 
-ghost use Rattle.std.specs.Prelude.{◌≡◌, ◌≤◌, ◌<◌, ◌++◌, ℕ, List, length, false, None, IfOk, IfSome, OnOk, OnErr};
+ghost use Rattle.std.specs.Prelude.{◌≡◌, ◌≢◌, ◌≤◌, ◌<◌, ◌++◌, ℕ, List, length, false, None, IfOk, IfErr, IfSome, OnOk, OnErr};
 ghost use Rattle.std.specs.Io.KnownBytes.{Appends};
 ghost use Rattle.rapid_model.specs.Configuration.{Params as ModelParams, founding};
 ghost use Rattle.rapid_model.specs.Reading.{members_fault};
 ghost use Rattle.rapid_model.specs.SimLine as line;
 ghost use Rattle.rapid_model.specs.SimText as model;
-ghost use Rattle.rapid_text.specs.Underway.{AppendsFront};
+ghost use Rattle.rapid_text.specs.Underway.{AppendsFront, IsCounted};
+ghost use Rattle.rapid_text.specs.declared.fault.RunFault.TheVariants.{OutOfMemory};
 ghost use Rattle.rapid_sim.specs.Commands.{command_of, asked_of, HasFounding, IsFromOne, IsPreparation, IsReady, AsksReady};
 ghost use Rattle.rapid_sim.specs.Progress.{IsAnswered, IsAnsweredExactly};
 ghost use Rattle.rapid_sim.specs.Replies.{refusal_of};
@@ -264,13 +265,42 @@ impl Engine for SimRun {
     ghost speaks = { run_speaks };
 }
 
+/// What became of a run of `sim`.
+#[derive(Clone, Copy, Debug)]
+pub struct SimRan {
+    /// How many times memory ran out: the world's own, for which an event was refused as `refused
+    /// OutOfMemory`, and that of nodes, which halted.
+    pub met: u64,
+    /// How it ended: at the end of the input, or by a fault.
+    pub ended: Result<(), RunFault>,
+}
+
 /// Reads lines, drives a simulated cluster by them, and writes what they print, and nothing else.
-/// The answer is how often memory ran out: in the world, for which an event was refused as `refused
-/// OutOfMemory`, and in steps of nodes, which halted. If it never did, what was written is what the
+/// Says how it ended, and how many times memory ran out. If that is 0, what was written is what the
 /// input prints; else it is what the input may print if memory runs out this often. After a fault a
-/// beginning of such a text is written. The fault is `Read` if the input could not be read, `Write`
+/// beginning of such a text was written. The fault is `Read` if the input could not be read, `Write`
 /// if the output could not be written, `OutOfMemory` if there was no memory to read and answer
-/// lines.
+/// lines. After `OutOfMemory` the count says nothing of what was written.
+pub fn run_sim_counted<R: Read, W: Write>(alloc: Global, reader: &mut R, writer: &mut W) -> SimRan
+    ensures written { OnOk result.ended (IfSome (R.remaining reader.old) (λ input.
+        (text : List ℕ) × SimPrints input text result.met × Appends (W.contents writer.old) (W.contents writer.new) text)) }
+    ensures exact { OnOk result.ended (result.met ≡ 0 → IfSome (R.remaining reader.old) (λ input.
+        Appends (W.contents writer.old) (W.contents writer.new) (model.sim_text input))) }
+    ensures begun { IfErr result.ended (λ fault. IfSome (R.remaining reader.old) (λ input.
+        (text : List ℕ) × (met : ℕ) × IsCounted fault met result.met × SimPrints input text met × AppendsFront (W.contents writer.old) (W.contents writer.new) text)) }
+    ensures exactly_begun { IfErr result.ended (λ fault. fault ≢ OutOfMemory → result.met ≡ 0 → IfSome (R.remaining reader.old) (λ input.
+        AppendsFront (W.contents writer.old) (W.contents writer.new) (model.sim_text input))) }
+{
+    let mut run = SimRun::new(alloc);
+    let ended = rapid_text::run(alloc, &mut run, reader, writer);
+    SimRan {
+        met: run.met(),
+        ended,
+    }
+}
+
+/// Does what [`run_sim_counted`] does. The answer is how often memory ran out, unless a fault ended
+/// the run.
 pub fn run_sim<R: Read, W: Write>(
     alloc: Global,
     reader: &mut R,
@@ -283,7 +313,9 @@ pub fn run_sim<R: Read, W: Write>(
     ensures begun { OnErr result (IfSome (R.remaining reader.old) (λ input.
         (text : List ℕ) × (met : ℕ) × SimPrints input text met × AppendsFront (W.contents writer.old) (W.contents writer.new) text)) }
 {
-    let mut run = SimRun::new(alloc);
-    rapid_text::run(alloc, &mut run, reader, writer)?;
-    Ok(run.met())
+    let ran = run_sim_counted(alloc, reader, writer);
+    match ran.ended {
+        Ok(()) => Ok(ran.met),
+        Err(fault) => Err(fault),
+    }
 }

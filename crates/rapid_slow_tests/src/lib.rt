@@ -1,13 +1,21 @@
-//! Tests that are too slow for the checked runner of `rt try`: limits that are reached after tens of
-//! thousands of steps. `rt test` proves them, and runs them as LLVM builds them. The other tests of what
-//! stands here are in `rapid_node_tests` and `rapid_world_tests`.
+//! Tests that need a program built by LLVM: limits that are reached after tens of thousands of steps, and
+//! a desk of which the gate refuses each allocation. `rt test` proves them. The other tests of what stands
+//! here are in `rapid_node_tests` and `rapid_world_tests`.
 #![tactic(auto)]
 
 #[cfg(test)]
 mod clerks;
 #[cfg(test)]
+mod desk;
+#[cfg(test)]
 mod history;
 #[cfg(test)]
+mod leaving;
+#[cfg(test)]
 mod numbered;
+#[cfg(test)]
+mod published;
+#[cfg(test)]
+mod simulated;
 #[cfg(test)]
 mod worlds;

@@ -2,9 +2,10 @@
 
 use crate::numbered::process;
 use rapid_config::{Configuration, Params};
-use rapid_world::WorldEvent::Tick;
+use rapid_world::WorldEvent::{Crash, Deliver, Leave, Probe, Start, Tick};
 use rapid_world::{World, WorldError};
 use std::alloc::Global;
+use std::process::Abort;
 use std::test::Fail;
 
 /// A world of process 1 alone, with 3 rings and the marks 3 and 1.
@@ -25,11 +26,35 @@ fn tick_often(world: &mut World, thousands: usize) -> usize {
     accepted
 }
 
+/// Checks that a full world of process 1 refuses each kind of event as one too many, also if it is refused
+/// otherwise too: none runs under the number 2, no packet was sent, and there is no edge.
+fn assert_full(rt: &impl Abort, world: &mut World) {
+    let (one, two) = (process(1), process(2));
+    let events = [
+        Start(two, one.endpoint()),
+        Start(one, one.endpoint()),
+        Probe(one.id(), 0, true),
+        Tick(one.id()),
+        Tick(two.id()),
+        Deliver(1),
+        Crash(one.id()),
+        Crash(two.id()),
+        Leave(one.id()),
+        Leave(two.id()),
+    ];
+    for event in events {
+        assert!(rt;
+            world.step(&event).err() == Some(WorldError::EventsFull),
+            "at {event:?}"
+        );
+    }
+}
+
 #[test]
 fn a_million_events_are_all(rt: HostRuntime) -> Result<(), Fail> {
     let mut world = alone(rt.alloc())?;
     assert_eq!(rt; tick_often(&mut world, 1000), 1_000_000);
-    let full = world.step(&Tick(process(1).id()));
-    assert!(rt; matches!(full, Err(WorldError::EventsFull)));
+    assert_full(&rt, &mut world);
+    assert_eq!(rt; world.accepted(), 1_000_000);
     Ok(())
 }

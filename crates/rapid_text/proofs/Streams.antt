@@ -1,13 +1,16 @@
 -- What lines print if an input comes in parts.
-use Rattle.std.proofs.Common.{◌≡◌, ◌≢◌, ℕ, ◌+◌, ◌<◌, true, List, [], ◌∷◌, ◌++◌, length, take, drop, refl, ap, sym, ◌∙◌, subst, arith, inl, inr, append_assoc, append-nil, Result, Ok, Err, OnErr, Option, Some, None, IfSome, OnOk}
+use Rattle.std.proofs.Common.{◌≡◌, ◌≢◌, ℕ, ◌+◌, ◌<◌, true, List, [], ◌∷◌, ◌++◌, length, take, drop, refl, ap, sym, ◌∙◌, subst, arith, inl, inr, append_assoc, append-nil, Result, Ok, Err, OnErr, IfErr, Option, Some, None, IfSome, OnOk}
 use Rattle.std.specs.Io.BufRead.{drop_through}
+use Rattle.std.specs.Result.{IsErrAnd}
 use Rattle.std.specs.Io.KnownBytes.{Appends, Consumes, IsAtEnd}
 use Rattle.std.proofs.KnownBytes.{Appends-nil, Appends-trans, Consumes-nil, Consumes-trans}
 use Rattle.std.proofs.lemmas.List.{take-append-drop}
 use lib.Seq.{take-add}
 use Rattle.rapid_model.specs.Lines.{line_feed, lines}
 use Rattle.rapid_text.specs.Endings.{has_no_end, without_return, Keeps, BeginsWith}
-use Rattle.rapid_text.specs.Underway.{Answers, Feeds, Says, SaysFront, AppendsFront, AnswersPart, Writes, WritesFront, IsUnderway}
+use Rattle.rapid_text.specs.Underway.{Answers, Feeds, Says, SaysFront, AppendsFront, AnswersPart, Writes, WritesFront, IsCounted, IsUnderway}
+use Rattle.rapid_text.specs.declared.fault.RunFault.{RunFault}
+use Rattle.rapid_text.specs.declared.fault.RunFault.TheVariants.{Read, Write, OutOfMemory}
 use Rattle.rapid_text.proofs.Endings.{no_end_append, long_first, line_ends, line_last, HasLongFirst}
 
 -- What lines of more than 256 bytes print does not hang on what stands in them.
@@ -15,9 +18,9 @@ abbrev pub IsBlindToLong : {E : Type 0} → (E → List (List ℕ) → List ℕ 
 IsBlindToLong {E} prints = (s : E) (line other : List ℕ) (later : List (List ℕ)) (text : List ℕ) (n : ℕ) → 256 < length line → 256 < length other →
     prints s (line ∷ later) text n → prints s (other ∷ later) text n
 
--- Whatever the lines are, they print something.
-abbrev pub Speaks : {E : Type 0} → (E → List (List ℕ) → List ℕ → ℕ → Type 0) → Type 0
-Speaks {E} prints = (s : E) (ls : List (List ℕ)) → (text : List ℕ) × (n : ℕ) × prints s ls text n
+-- Whatever the lines are, they print something, and memory runs out no more.
+abbrev pub Speaks : {E : Type 0} → (E → List (List ℕ) → List ℕ → ℕ → Type 0) → (E → ℕ) → Type 0
+Speaks {E} prints count = (s : E) (ls : List (List ℕ)) → (text : List ℕ) × prints s ls text (count s)
 
 module _ {E : Type 0} (prints : E → List (List ℕ) → List ℕ → ℕ → Type 0) (blind : IsBlindToLong prints) where
   long_same : (s : E) (m n : ℕ) (xs ys : List (List ℕ)) (later t : List ℕ) (k : ℕ) → 257 < m → 257 < n → HasLongFirst m xs later → HasLongFirst n ys later → prints s ys t k → prints s xs t k
@@ -71,15 +74,14 @@ module _ {E : Type 0} (prints : E → List (List ℕ) → List ℕ → ℕ → T
   feeds_rest first s line held kept rest part before after f h k i keeps =
       record { said = f.said; appended = f.appended; goes_on = λ later t n w. f.goes_on later t n (part_kept s held kept rest later t n h k i keeps w) }
 
--- Out of memory ends a run in a part: what was said is a beginning, since the rest would print something.
-pub feeds_begun : {E : Type 0} (prints : E → List (List ℕ) → List ℕ → ℕ → Type 0) (speaks : Speaks prints) (first s : E) (line held part rest before after : List ℕ)
-    → Feeds prints first s line held part rest before after → (later : List ℕ) → SaysFront prints first (lines (line ++ (part ++ later))) before after
-feeds_begun prints speaks first s line held part rest before after f later =
+-- What was said of a part is a beginning, since the rest would print something.
+pub feeds_begun : {E : Type 0} (prints : E → List (List ℕ) → List ℕ → ℕ → Type 0) (count : E → ℕ) (speaks : Speaks prints count) (first s : E) (line held part rest before after : List ℕ)
+    → Feeds prints first s line held part rest before after → (later : List ℕ) → SaysFront prints first (lines (line ++ (part ++ later))) (count s) before after
+feeds_begun prints count speaks first s line held part rest before after f later =
     let some = speaks s (lines (held ++ (rest ++ later))) in
     record {
       text = f.said ++ some.0;
-      met = some.1;
-      printed = f.goes_on later some.0 some.1 some.2;
+      printed = f.goes_on later some.0 (count s) some.1;
       front = (some.0, sym (append_assoc before f.said some.0) ∙ ap (λ xs. xs ++ some.0) (sym f.appended));
     }
 
@@ -92,10 +94,36 @@ pub last_lines : (kept : List ℕ) → has_no_end kept ≡ true → length kept 
 last_lines [] h e = absurd (e refl)
 last_lines (x ∷ xs) h e = ap (λ ys. lines ys) (append-nil (x ∷ xs)) ∙ line_last x xs h
 
+-- Out of memory ends a run in a part.
+pub feeds_stopped : {E : Type 0} (prints : E → List (List ℕ) → List ℕ → ℕ → Type 0) (count : E → ℕ) (speaks : Speaks prints count) (first s : E) (line held part rest before after : List ℕ)
+    → Feeds prints first s line held part rest before after → (later : List ℕ) → (met : ℕ) × SaysFront prints first (lines (line ++ (part ++ later))) met before after
+feeds_stopped prints count speaks first s line held part rest before after f later = (count s, feeds_begun prints count speaks first s line held part rest before after f later)
+
 -- What is said of an error.
 pub on_err : {T D : Type 0} (P : Type 0) (r : Result T D) → P → OnErr r P
 on_err P (Ok x) p = tt
 on_err P (Err e) p = p
+
+-- What is said of each error.
+pub if_err : {T D : Type 0} (P : D → Type 0) (r : Result T D) → ((e : D) → P e) → IfErr r P
+if_err P (Ok x) p = tt
+if_err P (Err e) p = p e
+
+-- What is said of each error, by what holds after any.
+pub err_after : {T D Q : Type 0} {P : D → Type 0} (r : Result T D) → ((e : D) → Q → P e) → OnErr r Q → IfErr r P
+err_after (Ok x) f q = tt
+err_after (Err e) f q = f e q
+
+-- An error was handed on.
+pub handed_on : {T D : Type 0} (P : D → Type 0) (e : D) (r : Result T D) → IsErrAnd r (λ f. f ≡ e) → P e → IfErr r P
+handed_on P e (Ok x) is p = tt
+handed_on P e (Err f) is p = subst P (sym is) p
+
+-- What was counted is counted after any fault.
+pub counted : (fault : RunFault) (count : ℕ) → IsCounted fault count count
+counted Read count = refl
+counted Write count = refl
+counted OutOfMemory count = tt
 
 -- ---- what is written
 
@@ -116,25 +144,23 @@ wrote_more a b c xs m n ys h e k =
 pub front_within : (a b : Option (List ℕ)) (xs whole : List ℕ) → BeginsWith whole xs → AppendsFront a b xs → AppendsFront a b whole
 front_within a b xs whole h k = (k.0, (k.1.0 ++ h.0, h.1 ∙ ap (λ ys. ys ++ h.0) k.1.1 ∙ append_assoc k.0 k.1.0 h.0), k.2)
 
+-- A whole text is a beginning.
+pub whole_front : (a b : Option (List ℕ)) (xs : List ℕ) → Appends a b xs → AppendsFront a b xs
+whole_front a b xs all = (xs, ([], sym (append-nil xs)), all)
+
+-- All of a text was written, or a beginning of it.
+pub wrote_some : {T D : Type 0} (r : Result T D) (a b : Option (List ℕ)) (xs : List ℕ) → OnOk r (Appends a b xs) → OnErr r (AppendsFront a b xs) → AppendsFront a b xs
+wrote_some (Ok x) a b xs all front = whole_front a b xs all
+wrote_some (Err e) a b xs all front = front
+
 -- ---- a part, fed and written
 
-module _ {E : Type 0} (prints : E → List (List ℕ) → List ℕ → ℕ → Type 0) where
-  -- Whether it was fed or not, what is in the output is a beginning of what the part prints.
-  pub fed_begins : {T D : Type 0} (speaks : Speaks prints) (r : Result T D) (first s : E) (line held part before after : List ℕ)
-      → OnOk r (Feeds prints first s line held part [] before after) → OnErr r ((later : List ℕ) → SaysFront prints first (lines (line ++ (part ++ later))) before after)
-      → (later : List ℕ) → SaysFront prints first (lines (line ++ (part ++ later))) before after
-  fed_begins speaks (Ok x) first s line held part before after ok err later = feeds_begun prints speaks first s line held part [] before after ok later
-  fed_begins speaks (Err e) first s line held part before after ok err later = err later
-
+module _ {E : Type 0} (prints : E → List (List ℕ) → List ℕ → ℕ → Type 0) (count : E → ℕ) where
   -- Of a beginning, a beginning was written.
-  pub front_written : (s : E) (ls : List (List ℕ)) (before output : List ℕ) (a b : Option (List ℕ)) → before ≡ [] → SaysFront prints s ls before output → AppendsFront a b output → WritesFront prints s ls a b
-  front_written s ls before output a b none f w =
-      record { text = f.text; met = f.met; printed = f.printed; written = front_within a b output f.text (subst (λ xs. BeginsWith (xs ++ f.text) output) none f.front) w }
-
-  -- A beginning was written whole.
-  pub all_written : (s : E) (ls : List (List ℕ)) (before output : List ℕ) (a b : Option (List ℕ)) → before ≡ [] → SaysFront prints s ls before output → Appends a b output → WritesFront prints s ls a b
-  all_written s ls before output a b none f w =
-      record { text = f.text; met = f.met; printed = f.printed; written = (output, subst (λ xs. BeginsWith (xs ++ f.text) output) none f.front, w) }
+  pub front_written : (fault : RunFault) (now met : ℕ) (s : E) (ls : List (List ℕ)) (before output : List ℕ) (a b : Option (List ℕ)) → before ≡ [] → IsCounted fault met now → SaysFront prints s ls met before output → AppendsFront a b output
+      → WritesFront prints s ls fault now a b
+  front_written fault now met s ls before output a b none is f w =
+      record { text = f.text; met = met; counted = is; printed = f.printed; written = front_within a b output f.text (subst (λ xs. BeginsWith (xs ++ f.text) output) none f.front) w }
 
   -- What a part said was written.
   pub part_written : (first s : E) (line held part before output : List ℕ) (a b : Option (List ℕ)) → before ≡ [] → Feeds prints first s line held part [] before output → Appends a b output
@@ -142,17 +168,31 @@ module _ {E : Type 0} (prints : E → List (List ℕ) → List ℕ → ℕ → T
   part_written first s line held part before output a b none f w =
       record { said = f.said; appended = subst (Appends a b) (f.appended ∙ ap (λ xs. xs ++ f.said) none) w; goes_on = f.goes_on }
 
-  -- Nothing was said, which is a beginning.
-  pub says_none : (speaks : Speaks prints) (s : E) (ls : List (List ℕ)) (before after : List ℕ) → after ≡ before → SaysFront prints s ls before after
-  says_none speaks s ls before after same =
-      let some = speaks s ls in
-      record { text = some.0; met = some.1; printed = some.2; front = (some.0, ap (λ xs. xs ++ some.0) (sym same)) }
+  -- Of what a part said, a beginning was written.
+  pub part_begun : (speaks : Speaks prints count) (fault : RunFault) (first s : E) (line held part before output : List ℕ) (a b : Option (List ℕ)) → before ≡ [] → Feeds prints first s line held part [] before output → AppendsFront a b output
+      → (later : List ℕ) → WritesFront prints first (lines (line ++ (part ++ later))) fault (count s) a b
+  part_begun speaks fault first s line held part before output a b none f w later =
+      front_written fault (count s) (count s) first (lines (line ++ (part ++ later))) before output a b none (counted fault (count s)) (feeds_begun prints count speaks first s line held part [] before output f later) w
 
-  -- Whether the last line was answered or not, what is in the output is a beginning of what it prints.
-  pub says_begins : {T D : Type 0} (speaks : Speaks prints) (r : Result T D) (s : E) (ls : List (List ℕ)) (met : ℕ) (before after : List ℕ)
-      → OnOk r (Says prints s ls met before after) → OnErr r (after ≡ before) → SaysFront prints s ls before after
-  says_begins speaks (Ok x) s ls met before after ok err = record { text = ok.said; met = met; printed = ok.printed; front = ([], sym ok.appended ∙ sym (append-nil after)) }
-  says_begins speaks (Err e) s ls met before after ok err = says_none speaks s ls before after err
+  -- Memory ran out in a part.
+  pub part_stopped : (now : ℕ) (first : E) (line part before output : List ℕ) (a b : Option (List ℕ)) → before ≡ [] → ((later : List ℕ) → (met : ℕ) × SaysFront prints first (lines (line ++ (part ++ later))) met before output) → AppendsFront a b output
+      → (later : List ℕ) → WritesFront prints first (lines (line ++ (part ++ later))) OutOfMemory now a b
+  part_stopped now first line part before output a b none f w later =
+      front_written OutOfMemory now (f later).0 first (lines (line ++ (part ++ later))) before output a b none tt (f later).1 w
+
+  -- What was said is a beginning of itself.
+  says_all : (s : E) (ls : List (List ℕ)) (met : ℕ) (before after : List ℕ) → Says prints s ls met before after → SaysFront prints s ls met before after
+  says_all s ls met before after f = record { text = f.said; printed = f.printed; front = ([], sym f.appended ∙ sym (append-nil after)) }
+
+  -- Of what the last line said, a beginning was written.
+  pub last_begun : (fault : RunFault) (s : E) (ls : List (List ℕ)) (met : ℕ) (before output : List ℕ) (a b : Option (List ℕ)) → before ≡ [] → Says prints s ls met before output → AppendsFront a b output → WritesFront prints s ls fault met a b
+  last_begun fault s ls met before output a b none f w = front_written fault met met s ls before output a b none (counted fault met) (says_all s ls met before output f) w
+
+  -- Memory ran out in the last line: nothing was said, which is a beginning.
+  pub last_stopped : (speaks : Speaks prints count) (now : ℕ) (s : E) (ls : List (List ℕ)) (before output : List ℕ) (a b : Option (List ℕ)) → before ≡ [] → output ≡ before → AppendsFront a b output → WritesFront prints s ls OutOfMemory now a b
+  last_stopped speaks now s ls before output a b none same w =
+      let some = speaks s ls in
+      front_written OutOfMemory now (count s) s ls before output a b none tt (record { text = some.0; printed = some.1; front = (some.0, ap (λ xs. xs ++ some.0) (sym same)) }) w
 
   -- What the last line says was written.
   pub says_written : (s : E) (ls : List (List ℕ)) (met : ℕ) (before output : List ℕ) (a b : Option (List ℕ)) → before ≡ [] → Says prints s ls met before output → Appends a b output
@@ -161,14 +201,14 @@ module _ {E : Type 0} (prints : E → List (List ℕ) → List ℕ → ℕ → T
       record { text = f.said; printed = f.printed; written = subst (Appends a b) (f.appended ∙ ap (λ xs. xs ++ f.said) none) w }
 
   -- Nothing was written, which is a beginning.
-  pub writes_none : (speaks : Speaks prints) (s : E) (ls : List (List ℕ)) (a : Option (List ℕ)) → WritesFront prints s ls a a
-  writes_none speaks s ls a =
+  pub writes_none : (speaks : Speaks prints count) (fault : RunFault) (s : E) (ls : List (List ℕ)) (a : Option (List ℕ)) → WritesFront prints s ls fault (count s) a a
+  writes_none speaks fault s ls a =
       let some = speaks s ls in
-      record { text = some.0; met = some.1; printed = some.2; written = ([], (some.0, refl), Appends-nil a) }
+      record { text = some.0; met = count s; counted = counted fault (count s); printed = some.1; written = ([], (some.0, refl), Appends-nil a) }
 
-  pub writes_none_of : (speaks : Speaks prints) (s : E) (input a : Option (List ℕ)) → IfSome input (λ xs. WritesFront prints s (lines xs) a a)
-  writes_none_of speaks s None a = tt
-  writes_none_of speaks s (Some xs) a = writes_none speaks s (lines xs) a
+  pub writes_none_of : (speaks : Speaks prints count) (s : E) (input a : Option (List ℕ)) (fault : RunFault) → IfSome input (λ xs. WritesFront prints s (lines xs) fault (count s) a a)
+  writes_none_of speaks s None a fault = tt
+  writes_none_of speaks s (Some xs) a fault = writes_none speaks fault s (lines xs) a
 
   -- ---- how far a run has come
 
@@ -194,13 +234,14 @@ module _ {E : Type 0} (prints : E → List (List ℕ) → List ℕ → ℕ → T
       }
 
   -- If the input is this, what was written and a beginning of what the rest prints are a beginning of what it prints.
-  front_by : (first : E) (input written : Option (List ℕ)) (state : E) (line : List ℕ) (left holds new : Option (List ℕ)) (whole later : List ℕ)
-      → (u : IsUnderway prints first input written state line left holds) → whole ≡ u.read ++ later → WritesFront prints state (lines (line ++ later)) holds new
-      → WritesFront prints first (lines whole) written new
-  front_by first input written state line left holds new whole later u e f =
+  front_by : (fault : RunFault) (now : ℕ) (first : E) (input written : Option (List ℕ)) (state : E) (line : List ℕ) (left holds new : Option (List ℕ)) (whole later : List ℕ)
+      → (u : IsUnderway prints first input written state line left holds) → whole ≡ u.read ++ later → WritesFront prints state (lines (line ++ later)) fault now holds new
+      → WritesFront prints first (lines whole) fault now written new
+  front_by fault now first input written state line left holds new whole later u e f =
       record {
         text = u.said ++ f.text;
         met = f.met;
+        counted = f.counted;
         printed = subst (λ xs. prints first (lines xs) (u.said ++ f.text) f.met) (sym e) (u.goes_on later f.text f.met f.printed);
         written = (
           u.said ++ f.written.0,
@@ -210,31 +251,31 @@ module _ {E : Type 0} (prints : E → List (List ℕ) → List ℕ → ℕ → T
       }
 
   -- After a fault in a part that was read.
-  pub underway_front : (first : E) (input written : Option (List ℕ)) (state : E) (line : List ℕ) (left rest holds new : Option (List ℕ)) (part : List ℕ)
-      → IsUnderway prints first input written state line left holds → Consumes left rest part → ((later : List ℕ) → WritesFront prints state (lines (line ++ (part ++ later))) holds new)
-      → IfSome input (λ xs. WritesFront prints first (lines xs) written new)
-  underway_front first None written state line left rest holds new part u c f = tt
-  underway_front first (Some xs) written state line None rest holds new part u c f = absurd u.consumed
-  underway_front first (Some xs) written state line (Some ys) None holds new part u c f = absurd c
-  underway_front first (Some xs) written state line (Some ys) (Some zs) holds new part u c f =
-      front_by first (Some xs) written state line (Some ys) holds new xs (part ++ zs) u (u.consumed ∙ ap (λ qs. u.read ++ qs) c) (f zs)
+  pub underway_front : (now : ℕ) (first : E) (input written : Option (List ℕ)) (state : E) (line : List ℕ) (left rest holds new : Option (List ℕ)) (part : List ℕ)
+      → IsUnderway prints first input written state line left holds → Consumes left rest part → (fault : RunFault) → ((later : List ℕ) → WritesFront prints state (lines (line ++ (part ++ later))) fault now holds new)
+      → IfSome input (λ xs. WritesFront prints first (lines xs) fault now written new)
+  underway_front now first None written state line left rest holds new part u c fault f = tt
+  underway_front now first (Some xs) written state line None rest holds new part u c fault f = absurd u.consumed
+  underway_front now first (Some xs) written state line (Some ys) None holds new part u c fault f = absurd c
+  underway_front now first (Some xs) written state line (Some ys) (Some zs) holds new part u c fault f =
+      front_by fault now first (Some xs) written state line (Some ys) holds new xs (part ++ zs) u (u.consumed ∙ ap (λ qs. u.read ++ qs) c) (f zs)
 
   -- After a fault in which nothing was read.
-  pub underway_stopped : (speaks : Speaks prints) (first : E) (input written : Option (List ℕ)) (state : E) (line : List ℕ) (left holds : Option (List ℕ))
-      → IsUnderway prints first input written state line left holds → IfSome input (λ xs. WritesFront prints first (lines xs) written holds)
-  underway_stopped speaks first input written state line left holds u =
-      underway_front first input written state line left left holds holds [] u (Consumes-nil left)
-      (λ later. writes_none speaks state (lines (line ++ later)) holds)
+  pub underway_stopped : (speaks : Speaks prints count) (first : E) (input written : Option (List ℕ)) (state : E) (line : List ℕ) (left holds : Option (List ℕ))
+      → IsUnderway prints first input written state line left holds → (fault : RunFault) → IfSome input (λ xs. WritesFront prints first (lines xs) fault (count state) written holds)
+  underway_stopped speaks first input written state line left holds u fault =
+      underway_front (count state) first input written state line left left holds holds [] u (Consumes-nil left) fault
+      (λ later. writes_none speaks fault state (lines (line ++ later)) holds)
 
   -- At the end of the input.
-  pub underway_failed : (first : E) (input written : Option (List ℕ)) (state : E) (line : List ℕ) (left rest holds new : Option (List ℕ))
-      → IsUnderway prints first input written state line left holds → Consumes left rest [] → IsAtEnd rest → WritesFront prints state (lines (line ++ [])) holds new
-      → IfSome input (λ xs. WritesFront prints first (lines xs) written new)
-  underway_failed first None written state line left rest holds new u c e f = tt
-  underway_failed first (Some xs) written state line None rest holds new u c e f = absurd u.consumed
-  underway_failed first (Some xs) written state line (Some ys) None holds new u c e f = absurd c
-  underway_failed first (Some xs) written state line (Some ys) (Some zs) holds new u c e f =
-      front_by first (Some xs) written state line (Some ys) holds new xs [] u (u.consumed ∙ ap (λ qs. u.read ++ qs) (c ∙ e)) f
+  pub underway_failed : (now : ℕ) (first : E) (input written : Option (List ℕ)) (state : E) (line : List ℕ) (left rest holds new : Option (List ℕ))
+      → IsUnderway prints first input written state line left holds → Consumes left rest [] → IsAtEnd rest → (fault : RunFault) → WritesFront prints state (lines (line ++ [])) fault now holds new
+      → IfSome input (λ xs. WritesFront prints first (lines xs) fault now written new)
+  underway_failed now first None written state line left rest holds new u c e fault f = tt
+  underway_failed now first (Some xs) written state line None rest holds new u c e fault f = absurd u.consumed
+  underway_failed now first (Some xs) written state line (Some ys) None holds new u c e fault f = absurd c
+  underway_failed now first (Some xs) written state line (Some ys) (Some zs) holds new u c e fault f =
+      front_by fault now first (Some xs) written state line (Some ys) holds new xs [] u (u.consumed ∙ ap (λ qs. u.read ++ qs) (c ∙ e)) f
 
   -- At the end of the input, if all was answered.
   pub underway_end : (first : E) (input written : Option (List ℕ)) (state : E) (line : List ℕ) (met : ℕ) (left rest holds new : Option (List ℕ))

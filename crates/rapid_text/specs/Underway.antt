@@ -5,6 +5,8 @@ use Rattle.std.specs.Prelude.{◌≡◌, ℕ, true, List, ◌∷◌, ◌++◌, O
 use Rattle.std.specs.Io.KnownBytes.{Appends, Consumes}
 use Rattle.rapid_model.specs.Lines.{lines}
 use Rattle.rapid_text.specs.Endings.{BeginsWith, has_no_end, without_return, Keeps}
+use Rattle.rapid_text.specs.declared.fault.RunFault.{RunFault}
+use Rattle.rapid_text.specs.declared.fault.RunFault.TheVariants.{Read, Write, OutOfMemory}
 
 -- ---- texts
 
@@ -36,9 +38,8 @@ pub record Says {E : Type 0} (prints : E → List (List ℕ) → List ℕ → �
   pub appended : after ≡ before ++ said
 
 -- What was appended to the output is a beginning of what these lines may print.
-pub record SaysFront {E : Type 0} (prints : E → List (List ℕ) → List ℕ → ℕ → Type 0) (state : E) (ls : List (List ℕ)) (before after : List ℕ) : Type 0 where
+pub record SaysFront {E : Type 0} (prints : E → List (List ℕ) → List ℕ → ℕ → Type 0) (state : E) (ls : List (List ℕ)) (met : ℕ) (before after : List ℕ) : Type 0 where
   pub text : List ℕ
-  pub met : ℕ
   pub printed : prints state ls text met
   pub front : BeginsWith (before ++ text) after
 
@@ -60,10 +61,18 @@ pub record Writes {E : Type 0} (prints : E → List (List ℕ) → List ℕ → 
   pub printed : prints state ls text met
   pub written : Appends before after text
 
--- A beginning of a text that these lines may print was written, and nothing else.
-pub record WritesFront {E : Type 0} (prints : E → List (List ℕ) → List ℕ → ℕ → Type 0) (state : E) (ls : List (List ℕ)) (before after : Option (List ℕ)) : Type 0 where
+-- After a fault of reading or writing memory ran out as often as was counted. If the fault is out of memory, the count says nothing.
+abbrev pub IsCounted : RunFault → ℕ → ℕ → Type 0
+IsCounted Read met count = met ≡ count
+IsCounted Write met count = met ≡ count
+IsCounted OutOfMemory met count = Unit {0}
+
+-- After this fault a beginning of a text that these lines may print was written, and nothing else. In the text memory runs out as
+-- often as was counted.
+pub record WritesFront {E : Type 0} (prints : E → List (List ℕ) → List ℕ → ℕ → Type 0) (state : E) (ls : List (List ℕ)) (fault : RunFault) (count : ℕ) (before after : Option (List ℕ)) : Type 0 where
   pub text : List ℕ
   pub met : ℕ
+  pub counted : IsCounted fault met count
   pub printed : prints state ls text met
   pub written : AppendsFront before after text
 

@@ -27,6 +27,6 @@ pub trait Engine {
     ghost too_long: { (state : Self) (line other : List ℕ) (later : List (List ℕ)) (text : List ℕ) (n : ℕ) → 256 < length line → 256 < length other →
         prints state (line ∷ later) text n → prints state (other ∷ later) text n };
 
-    // Whatever the lines are, they print something.
-    ghost speaks: { (state : Self) (lines : List (List ℕ)) → (text : List ℕ) × (n : ℕ) × prints state lines text n };
+    // Whatever the lines are, they print something, and memory runs out no more.
+    ghost speaks: { (state : Self) (lines : List (List ℕ)) → (text : List ℕ) × prints state lines text (met state) };
 }

@@ -1,7 +1,7 @@
 // From the bytes of an input to those of an output, a block at a time. What a block prints is
 // written before the next is read, so a terminal has each answer at once.
 
-ghost use Rattle.std.specs.Prelude.{◌≡◌, ◌<◌, ◌≤◌, ℕ, List, [], ◌∷◌, ◌++◌, true, length, take, MatchOption, IfSome, OnOk, OnErr, IfOk};
+ghost use Rattle.std.specs.Prelude.{◌≡◌, ◌<◌, ◌≤◌, ℕ, List, [], ◌∷◌, ◌++◌, true, length, take, MatchOption, IfSome, OnOk, OnErr, IfOk, IfErr};
 ghost use Rattle.std.specs.Io.KnownBytes.{Appends, Consumes, IsAtEnd, Keeps};
 ghost use Rattle.rapid_model.specs.Lines.{line_feed, lines};
 ghost use Rattle.rapid_text.specs.Endings.{has_no_end};
@@ -64,7 +64,7 @@ fn feed<E: Engine>(
     output: &mut Vec<u8>,
 ) -> Result<(), AllocError>
     ensures ok { OnOk result (Feeds E.prints engine.old engine.new line.old line.new part.now [] output.old.items output.new.items) }
-    ensures begun { OnErr result ((later : List ℕ) → SaysFront E.prints engine.old (lines (line.old ++ (part.now ++ later))) output.old.items output.new.items) }
+    ensures begun { OnErr result ((later : List ℕ) → (met : ℕ) × SaysFront E.prints engine.old (lines (line.old ++ (part.now ++ later))) met output.old.items output.new.items) }
 {
     let mut rest = part;
     while let Some((front, others)) = split_line(rest) {
@@ -121,7 +121,8 @@ fn write_out<W: Write>(writer: &mut W, output: &mut Vec<u8>) -> Result<(), RunFa
     Ok(())
 }
 
-/// Answers a block of the input, and writes what it prints.
+/// Answers a block of the input, and writes what it prints. If memory runs out in it, what was
+/// answered before is written too.
 fn answer_block<E: Engine, W: Write>(
     engine: &mut E,
     line: &mut LineBuffer,
@@ -132,17 +133,19 @@ fn answer_block<E: Engine, W: Write>(
     requires { output.old.items ≡ [] }
     ensures emptied { OnOk result (output.new.items ≡ []) }
     ensures ok { OnOk result (AnswersPart E.prints engine.old engine.new line.old line.new block.now (W.contents writer.old) (W.contents writer.new)) }
-    ensures begun { OnErr result ((later : List ℕ) →
-        WritesFront E.prints engine.old (lines (line.old ++ (block.now ++ later))) (W.contents writer.old) (W.contents writer.new)) }
+    ensures begun { IfErr result (λ fault. (later : List ℕ) →
+        WritesFront E.prints engine.old (lines (line.old ++ (block.now ++ later))) fault (E.met engine.new) (W.contents writer.old) (W.contents writer.new)) }
 {
-    // what was answered before a fault is written too
     let fed = feed(engine, line, block, output);
-    write_out(writer, output)?;
-    fed?;
-    Ok(())
+    let written = write_out(writer, output);
+    match fed {
+        Ok(()) => written,
+        Err(AllocError) => Err(RunFault::OutOfMemory),
+    }
 }
 
-/// Answers the last line of the input, and writes what it prints.
+/// Answers the last line of the input, and writes what it prints. If memory runs out in it, it
+/// prints nothing.
 fn end_input<E: Engine, W: Write>(
     engine: &mut E,
     line: &LineBuffer,
@@ -151,12 +154,17 @@ fn end_input<E: Engine, W: Write>(
 ) -> Result<(), RunFault>
     requires { output.old.items ≡ [] }
     ensures ok { OnOk result (Writes E.prints engine.old (lines (line.now ++ [])) (E.met engine.new) (W.contents writer.old) (W.contents writer.new)) }
-    ensures begun { OnErr result (WritesFront E.prints engine.old (lines (line.now ++ [])) (W.contents writer.old) (W.contents writer.new)) }
+    ensures begun { IfErr result (λ fault. WritesFront E.prints engine.old (lines (line.now ++ [])) fault (E.met engine.new) (W.contents writer.old) (W.contents writer.new)) }
 {
     let finished = finish(engine, line, output);
-    write_out(writer, output)?;
-    finished?;
-    writer.flush().map_err(|_| RunFault::Write)
+    let written = write_out(writer, output);
+    match finished {
+        Ok(()) => {
+            written?;
+            writer.flush().map_err(|_| RunFault::Write)
+        }
+        Err(AllocError) => Err(RunFault::OutOfMemory),
+    }
 }
 
 /// Answers the lines of an input, block by block, until it ends.
@@ -173,8 +181,8 @@ fn answer_all<E: Engine, R: Read, W: Write>(
     requires empty { output.old.items ≡ [] }
     ensures ok { OnOk result (IfSome (R.remaining reader.old) (λ input.
         Writes E.prints engine.old (lines input) (E.met engine.new) (W.contents writer.old) (W.contents writer.new))) }
-    ensures begun { OnErr result (IfSome (R.remaining reader.old) (λ input.
-        WritesFront E.prints engine.old (lines input) (W.contents writer.old) (W.contents writer.new))) }
+    ensures begun { IfErr result (λ fault. IfSome (R.remaining reader.old) (λ input.
+        WritesFront E.prints engine.old (lines input) fault (E.met engine.new) (W.contents writer.old) (W.contents writer.new))) }
 {
     for _ in 0..u64::MAX {
         let count = read_some(reader, block)?;
@@ -188,7 +196,8 @@ fn answer_all<E: Engine, R: Read, W: Write>(
 
 /// Answers the lines of an input, which the reader gives, and writes what they print and nothing
 /// else. After a fault a beginning of that is written. The fault is `Read` if the input could not
-/// be read, `Write` if the output could not be written, `OutOfMemory` if out of memory.
+/// be read, `Write` if the output could not be written, `OutOfMemory` if out of memory, whatever
+/// else failed then. After `Read` and `Write` the engine has counted how often memory ran out.
 pub fn run<E: Engine, R: Read, W: Write>(
     alloc: Global,
     engine: &mut E,
@@ -197,8 +206,8 @@ pub fn run<E: Engine, R: Read, W: Write>(
 ) -> Result<(), RunFault>
     ensures ok { OnOk result (IfSome (R.remaining reader.old) (λ input.
         Writes E.prints engine.old (lines input) (E.met engine.new) (W.contents writer.old) (W.contents writer.new))) }
-    ensures begun { OnErr result (IfSome (R.remaining reader.old) (λ input.
-        WritesFront E.prints engine.old (lines input) (W.contents writer.old) (W.contents writer.new))) }
+    ensures begun { IfErr result (λ fault. IfSome (R.remaining reader.old) (λ input.
+        WritesFront E.prints engine.old (lines input) fault (E.met engine.new) (W.contents writer.old) (W.contents writer.new))) }
 {
     let mut line = LineBuffer::new(alloc)?;
     let mut output = Vec::with_capacity(alloc, OUTPUT)?;

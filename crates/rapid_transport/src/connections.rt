@@ -11,7 +11,7 @@ use crate::timed::Timed;
 use bytes::Bytes;
 use rapid_endpoint::Endpoint;
 use std::alloc::Global;
-use std::io::{self, ErrorKind};
+use std::io::{self, ErrorKind, Write};
 use std::net::{Ipv4Addr, Net, SocketAddr, SocketAddrV4, TcpListener, TcpStream};
 use std::time::{Clock, Duration};
 
@@ -60,14 +60,16 @@ pub(crate) fn address_of(endpoint: Endpoint) -> SocketAddr {
 /// Opens a connection. It fails after 0.1 seconds, and a write fails after half of that without
 /// room. If nobody listens at a port of the ephemeral range, the system may take that very port for
 /// this end. Such a connection leads to itself and is given up at once, else the owner of the port
-/// could not listen at it.
+/// could not listen at it. So that Linux does not hold the port for a minute more, it is closed with
+/// a byte that nobody has read: it ends by a reset then.
 fn connect<R>(rt: &R, to: Endpoint) -> io::Result<TcpStream>
 where
     R: Net<Listener = TcpListener, Stream = TcpStream>,
 {
     let longest = Duration::from_millis(LONGEST_CONNECT);
-    let stream = TcpStream::connect_timeout(rt, &address_of(to), longest)?;
+    let mut stream = TcpStream::connect_timeout(rt, &address_of(to), longest)?;
     if stream.local_addr()? == stream.peer_addr()? {
+        stream.write_all(&[0])?;
         return Err(io::Error::from(ErrorKind::ConnectionRefused));
     }
     // a frame is waited for, and the next may come much later

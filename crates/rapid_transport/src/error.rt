@@ -50,7 +50,7 @@ impl TransportError {
 #[derive(Clone, Copy, Debug, PartialEq, Eq, Error)]
 pub enum ListenError {
     /// The port could not be bound.
-    #[error("the port is not to be had")]
+    #[error("the port cannot be bound")]
     NoPort,
     /// There was no memory, or no thread.
     #[error("out of memory")]

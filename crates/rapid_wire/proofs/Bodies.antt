@@ -10,7 +10,7 @@ use Rattle.rapid_model.specs.Cut.{Cut, IsCut, cut_bytes}
 use Rattle.rapid_model.specs.Configuration.{Configuration, IsConfiguration, magic}
 use Rattle.rapid_model.specs.Alert.{Kind, Remove, Join}
 use Rattle.rapid_model.specs.Ballot.{Ballot, Vote, IsBallot}
-use Rattle.rapid_model.specs.Message.{AlertItem, Answer, Safe, EndpointInUse, ConfigurationChanged, TooManyJoiners, Body, Batch, FastVote, Prepare, Promise, Accept, Accepted, Decision, PreJoin, Reply, JoinRequest, Confirm, Probe, ProbeAck}
+use Rattle.rapid_model.specs.Message.{AlertItem, Answer, Safe, EndpointInUse, ConfigurationChanged, TooManyJoiners, Body, Batch, FastVote, Prepare, Promise, Accept, Accepted, Decision, PreJoin, Reply, JoinRequest, Confirm, Probe, ProbeAck, Leave}
 use Rattle.rapid_model.specs.Frame.{IsId, IsItem, IsBatch, IsReport, IsAnswer, IsBody, ballot_bytes, kind_byte, item_bytes, report_bytes, answer_bytes, kind_number, body_bytes}
 use Rattle.rapid_model.proofs.Spelled.{spelling_tell}
 use Rattle.rapid_wire.proofs.Pieces.{head_same, tail_same, split, same_16, same_concat, same_map}
@@ -199,6 +199,10 @@ if_probeack : (P : Body → Type 0) → ((id : List ℕ) → P (ProbeAck id)) �
 if_probeack P f (ProbeAck id) h = f id
 if_probeack P f c h = absurd (omega (arith, h))
 
+if_leave : (P : Body → Type 0) → ((id : List ℕ) (k : ℕ) → P (Leave id k)) → (c : Body) → kind_number c ≡ 14 → P c
+if_leave P f (Leave id k) h = f id k
+if_leave P f c h = absurd (omega (arith, h))
+
 -- of one kind, bodies that have the same bytes are the same
 abbrev Same : Body → Body → Type 0
 Same b c = IsBody c → body_bytes b ≡ body_bytes c → b ≡ c
@@ -232,3 +236,5 @@ same_body (JoinRequest id r) c n h = if_joinrequest (Same (JoinRequest id r)) (�
 same_body (Confirm d) c n h = if_confirm (Same (Confirm d)) (λ x k e. ap Confirm (spelling_tell d x h k e)) c (sym n)
 same_body (Probe id) c n h = if_probe (Same (Probe id)) (λ jd k e. ap Probe e) c (sym n)
 same_body (ProbeAck id) c n h = if_probeack (Same (ProbeAck id)) (λ jd k e. ap ProbeAck e) c (sym n)
+same_body (Leave id r) c n h = if_leave (Same (Leave id r)) (λ jd s k e.
+    (let parts = ids_split id jd (r ∷ []) (s ∷ []) h.0 k.0 e in ap2 Leave id jd r s parts.0 (head_same r s [] [] parts.1))) c (sym n)

@@ -9,7 +9,7 @@ use Rattle.rapid_model.specs.Process.{Process}
 use Rattle.rapid_model.specs.Cut.{Cut, IsCut, cut_bytes}
 use Rattle.rapid_model.specs.Configuration.{Configuration, IsConfiguration, configuration_bytes}
 use Rattle.rapid_model.specs.Ballot.{Ballot, Vote}
-use Rattle.rapid_model.specs.Message.{AlertItem, Answer, Safe, EndpointInUse, ConfigurationChanged, TooManyJoiners, Body, Batch, FastVote, Prepare, Promise, Accept, Accepted, Decision, PreJoin, Reply, JoinRequest, Confirm, Probe, ProbeAck, Message}
+use Rattle.rapid_model.specs.Message.{AlertItem, Answer, Safe, EndpointInUse, ConfigurationChanged, TooManyJoiners, Body, Batch, FastVote, Prepare, Promise, Accept, Accepted, Decision, PreJoin, Reply, JoinRequest, Confirm, Probe, ProbeAck, Leave, Message}
 use Rattle.rapid_model.specs.Frame.{IsId, IsItem, IsBatch, IsReport, IsAnswer, IsBody, IsMessage, IsFrame, ballot_bytes, item_bytes, report_bytes, answer_bytes, kind_number, body_bytes, version, payload}
 use Rattle.rapid_wire.proofs.Pieces.{head_same, tail_same, split, same_32, length-concat}
 use Rattle.rapid_wire.proofs.Bodies.{ap2, sizes, item_size, front, front_size, same_body}
@@ -93,6 +93,7 @@ body_size (JoinRequest id k) h = let s = after_id id (k ∷ []) 1 h.0 (omega ari
 body_size (Confirm c) h = let s = configuration_size c h in omega (arith, s)
 body_size (Probe id) h = let s = h.length in omega (arith, s)
 body_size (ProbeAck id) h = let s = h.length in omega (arith, s)
+body_size (Leave id k) h = let s = after_id id (k ∷ []) 1 h.0 (omega arith) in omega (arith, s)
 
 -- version, kind and sender
 abbrev opening : Message → List ℕ

@@ -10,7 +10,7 @@ use Rattle.rapid_model.specs.Cut.{IsCut, cut_bytes}
 use Rattle.rapid_model.specs.Configuration.{Configuration, IsConfiguration, configuration_bytes}
 use Rattle.rapid_model.specs.Reading.{ConfigurationFault, bytes_fault, configuration_in}
 use Rattle.rapid_model.specs.Ballot.{Ballot, IsClassicBallot}
-use Rattle.rapid_model.specs.Message.{Body, Batch, FastVote, Prepare, Promise, Accept, Accepted, Decision, PreJoin, Reply, JoinRequest, Confirm, Probe, ProbeAck, Message}
+use Rattle.rapid_model.specs.Message.{Body, Batch, FastVote, Prepare, Promise, Accept, Accepted, Decision, PreJoin, Reply, JoinRequest, Confirm, Probe, ProbeAck, Leave, Message}
 use Rattle.rapid_model.specs.Frame.{IsId, IsBatch, IsReport, IsAnswer, IsBody, IsMessage, ballot_bytes, item_bytes, report_bytes, answer_bytes, kind_number, body_bytes, version, payload}
 use Rattle.rapid_model.proofs.Spelled.{spelling_read, spelling_one}
 use Rattle.rapid_wire.specs.Reading.{Reader, ◌>>=◌, both, made, all_of, byte_at, process_at, id_at, cut_at, classic_at, report_at, items_at, answer_at, choice_at, confirmed_in, nothing_at, body_in, message_in}
@@ -111,8 +111,10 @@ body_takes kind bytes b are e =
     (λ x. refl) (λ x. refl) k h)
     (case G kind 11 _ _ b (λ k h. confirmed_takes kind bytes b are k h)
     (case G kind 12 _ _ b (λ k h. by_reader IsId (λ p. p) id_at Probe reads_id.0 kind 12 bytes b are (λ x. refl) (λ x. refl) k h)
-    (case G kind 13 _ None b (λ k h. by_reader IsId (λ p. p) id_at ProbeAck reads_id.0 kind 13 bytes b are (λ x. refl) (λ x. refl) k h)
-    (never G b))))))))))))) e
+    (case G kind 13 _ _ b (λ k h. by_reader IsId (λ p. p) id_at ProbeAck reads_id.0 kind 13 bytes b are (λ x. refl) (λ x. refl) k h)
+    (case G kind 14 _ None b (λ k h. by_reader (λ x. IsId x.0 × (x.1 < 256)) (λ x. x.0 ++ (x.1 ∷ [])) (both id_at byte_at) (λ x. Leave x.0 x.1) (named (λ b. b < 256) (λ b. b ∷ []) byte_at reads_byte).0 kind 14 bytes b are
+    (λ x. refl) (λ x. refl) k h)
+    (never G b)))))))))))))) e
 
 confirmed_again : (c : Configuration) → IsConfiguration c → confirmed_in (configuration_bytes c) ≡ Some (Confirm c)
 unfolding confirmed_in
@@ -139,6 +141,8 @@ body_again (JoinRequest id k) h =
 body_again (Confirm c) h = confirmed_again c h
 body_again (Probe id) h = all_again IsId (λ p. p) id_at Probe reads_id.1 id h
 body_again (ProbeAck id) h = all_again IsId (λ p. p) id_at ProbeAck reads_id.1 id h
+body_again (Leave id k) h =
+    all_again (λ x. IsId x.0 × (x.1 < 256)) (λ x. x.0 ++ (x.1 ∷ [])) (both id_at byte_at) (λ x. Leave x.0 x.1) (named (λ b. b < 256) (λ b. b ∷ []) byte_at reads_byte).1 (id, k) h
 
 -- ---- messages
 

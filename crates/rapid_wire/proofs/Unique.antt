@@ -2,7 +2,7 @@
 use Rattle.std.proofs.Common.{◌≡◌, ℕ, List, ◌∷◌, ◌++◌, length, refl, sym, ap, subst, ◌∙◌, append_assoc, arith, inl, inr}
 use Rattle.std.specs.Prelude.{◌⊎◌}
 use Rattle.std.specs.Int.{w32, to_be_bytes}
-use Rattle.rapid_model.specs.Message.{Body, Batch, FastVote, Prepare, Promise, Accept, Accepted, Decision, PreJoin, Reply, JoinRequest, Confirm, Probe, ProbeAck, Message}
+use Rattle.rapid_model.specs.Message.{Body, Batch, FastVote, Prepare, Promise, Accept, Accepted, Decision, PreJoin, Reply, JoinRequest, Confirm, Probe, ProbeAck, Leave, Message}
 use Rattle.rapid_model.specs.Frame.{IsMessage, kind_number, body_bytes, version, payload}
 use Rattle.rapid_model.specs.Feed.{WireFault, TooLong, BadVersion, BadKind, BadBody, BeginsWith, IsTooLong, IsIncomplete, IsKind, HasFault, too_short, other_version, other_kind, other_body, IsFront, Whole, Faulty, StreamEnd, Left, Fault, Stream, left, fault, next}
 use Rattle.rapid_wire.proofs.Pieces.{head_same, tail_same, split, same_32}
@@ -42,6 +42,7 @@ is_kind (JoinRequest id k) = (omega arith, omega arith)
 is_kind (Confirm c) = (omega arith, omega arith)
 is_kind (Probe id) = (omega arith, omega arith)
 is_kind (ProbeAck id) = (omega arith, omega arith)
+is_kind (Leave id k) = (omega arith, omega arith)
 
 -- What spells a message has no fault.
 not_spelt : (whole : List ℕ) (f : WireFault) (m : Message) → HasFault whole f → IsMessage m → whole ≡ payload m → ⊥

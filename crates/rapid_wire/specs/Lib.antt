@@ -2,3 +2,4 @@ pub mod Laws
 pub mod Reading
 pub mod Faults
 pub mod Feeding
+pub mod Kinds

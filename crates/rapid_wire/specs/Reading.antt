@@ -7,7 +7,7 @@ use Rattle.rapid_model.specs.Cut.{Cut}
 use Rattle.rapid_model.specs.Alert.{Kind, Remove, Join}
 use Rattle.rapid_model.specs.Ballot.{Ballot, Vote}
 use Rattle.rapid_model.specs.Reading.{cut_fault, bytes_fault, configuration_in}
-use Rattle.rapid_model.specs.Message.{AlertItem, Answer, Safe, EndpointInUse, ConfigurationChanged, TooManyJoiners, Body, Batch, FastVote, Prepare, Promise, Accept, Accepted, Decision, PreJoin, Reply, JoinRequest, Confirm, Probe, ProbeAck, Message}
+use Rattle.rapid_model.specs.Message.{AlertItem, Answer, Safe, EndpointInUse, ConfigurationChanged, TooManyJoiners, Body, Batch, FastVote, Prepare, Promise, Accept, Accepted, Decision, PreJoin, Reply, JoinRequest, Confirm, Probe, ProbeAck, Leave, Message}
 
 -- One step after another.
 infixl 10 ◌>>=◌
@@ -189,6 +189,7 @@ body_in kind bytes =
     else if kind == 11 then confirmed_in bytes
     else if kind == 12 then all_of (made Probe id_at) bytes
     else if kind == 13 then all_of (made ProbeAck id_at) bytes
+    else if kind == 14 then all_of (made (λ x. Leave x.0 x.1) (both id_at byte_at)) bytes
     else None
 
 -- The message of this kind in these bytes.

@@ -5,10 +5,12 @@ ghost use Rattle.rapid_model.specs.Frame.{IsMessage, version, payload};
 ghost use Rattle.rapid_model.specs.Feed.{IsKind};
 ghost use Rattle.rapid_message.specs.Bodies.{CanSay, body_of};
 ghost use Rattle.rapid_wire.specs.Faults.{Gives, IsFaultOf};
+ghost use Rattle.rapid_wire.specs.Kinds.{number_of};
 ghost use Rattle.rapid_wire.specs.Reading.{message_in};
 
 use crate::WireFault;
 use crate::encoding::VERSION;
+use crate::kind::FrameKind;
 use crate::kinds::read_body;
 use crate::reading::{PROCESS_BYTES, process_in, read_front};
 use crate::told::tell_message;
@@ -38,8 +40,8 @@ fn message_of(sender: Process, body: Body) -> Message
 
 /// The message of a kind whose sender and body are these bytes.
 #[tactic(auto, unfolding(crate::specs::Reading::message_in, crate::specs::Reading::process_at))]
-fn read_message(alloc: Global, kind: u8, bytes: &[u8]) -> Result<Message, WireFault>
-    ensures { Gives (λ m. m) result (message_in kind bytes.now) }
+fn read_message(alloc: Global, kind: FrameKind, bytes: &[u8]) -> Result<Message, WireFault>
+    ensures { Gives (λ m. m) result (message_in (number_of kind) bytes.now) }
 {
     let (front, rest) = read_front(bytes, PROCESS_BYTES)?;
     let sender = process_in(front);
@@ -51,21 +53,21 @@ fn read_message(alloc: Global, kind: u8, bytes: &[u8]) -> Result<Message, WireFa
 /// `BadVersion` if the first is not the version of this format, `BadKind` if the second is no kind
 /// of a message.
 #[tactic(auto, using(crate::proofs::Fronts::short_fault, crate::proofs::Fronts::version_fault, crate::proofs::Fronts::kind_fault, crate::proofs::Fronts::opened))]
-fn open_frame(whole: &[u8]) -> Result<(u8, &[u8]), WireFault>
-    ensures kind { IfOk result (λ x. IsKind x.0) }
-    ensures parts { IfOk result (λ x. whole.now ≡ version ∷ x.0 ∷ x.1.now) }
+fn open_frame(whole: &[u8]) -> Result<(FrameKind, &[u8]), WireFault>
+    ensures kind { IfOk result (λ x. IsKind (number_of x.0)) }
+    ensures parts { IfOk result (λ x. whole.now ≡ version ∷ number_of x.0 ∷ x.1.now) }
     ensures fault { IfErr result (IsFaultOf whole.now) }
 {
-    let [first, kind, rest @ ..] = whole else {
+    let [first, number, rest @ ..] = whole else {
         return Err(WireFault::BadBody);
     };
     if *first != VERSION {
         return Err(WireFault::BadVersion);
     }
-    if !(1..=13).contains(kind) {
+    let Some(kind) = FrameKind::from_number(*number) else {
         return Err(WireFault::BadKind);
-    }
-    Ok((*kind, rest))
+    };
+    Ok((kind, rest))
 }
 
 /// The message of a whole frame, after its length. The faults of its first two bytes come first,

@@ -3,10 +3,11 @@
 ghost use Rattle.std.specs.Prelude.{◌≡◌, ◌++◌, IfOk, OnOk};
 ghost use Rattle.rapid_model.specs.Frame.{IsFrame, payload};
 
+use crate::kind::FrameKind;
 use crate::lengths::frame_length;
 use crate::numbers::write_length;
 use crate::told::tell_message;
-use crate::writing::{kind_of_body, put_body};
+use crate::writing::put_body;
 use rapid_message::Message;
 use std::alloc::{AllocError, Global};
 
@@ -18,7 +19,7 @@ fn put_payload(alloc: Global, out: &mut Vec<u8>, message: &Message) -> Result<()
     ensures { OnOk result (out.new.items ≡ out.old.items ++ payload message.now) }
 {
     let body = message.body();
-    out.extend_from_slice(&[VERSION, kind_of_body(body)])?;
+    out.extend_from_slice(&[VERSION, FrameKind::of(body).number()])?;
     out.extend_from_slice(&message.sender().to_bytes())?;
     put_body(alloc, out, body)
 }

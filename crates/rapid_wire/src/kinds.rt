@@ -6,9 +6,11 @@ ghost use Rattle.rapid_model.specs.Process as process;
 ghost use Rattle.rapid_model.specs.Message as model;
 ghost use Rattle.rapid_message.specs.Bodies.{CanSay, body_of};
 ghost use Rattle.rapid_wire.specs.Faults.{Gives};
+ghost use Rattle.rapid_wire.specs.Kinds.{number_of};
 ghost use Rattle.rapid_wire.specs.Reading.{both, made, all_of, byte_at, process_at, id_at, cut_at, classic_at, report_at, items_at, answer_at, choice_at, confirmed_in, body_in};
 
 use crate::WireFault;
+use crate::kind::FrameKind;
 use crate::reading::{
     ID_BYTES, PROCESS_BYTES, classic_of, ended, id_in, process_in, read_answer, read_batch,
     read_byte, read_cut, read_front, read_numbers, read_report,
@@ -131,47 +133,50 @@ fn read_confirm(alloc: Global, bytes: &[u8]) -> Result<Body, WireFault>
 pub(crate) fn read_body(
     alloc: Global,
     sender: Process,
-    kind: u8,
+    kind: FrameKind,
     bytes: &[u8],
 ) -> Result<Body, WireFault>
-    ensures value { Gives body_of result (body_in kind bytes.now) }
+    ensures value { Gives body_of result (body_in (number_of kind) bytes.now) }
     ensures said { IfOk result (CanSay sender) }
 {
     match kind {
-        1 => read_batch_body(alloc, sender, bytes),
-        2 => {
+        FrameKind::Batch => read_batch_body(alloc, sender, bytes),
+        FrameKind::FastVote => {
             let (id, cut) = read_decided(alloc, bytes)?;
             Ok(Body::FastVote(id, cut))
         }
-        3 => {
+        FrameKind::Prepare => {
             let (id, ballot) = read_prepare(bytes)?;
             Ok(Body::Prepare(id, ballot))
         }
-        4 => read_promise(alloc, bytes),
-        5 => {
+        FrameKind::Promise => read_promise(alloc, bytes),
+        FrameKind::Accept => {
             let (id, ballot, cut) = read_choice(alloc, bytes)?;
             Ok(Body::Accept(id, ballot, cut))
         }
-        6 => {
+        FrameKind::Accepted => {
             let (id, ballot, cut) = read_choice(alloc, bytes)?;
             Ok(Body::Accepted(id, ballot, cut))
         }
-        7 => {
+        FrameKind::Decision => {
             let (id, cut) = read_decided(alloc, bytes)?;
             Ok(Body::Decision(id, cut))
         }
-        8 => {
+        FrameKind::PreJoin => {
             ended(bytes)?;
             Ok(Body::PreJoin)
         }
-        9 => read_reply(alloc, bytes),
-        10 => {
+        FrameKind::Reply => read_reply(alloc, bytes),
+        FrameKind::JoinRequest => {
             let (id, ring) = read_request(bytes)?;
             Ok(Body::JoinRequest(id, ring))
         }
-        11 => read_confirm(alloc, bytes),
-        12 => Ok(Body::Probe(read_id(bytes)?)),
-        13 => Ok(Body::ProbeAck(read_id(bytes)?)),
-        _ => Err(WireFault::BadBody),
+        FrameKind::Confirm => read_confirm(alloc, bytes),
+        FrameKind::Probe => Ok(Body::Probe(read_id(bytes)?)),
+        FrameKind::ProbeAck => Ok(Body::ProbeAck(read_id(bytes)?)),
+        FrameKind::Leave => {
+            let (id, ring) = read_request(bytes)?;
+            Ok(Body::Leave(id, ring))
+        }
     }
 }

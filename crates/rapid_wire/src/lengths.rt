@@ -97,7 +97,7 @@ fn body_length(body: &Body) -> usize
         }
         Body::PreJoin => 0,
         Body::Reply(_, answer) => PROCESS_BYTES + answer_length(answer),
-        Body::JoinRequest(..) => ID_BYTES + 1,
+        Body::JoinRequest(..) | Body::Leave(..) => ID_BYTES + 1,
         Body::Confirm(configuration) => configuration_length(configuration),
         Body::Probe(_) | Body::ProbeAck(_) => ID_BYTES,
     }

@@ -7,6 +7,7 @@ mod decoding;
 mod encoding;
 mod fault;
 mod feed;
+mod kind;
 mod kinds;
 mod lengths;
 mod numbers;

@@ -106,7 +106,7 @@ fn tell_body(sender: &Process, body: &Body)
             joiner.tell();
             tell_answer(answer);
         }
-        Body::JoinRequest(id, ring) => {
+        Body::JoinRequest(id, ring) | Body::Leave(id, ring) => {
             id.tell();
             let _ring = *ring;
         }

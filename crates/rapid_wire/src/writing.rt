@@ -129,27 +129,6 @@ fn put_answer(out: &mut Vec<u8>, answer: &Reply) -> Result<(), AllocError>
     }
 }
 
-/// The number of a message's kind.
-pub(crate) fn kind_of_body(body: &Body) -> u8
-    ensures { result ≡ kind_number (body_of body.now) }
-{
-    match body {
-        Body::Batch(..) => 1,
-        Body::FastVote(..) => 2,
-        Body::Prepare(..) => 3,
-        Body::Promise(..) => 4,
-        Body::Accept(..) => 5,
-        Body::Accepted(..) => 6,
-        Body::Decision(..) => 7,
-        Body::PreJoin => 8,
-        Body::Reply(..) => 9,
-        Body::JoinRequest(..) => 10,
-        Body::Confirm(_) => 11,
-        Body::Probe(_) => 12,
-        Body::ProbeAck(_) => 13,
-    }
-}
-
 /// An identifier, a ballot and a cut.
 fn put_choice(
     out: &mut Vec<u8>,
@@ -194,7 +173,7 @@ pub(crate) fn put_body(alloc: Global, out: &mut Vec<u8>, body: &Body) -> Result<
             out.extend_from_slice(&joiner.to_bytes())?;
             put_answer(out, answer)
         }
-        Body::JoinRequest(id, ring) => {
+        Body::JoinRequest(id, ring) | Body::Leave(id, ring) => {
             put_id(out, id)?;
             Ok(out.push(*ring)?)
         }

@@ -11,14 +11,14 @@ use Rattle.rapid_model.specs.Edge.{Edge, probed}
 use Rattle.rapid_model.specs.Monitors.{edge_at}
 use Rattle.rapid_model.specs.Node as node
 use Rattle.rapid_model.specs.Node.{Node, Phase, Joining, Member, Removed, Halted, Event, EdgeDown, Receive, member_in, member_config, is_halted, joiner_node}
-use Rattle.rapid_model.specs.World.{World, Peer, Packet, Took, Ticked, Probed, Crashed, WorldEvent, Start, Probe, Tick, Deliver, Crash, is_running, has_identifier, has_endpoint, running_under, running_at, packet, observed, observed_in, peer_at}
+use Rattle.rapid_model.specs.World.{World, Peer, Packet, Took, Ticked, Probed, Crashed, WorldEvent, Start, Probe, Tick, Deliver, Crash, Leave, is_running, has_identifier, has_endpoint, running_under, running_at, packet, observed, observed_in, peer_at}
 use Rattle.rapid_model.specs.WorldStep.{world_step, hands, with_peer, with_found, probes, noted, deliver, message_at, with_edge, edge_on, crashed, added, started}
 use Rattle.rapid_model.specs.WorldStep as step
 use Rattle.rapid_model.specs.Refusal.{refusal, unless_node, unless_observed, unless_received, NoSuchNode, NoSuchPacket, NotObserved, IdentifierUsed, EndpointBusy, EventsFull}
 use Rattle.rapid_model.specs.Run.{reports_of}
 use Rattle.rapid_model.specs.StoredWorld.{StoredWorld, StoresEvent, world_of, event_refusal, with_event, accepted}
 use Rattle.rapid_safety.proofs.Histories.{now_member}
-use Rattle.rapid_safety.proofs.Steps.{found, by_tick, by_packet, by_probe}
+use Rattle.rapid_safety.proofs.Steps.{found, by_tick, by_packet, by_probe, by_wish}
 use Rattle.rapid_model.proofs.Orders.{same_bytes_decides}
 use Rattle.rapid_world.specs.Framed.{FramedPacket, framed_packet, HasFrame}
 use Rattle.rapid_world.specs.Handed.{handed, told, crash_of}
@@ -85,6 +85,9 @@ full s e h = ap (λ b. cond b (refusal (world_of s) e) (Some EventsFull)) h
 pub tick_refused : (s : StoredWorld) (id : List ℕ) → Open s → running_under (world_of s) id ≡ None → event_refusal s (Tick id) ≡ Some NoSuchNode
 tick_refused s id isopen none = refused_as s (Tick id) isopen ∙ ap unless_node none
 
+pub leave_refused : (s : StoredWorld) (id : List ℕ) → Open s → running_under (world_of s) id ≡ None → event_refusal s (Leave id) ≡ Some NoSuchNode
+leave_refused s id isopen none = refused_as s (Leave id) isopen ∙ ap unless_node none
+
 pub crash_refused : (s : StoredWorld) (id : List ℕ) → Open s → running_under (world_of s) id ≡ None → event_refusal s (Crash id) ≡ Some NoSuchNode
 crash_refused s id isopen none = refused_as s (Crash id) isopen ∙ ap unless_node none
 
@@ -131,9 +134,22 @@ tick_hands s id i are isopen e =
     record {
       peer = t.0;
       does = does_read s (Tick id) i t.0 (handed t.0 node.Tick) t.1 (refused_as s (Tick id) isopen ∙ ap unless_node e)
-          (λ h. subst (λ v. Read w v i (handed t.0 node.Tick h)) (sym (by_peer w (running_under w id) i t.0 (λ i p. hands w i p (Ticked ∷ []) node.Tick h) e t.1)) (reads_hands w i t.0 Ticked node.Tick h refl));
+          (λ h. subst (λ v. Read w v i (handed t.0 node.Tick h)) (sym (by_peer w (running_under w id) i t.0 (λ i p. hands w i p (Ticked ∷ []) node.Tick h) e t.1)) (reads_hands w i t.0 (Ticked ∷ []) node.Tick h (λ acts. refl)));
       up = up t.0 (runs_under w id i t.0 e t.1);
       keeps = keeps_at w (lives s are) i t.0 t.0 (Ticked ∷ []) node.Tick t.1 refl (by_tick t.0 t.1);
+    }
+
+pub leave_hands : (s : StoredWorld) (id : List ℕ) (i : ℕ) → AreMembers s.founding.members → Open s → running_under (world_of s) id ≡ Some i → Hands s (Leave id) i node.Leave
+unfolding world_step
+leave_hands s id i are isopen e =
+    let w = world_of s in
+    let t = stands w.peers i (place_within _ w.peers i e) in
+    record {
+      peer = t.0;
+      does = does_read s (Leave id) i t.0 (handed t.0 node.Leave) t.1 (refused_as s (Leave id) isopen ∙ ap unless_node e)
+          (λ h. subst (λ v. Read w v i (handed t.0 node.Leave h)) (sym (by_peer w (running_under w id) i t.0 (λ i p. hands w i p [] node.Leave h) e t.1)) (reads_hands w i t.0 [] node.Leave h (λ acts. refl)));
+      up = up t.0 (runs_under w id i t.0 e t.1);
+      keeps = keeps_at w (lives s are) i t.0 t.0 [] node.Leave t.1 refl (by_wish t.0 t.1);
     }
 
 pub deliver_hands : (s : StoredWorld) (k : ℕ) (x : Packet) (i : ℕ) → AreMembers s.founding.members → Open s → packet (world_of s) k ≡ Some x → running_at (world_of s) x.to ≡ Some i → Hands s (Deliver k) i (Receive x.message)
@@ -147,7 +163,7 @@ deliver_hands s k x i are isopen sent e =
       does = does_read s (Deliver k) i t.0 (handed t.0 (Receive x.message)) t.1 (refused_as s (Deliver k) isopen ∙ ap (unless_received w) sent ∙ ap unless_node e)
           (λ h. subst (λ v. Read w v i (handed t.0 (Receive x.message) h))
           (sym (ap (λ o. deliver w o h) sent ∙ by_peer w (running_at w x.to) i t.0 (λ i p. hands w i p (Took x.message ∷ []) (Receive x.message) h) e t.1))
-          (reads_hands w i t.0 (Took x.message) (Receive x.message) h refl));
+          (reads_hands w i t.0 (Took x.message ∷ []) (Receive x.message) h (λ acts. refl)));
       up = up t.0 f.0;
       keeps = keeps_at w (lives s are) i t.0 t.0 (Took x.message ∷ []) (Receive x.message) t.1 refl
           (by_packet t.0 x t.1 (was_sent w k x (k == 0) sent) ((same_bytes_decides _ _).0 f.1));
@@ -158,7 +174,7 @@ nil_end [] = refl
 nil_end (x ∷ xs) = ap (λ l. x ∷ l) (nil_end xs)
 
 reads_crashed : (w : World) (i : ℕ) (p : Peer) (h : Bool) → Read w (crashed w i p) i (crash_of p h)
-reads_crashed w i p h = record { peers = refl; packets = sym (nil_end w.packets); reports = new_acts w.log p.node Crashed [] refl }
+reads_crashed w i p h = record { peers = refl; packets = sym (nil_end w.packets); reports = new_acts w.log p.node (Crashed ∷ []) [] (λ acts. refl) }
 
 pub crash_does : (s : StoredWorld) (id : List ℕ) (i : ℕ) → Open s → running_under (world_of s) id ≡ Some i → (p : Peer) × Does s (Crash id) i p (crash_of p)
 unfolding world_step
@@ -186,11 +202,11 @@ reads_told w i p x k ok h = by (probed (edge_on p.edges k) ok).is_down
     by true = reads_same
       where
         r : Read w (hands w i (with_edge p k e) (Probed k ok ∷ []) ev h) i (handed (with_edge p k e) ev h)
-        r = reads_hands w i (with_edge p k e) (Probed k ok) ev h refl
+        r = reads_hands w i (with_edge p k e) (Probed k ok ∷ []) ev h (λ acts. refl)
 
         reads_same : Read w (hands w i (with_edge p k e) (Probed k ok ∷ []) ev h) i (handed (with_edge p k e) ev h)
         reads_same = r
-    by false = record { peers = refl; packets = sym (nil_end w.packets); reports = new_acts w.log p.node (Probed k ok) [] refl }
+    by false = record { peers = refl; packets = sym (nil_end w.packets); reports = new_acts w.log p.node (Probed k ok ∷ []) [] (λ acts. refl) }
 
 pub probe_does : (s : StoredWorld) (id : List ℕ) (k : ℕ) (ok : Bool) (i : ℕ) (p : Peer) (x : Configuration × Process) → AreMembers s.founding.members → Open s → running_under (world_of s) id ≡ Some i →
     slice_get (world_of s).peers i ≡ Some p → observed p k ≡ Some x → Probes s (Probe id k ok) i p k ok (EdgeDown (configuration_id x.0) k x.1)

@@ -1,5 +1,5 @@
 -- Steps of a world, read off what they do to the peer at a place.
-use Rattle.std.proofs.Common.{◌≡◌, ℕ, Bool, true, false, cond, List, [], ◌∷◌, ◌++◌, map, length, drop, slice_get, slice_set, refl, sym, ap, subst, ◌∙◌, Option, Some, None}
+use Rattle.std.proofs.Common.{◌≡◌, ℕ, Bool, true, false, cond, List, [], ◌∷◌, ◌++◌, map, length, drop, slice_get, slice_set, refl, sym, ap, subst, ◌∙◌, Option, Some, None, append_assoc}
 use Rattle.std.specs.Prelude.{IsTrue, All}
 use Rattle.std.proofs.lemmas.List.{map-append}
 use Rattle.std.proofs.lemmas.List.Elements.{All-append}
@@ -12,7 +12,7 @@ use Rattle.rapid_model.specs.NodeStep.{node_step}
 use Rattle.rapid_model.specs.NodeReports.{installed_report}
 use Rattle.rapid_model.specs.World.{World, Peer, Packet, Act, Did, Installed, HasHalted, WorldEvent, MarkedEvent, Entry}
 use Rattle.rapid_model.specs.WorldStep.{world_step, hands, halted, settled, moved, entry, install_acts, with_edge, edge_on}
-use Rattle.rapid_model.specs.Run.{run, founded, WorldReport, ReportInstalled, report_of_act, reports_of}
+use Rattle.rapid_model.specs.Run.{run, founded, WorldReport, ReportInstalled, reports_of}
 use Rattle.rapid_model.specs.StoredWorld.{StoredWorld, StoresEvent, world_of, event_refusal, with_event, is_halt}
 use Rattle.rapid_safety.proofs.Histories.{Lived}
 use Rattle.rapid_safety.proofs.Lived.{lived_run}
@@ -115,9 +115,13 @@ installs n new (Some c) = by (has_installed n new)
     by true = refl
     by false = refl
 
-pub new_acts : (log : List Entry) (n : Node) (a : Act) (acts : List Act) → report_of_act n.me a ≡ [] →
-    reports_of (drop (length log) (log ++ map (entry n) (a ∷ acts))) ≡ reports_of (map (entry n) acts)
-new_acts log n a acts quiet = ap reports_of (behind log (map (entry n) (a ∷ acts))) ∙ ap (λ r. r ++ reports_of (map (entry n) acts)) quiet
+-- acts that report nothing, whatever follows
+abbrev pub AreQuiet : Node → List Act → Type 0
+AreQuiet n before = (acts : List Act) → reports_of (map (entry n) (before ++ acts)) ≡ reports_of (map (entry n) acts)
+
+pub new_acts : (log : List Entry) (n : Node) (before acts : List Act) → AreQuiet n before →
+    reports_of (drop (length log) (log ++ map (entry n) (before ++ acts))) ≡ reports_of (map (entry n) acts)
+new_acts log n before acts quiet = ap reports_of (behind log (map (entry n) (before ++ acts))) ∙ quiet acts
 
 -- what is read off a world in which the peer at a place was replaced
 pub record Read (w v : World) (i : ℕ) (d : Handed) : Type 0 where
@@ -125,26 +129,27 @@ pub record Read (w v : World) (i : ℕ) (d : Handed) : Type 0 where
   pub packets : v.packets ≡ w.packets ++ d.packets
   pub reports : reports_of (drop (length w.log) v.log) ≡ d.reports
 
-reads_halted : (w : World) (i : ℕ) (p : Peer) (a : Act) → report_of_act p.node.me a ≡ [] → Read w (halted w i p (a ∷ [])) i (stopped p)
-reads_halted w i p a quiet = record { peers = refl; packets = sym (nil_end w.packets); reports = new_acts w.log p.node a (HasHalted ∷ []) quiet }
+reads_halted : (w : World) (i : ℕ) (p : Peer) (before : List Act) → AreQuiet p.node before → Read w (halted w i p before) i (stopped p)
+reads_halted w i p before quiet = record { peers = refl; packets = sym (nil_end w.packets); reports = new_acts w.log p.node before (HasHalted ∷ []) quiet }
 
-reads_moved : (w : World) (i : ℕ) (p : Peer) (a : Act) (o : Outcome) → report_of_act p.node.me a ≡ [] → Read w (moved w i p (a ∷ []) o) i (went_on p o)
-reads_moved w i p a o quiet =
+reads_moved : (w : World) (i : ℕ) (p : Peer) (before : List Act) (o : Outcome) → AreQuiet p.node before → Read w (moved w i p before o) i (went_on p o)
+reads_moved w i p before o quiet =
     record {
       peers = refl;
       packets = refl;
-      reports = new_acts w.log p.node a (map Did o.effects ++ install_acts p.node o.node (configuration_of o.node)) quiet
+      reports = ap (λ acts. reports_of (drop (length w.log) (w.log ++ map (entry p.node) acts))) (append_assoc before (map Did o.effects) (install_acts p.node o.node (configuration_of o.node)))
+          ∙ new_acts w.log p.node before (map Did o.effects ++ install_acts p.node o.node (configuration_of o.node)) quiet
           ∙ did_quiet p.node o.effects (install_acts p.node o.node (configuration_of o.node)) ∙ installs p.node o.node (configuration_of o.node);
     }
 
-pub reads_hands : (w : World) (i : ℕ) (p : Peer) (a : Act) (e : Event) (h : Bool) → report_of_act p.node.me a ≡ [] → Read w (hands w i p (a ∷ []) e h) i (handed p e h)
+pub reads_hands : (w : World) (i : ℕ) (p : Peer) (before : List Act) (e : Event) (h : Bool) → AreQuiet p.node before → Read w (hands w i p before e h) i (handed p e h)
 unfolding hands handed
-reads_hands w i p a e true quiet = reads_halted w i p a quiet
-reads_hands w i p a e false quiet = by (node_step p.node e)
+reads_hands w i p before e true quiet = reads_halted w i p before quiet
+reads_hands w i p before e false quiet = by (node_step p.node e)
   where
-    by : (o : Option Outcome) → Read w (settled w i p (a ∷ []) o) i (stepped p o)
-    by None = reads_halted w i p a quiet
-    by (Some o) = reads_moved w i p a o quiet
+    by : (o : Option Outcome) → Read w (settled w i p before o) i (stepped p o)
+    by None = reads_halted w i p before quiet
+    by (Some o) = reads_moved w i p before o quiet
 
 -- the same for a step that is one of these
 pub does_read : (s : StoredWorld) (e : WorldEvent) (i : ℕ) (p : Peer) (f : Bool → Handed) → slice_get (world_of s).peers i ≡ Some p → event_refusal s e ≡ None →

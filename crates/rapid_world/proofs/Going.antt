@@ -17,11 +17,12 @@ use Rattle.rapid_model.specs.Ballot.{Ballot, Vote, fast_ballot}
 use Rattle.rapid_model.specs.Coordinator.{accept_cut, after_report, next_ballot, begun}
 use Rattle.rapid_model.specs.Host.{HostAnswer, Nothing, Replies, Confirms, Raises, pre_join, join_request, pending_after}
 use Rattle.rapid_model.specs.Message.{Message, Body, Batch, FastVote, Prepare, Promise, Accept, Accepted, Decision, PreJoin, Reply, JoinRequest, Confirm, Probe, ProbeAck, caught_up_by, batch_alerts, item_of}
-use Rattle.rapid_model.specs.Node.{Node, MemberState, Phase, Joining, Member, Removed, Halted, Decisions, Event, EdgeDown, Tick, Receive, Outcome, Output, Says, Proposes, To, Others, Itself, configuration_of, shown_in, is_halted, has_installed}
+use Rattle.rapid_model.specs.Message as message
+use Rattle.rapid_model.specs.Node.{Node, MemberState, Phase, Joining, Member, Removed, Halted, Decisions, Event, EdgeDown, Tick, Receive, Leave, Outcome, Output, Says, Proposes, To, Others, Itself, configuration_of, shown_in, is_halted, has_installed}
 use Rattle.rapid_model.specs.Member.{Work, and_then, then_if, still, says, own_place, vote_seen, take_vote, take_accepted, take_accept, send_accept, take_promise, give_promise, take_prepare, cast_vote, propose, take_batch, at_position, from_coordinator, raise_alert, current_id}
 use Rattle.rapid_model.specs.Receive.{take, take_or_catch_up, receive_as_member, raise_join, is_about, sends, catch_up}
 use Rattle.rapid_model.specs.Tick.{raise_all, echo, echoes, age_of, next_ages, unstable_now, aged, clock_moved, repeats, vote_again, send_alerts, sends_batch, begin_at, is_due, recovers, quiet_tick, batch_tick, on_tick}
-use Rattle.rapid_model.specs.NodeStep.{is_history_full, install, put_before, settle_at, settle, step_tick, step_receive, step_edge_down, node_step}
+use Rattle.rapid_model.specs.NodeStep.{is_history_full, install, put_before, settle_at, settle, step_tick, step_receive, step_edge_down, step_leave, node_step}
 use Rattle.rapid_model.specs.NodeReports.{installed_report}
 use Rattle.rapid_model.specs.Run.{WorldReport}
 use Rattle.rapid_model.specs.StoredWorld.{is_halt}
@@ -97,7 +98,7 @@ position_keeps s (Some p) f h = h p
 -- ---- messages
 
 take_keeps : (s : MemberState) (from : Process) (b : Body) → Keeps s (take s from b)
-unfolding take
+unfolding take raise_alert
 take_keeps s from (Batch id xs) = batch_keeps s (batch_alerts from id xs)
 take_keeps s from (FastVote id v) = position_keeps s (position_of s.config from) (λ p. take_vote s p v) (λ p. refl)
 take_keeps s from (Prepare id b) = both (option_eq (◌==◌) (position_of s.config from) (Some b.position)) s (take_prepare s from b) (still s) (prepare_keeps s from b) refl
@@ -111,6 +112,7 @@ take_keeps s from (JoinRequest id k) = refl
 take_keeps s from (Confirm c) = refl
 take_keeps s from (Probe id) = refl
 take_keeps s from (ProbeAck id) = refl
+take_keeps s from (message.Leave id k) = refl
 
 caught_keeps : (ds : Decisions) (s : MemberState) (from : Process) (m : Body) → Keeps s (take_or_catch_up ds s from m)
 caught_keeps ds s from m = both (is_about (current_id s) (caught_up_by m)) s (take s from m) (sends s (catch_up ds from (caught_up_by m))) (take_keeps s from m) refl
@@ -137,6 +139,7 @@ receive_keeps ds s from (Accepted id b v) = caught_keeps ds s from (Accepted id 
 receive_keeps ds s from (Reply j a) = caught_keeps ds s from (Reply j a)
 receive_keeps ds s from (Confirm c) = caught_keeps ds s from (Confirm c)
 receive_keeps ds s from (ProbeAck id) = caught_keeps ds s from (ProbeAck id)
+receive_keeps ds s from (message.Leave id k) = caught_keeps ds s from (message.Leave id k)
 
 -- ---- ticks
 
@@ -209,9 +212,21 @@ edge_goes n id k q = by n.phase
     by (Removed c) = refl
     by (Halted c) = refl
 
+-- nor where a member is to leave
+leave_goes : (n : Node) → is_some (node_step n Leave) ≡ true
+unfolding node_step settle
+leave_goes n = by n.phase
+  where
+    by : (ph : Phase) → is_some (step_leave n ph) ≡ true
+    by (Joining j) = refl
+    by (Member s) = refl
+    by (Removed c) = refl
+    by (Halted c) = refl
+
 pub room_goes : (n : Node) (e : Event) → has_room n ≡ true → is_some (node_step n e) ≡ true
 unfolding node_step
 room_goes n (EdgeDown id k q) room = edge_goes n id k q
+room_goes n Leave room = leave_goes n
 room_goes n Tick room = by n.phase refl
   where
     by : (ph : Phase) → n.phase ≡ ph → is_some (step_tick n ph) ≡ true

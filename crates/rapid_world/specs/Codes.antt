@@ -8,7 +8,7 @@ use Rattle.rapid_model.specs.Codes.{bytes_code}
 use Rattle.rapid_model.specs.Edge.{Edge}
 use Rattle.rapid_model.specs.Monitors.{Monitors}
 use Rattle.rapid_model.specs.Node.{Node}
-use Rattle.rapid_model.specs.World.{Peer, WorldEvent, Start, Probe, Tick, Deliver, Crash, MarkedEvent}
+use Rattle.rapid_model.specs.World.{Peer, WorldEvent, Start, Probe, Tick, Deliver, Crash, Leave, MarkedEvent}
 use Rattle.rapid_model.specs.StoredWorld.{StoredWorld}
 use Rattle.rapid_join.specs.Hosts.{configuration_code}
 use Rattle.rapid_node.specs.Codes.{node_code}
@@ -27,21 +27,23 @@ peer_code =
     (λ _. refl)
 
 abbrev Cases : Type 0
-Cases = (Process × List ℕ) ⊎ ((List ℕ × (ℕ × Bool)) ⊎ (List ℕ ⊎ (ℕ ⊎ List ℕ)))
+Cases = (Process × List ℕ) ⊎ ((List ℕ × (ℕ × Bool)) ⊎ (List ℕ ⊎ (ℕ ⊎ (List ℕ ⊎ List ℕ))))
 
 abbrev cases : WorldEvent → Cases
 cases (Start p seed) = inl (p, seed)
 cases (Probe id k ok) = inr (inl (id, (k, ok)))
 cases (Tick id) = inr (inr (inl id))
 cases (Deliver k) = inr (inr (inr (inl k)))
-cases (Crash id) = inr (inr (inr (inr id)))
+cases (Crash id) = inr (inr (inr (inr (inl id))))
+cases (Leave id) = inr (inr (inr (inr (inr id))))
 
 abbrev event_from : Cases → WorldEvent
 event_from (inl x) = Start x.0 x.1
 event_from (inr (inl x)) = Probe x.0 x.1.0 x.1.1
 event_from (inr (inr (inl id))) = Tick id
 event_from (inr (inr (inr (inl k)))) = Deliver k
-event_from (inr (inr (inr (inr id)))) = Crash id
+event_from (inr (inr (inr (inr (inl id))))) = Crash id
+event_from (inr (inr (inr (inr (inr id))))) = Leave id
 
 -- An event is got back from its case.
 pub event_back : (e : WorldEvent) → event_from (cases e) ≡ e
@@ -50,12 +52,13 @@ event_back (Probe id k ok) = refl
 event_back (Tick id) = refl
 event_back (Deliver k) = refl
 event_back (Crash id) = refl
+event_back (Leave id) = refl
 
 -- Events.
 abbrev pub event_code : Coded WorldEvent
 event_code =
     code_by Cases
-    (coded⊎ (coded× bytes_code bytes_code) (coded⊎ (coded× bytes_code (coded× coded_ℕ coded_bool)) (coded⊎ bytes_code (coded⊎ coded_ℕ bytes_code))))
+    (coded⊎ (coded× bytes_code bytes_code) (coded⊎ (coded× bytes_code (coded× coded_ℕ coded_bool)) (coded⊎ bytes_code (coded⊎ coded_ℕ (coded⊎ bytes_code bytes_code)))))
     cases event_from event_back
 
 -- Events with their marks.

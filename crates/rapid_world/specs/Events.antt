@@ -5,7 +5,7 @@ use Rattle.rapid_model.specs.World as model
 use Rattle.rapid_model.specs.Refusal as refusal
 use Rattle.rapid_model.specs.Run.{WorldReport, ReportInstalled, ReportHalted}
 use Rattle.rapid_world.specs.declared.event.WorldEvent.{WorldEvent}
-use Rattle.rapid_world.specs.declared.event.WorldEvent.TheVariants.{Start, Probe, Tick, Deliver, Crash}
+use Rattle.rapid_world.specs.declared.event.WorldEvent.TheVariants.{Start, Probe, Tick, Deliver, Crash, Leave}
 use Rattle.rapid_world.specs.declared.report.Report.{Report}
 use Rattle.rapid_world.specs.declared.report.Report.TheVariants.{Installed, Halted}
 use Rattle.rapid_world.specs.declared.error.WorldError.{WorldError}
@@ -18,6 +18,7 @@ event_of (Probe id k ok) = model.Probe id k ok
 event_of (Tick id) = model.Tick id
 event_of (Deliver k) = model.Deliver k
 event_of (Crash id) = model.Crash id
+event_of (Leave id) = model.Leave id
 
 -- An event that was accepted, with its mark.
 abbrev pub marked_of : WorldEvent × Bool → model.MarkedEvent

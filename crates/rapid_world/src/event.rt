@@ -17,4 +17,6 @@ pub enum WorldEvent {
     Deliver(u64),
     /// The node stops for good.
     Crash(ProcessId),
+    /// The node is to leave: a member asks its observers to have it removed.
+    Leave(ProcessId),
 }

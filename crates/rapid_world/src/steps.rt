@@ -21,9 +21,6 @@ use rapid_node::Event;
 use rapid_wire::read_frame;
 use std::alloc::AllocError;
 
-/// How many events a world accepts at most.
-const MOST_EVENTS: usize = 1_000_000;
-
 impl World {
     /// The place of the node that runs under an identifier.
     pub(crate) fn running_under(&self, id: &ProcessId) -> Option<usize>
@@ -122,6 +119,20 @@ impl World {
         }
     }
 
+    /// A node is to leave.
+    fn leave(&mut self, id: ProcessId) -> Result<Vec<Report>, WorldError>
+        requires { nat_lt (accepted self.old) 1000000 ≡ true }
+        ensures stored { IfOk result (λ reports. StoresEvent self.old self.new (model.Leave id) (map report_of reports.items)) }
+        ensures refused { IfErr result (Refuses (event_refusal self.old (model.Leave id))) }
+        ensures unchanged { OnErr result (self.new ≡ self.old) }
+    {
+        self.tell();
+        match self.running_under(&id) {
+            Some(place) => self.hand(WorldEvent::Leave(id), place, &Event::Leave),
+            None => Err(WorldError::NoSuchNode),
+        }
+    }
+
     /// A process starts to join by the seed at an endpoint.
     fn start(&mut self, process: Process, seed: Endpoint) -> Result<Vec<Report>, WorldError>
         requires { nat_lt (accepted self.old) 1000000 ≡ true }
@@ -212,7 +223,7 @@ impl World {
         ensures refused { IfErr result (Refuses (event_refusal self.old (event_of event.now))) }
         ensures unchanged { OnErr result (self.new ≡ self.old) }
     {
-        if self.accepted() >= MOST_EVENTS {
+        if self.accepted() >= World::MOST_EVENTS {
             return Err(WorldError::EventsFull);
         }
         match *event {
@@ -221,6 +232,7 @@ impl World {
             WorldEvent::Tick(id) => self.tick(id),
             WorldEvent::Deliver(number) => self.deliver(number),
             WorldEvent::Crash(id) => self.crash(id),
+            WorldEvent::Leave(id) => self.leave(id),
         }
     }
 }

@@ -32,9 +32,6 @@ use rapid_safety::runs_hold;
 use std::alloc::{AllocError, Global};
 use std::marker::Model;
 
-/// How many events a world accepts at most.
-const MOST_EVENTS: usize = 1_000_000;
-
 /// A world of many nodes and the packets between them, which runs by events. Its value is how it
 /// was founded and the events that it accepted, each with the mark whether its node halted in it
 /// because it was out of memory.
@@ -66,6 +63,9 @@ impl Model for World {
 }
 
 impl World {
+    /// How many events a world accepts at most.
+    pub const MOST_EVENTS: usize = 1_000_000;
+
     /// The world of these parts.
     pub(crate) fn of(alloc: Global, founding: Configuration, peers: Peers) -> World
         requires { IsRunOf (new_world founding) peers [] }

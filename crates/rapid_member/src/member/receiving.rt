@@ -85,6 +85,10 @@ impl MemberState {
                 None => Ok(None),
             },
             Body::Decision(_, cut) => Ok(Some(cut.try_copy(self.alloc)?)),
+            Body::Leave(_, ring) => {
+                self.take_leave(from, *ring)?;
+                Ok(None)
+            }
             Body::PreJoin
             | Body::Reply(..)
             | Body::JoinRequest(..)
@@ -242,7 +246,8 @@ impl MemberState {
             | Body::Accepted(..)
             | Body::Reply(..)
             | Body::Confirm(_)
-            | Body::ProbeAck(_) => self.take_or_catch_up(out, decisions, from, body),
+            | Body::ProbeAck(_)
+            | Body::Leave(..) => self.take_or_catch_up(out, decisions, from, body),
         }
     }
 }

@@ -44,6 +44,8 @@ pub enum Said {
     Probe,
     /// The answer to a probe.
     ProbeAck,
+    /// A wish to leave, to an observer on this ring.
+    Leave(u8),
 }
 
 /// To whom a message goes.
@@ -102,6 +104,7 @@ pub fn said_by(body: &Body) -> Said {
         Body::Confirm(configuration) => Said::Confirm(configuration.members().len()),
         Body::Probe(_) => Said::Probe,
         Body::ProbeAck(_) => Said::ProbeAck,
+        Body::Leave(_, ring) => Said::Leave(*ring),
     }
 }
 

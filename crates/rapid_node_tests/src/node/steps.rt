@@ -35,6 +35,10 @@ pub enum Word {
     ProbeAck(Which),
     /// The process with this number says that the cut of that process is decided.
     Decision(u16),
+    /// That it is to leave.
+    Leave,
+    /// The process with this number says that it leaves a configuration, on a ring.
+    Leaves(Which, u8, u16),
 }
 
 /// What happens to a node, or what is seen of it.
@@ -84,6 +88,11 @@ fn event(
         Word::Decision(number) => {
             let cut = cut(alloc, number)?;
             heard(number, Body::Decision(shown(rt, node), cut))
+        }
+        Word::Leave => Ok(Event::Leave),
+        Word::Leaves(which, ring, number) => {
+            let id = identifier(rt, node, first, which);
+            heard(number, Body::Leave(id, ring))
         }
     }
 }

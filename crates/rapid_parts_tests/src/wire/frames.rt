@@ -1,6 +1,7 @@
 // Worked frames, and what is refused.
 
 use crate::numbered::process;
+use rapid_config::ConfigId;
 use rapid_join::Reply;
 use rapid_message::{Body, Message};
 use rapid_wire::{Feed, WireFault, encode, read_frame};
@@ -135,7 +136,7 @@ fn goes_out_and_back(alloc: Global, body: &Parts) -> Result<bool, Fail> {
 
 const BALLOT: &[u8] = &[2, 0, 5];
 
-const GOOD: [Parts; 20] = [
+const GOOD: [Parts; 21] = [
     (1, &[&ID, &[0, 1], &[3, 1], &TWO]),
     (1, &[&ID, &[0, 2], &[255, 2], &TWO, &[0, 1], &TWO]),
     (2, &[&ID, &[0, 2], &TWO, &THREE]),
@@ -156,6 +157,7 @@ const GOOD: [Parts; 20] = [
     (11, &[&HEAD, &[0, 2], &ONE, &TWO]),
     (12, &[&ID]),
     (13, &[&ID]),
+    (14, &[&ID, &[255]]),
 ];
 
 #[test]
@@ -180,7 +182,7 @@ fn is_bad(alloc: Global, body: &Parts) -> Result<bool, Fail> {
     Ok(fault(alloc, &bytes) == Some(WireFault::BadBody))
 }
 
-const BAD: [Parts; 20] = [
+const BAD: [Parts; 22] = [
     (1, &[&ID, &[0, 0]]),
     (1, &[&ID, &[0, 1], &[3, 3], &TWO]),
     (1, &[&ID, &[0, 2], &[3, 1], &TWO]),
@@ -201,6 +203,8 @@ const BAD: [Parts; 20] = [
     (11, &[&HEAD, &[0, 1], &ONE, &[0]]),
     (12, &[&ID, &[0]]),
     (13, &[]),
+    (14, &[&ID]),
+    (14, &[&ID, &[0, 0]]),
 ];
 
 #[test]
@@ -224,12 +228,13 @@ fn is_fault_at_end(alloc: Global, bytes: &[u8], fault: WireFault) -> bool {
     false
 }
 
-const FAULTS: [(&[u8], WireFault); 8] = [
+const FAULTS: [(&[u8], WireFault); 9] = [
     (&[0, 0, 0, 0], WireFault::BadBody),
     (&[0, 0, 0, 1, 1], WireFault::BadBody),
     (&[0, 0, 0, 2, 2, 8], WireFault::BadVersion),
     (&[0, 0, 0, 2, 1, 0xff], WireFault::BadKind),
     (&[0, 0, 0, 2, 1, 0], WireFault::BadKind),
+    (&[0, 0, 0, 2, 1, 15], WireFault::BadKind),
     (&[0, 0, 0, 2, 1, 8], WireFault::BadBody),
     (
         &[
@@ -291,6 +296,9 @@ fn worked_messages_are_written(rt: HostRuntime) -> Result<(), Fail> {
     assert!(rt; writes(rt.alloc(), &question, &PRE_JOIN)?);
     let answer = Message::new(process(1), Body::Reply(process(2), Reply::EndpointInUse))?;
     assert!(rt; writes(rt.alloc(), &answer, &IN_USE)?);
+    let leave = Message::new(process(1), Body::Leave(ConfigId::new(ID), 5))?;
+    let frame = frame(rt.alloc(), &(14, &[&ID, &[5]]))?;
+    assert!(rt; writes(rt.alloc(), &leave, &frame)?);
     Ok(())
 }
 

@@ -1,6 +1,6 @@
 // What waits to be printed.
 
-use rapid_service::{Console, NodeFault};
+use rapid_service::{Console, RunningFault};
 use std::process::Abort;
 use std::test::Fail;
 
@@ -17,7 +17,7 @@ fn at_most_a_mebibyte_waits_to_be_printed(rt: HostRuntime) -> Result<(), Fail> {
     for _ in 0..LINES {
         assert_eq!(rt; console.add(&rt, line.as_slice()), Ok(()));
     }
-    assert_eq!(rt; console.add(&rt, b"\n"), Err(NodeFault::Write));
+    assert_eq!(rt; console.add(&rt, b"\n"), Err(RunningFault::Write));
     assert_eq!(rt; console.add(&rt, b""), Ok(()));
     // what waits is printed, and nothing else
     console.close(&rt);

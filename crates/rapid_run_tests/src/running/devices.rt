@@ -51,6 +51,34 @@ impl<R: Wait + Clock> Read for Murmur<'_, R> {
     }
 }
 
+/// An input that gives a line when it is told to, then nothing, and ends when it is told to.
+#[derive(Drop)]
+pub(crate) struct Cue<'a, R: Wait + Clock> {
+    pub rt: &'a R,
+    pub line: &'a [u8],
+    pub now: &'a AtomicBool,
+    pub over: &'a AtomicBool,
+}
+
+impl<R: Wait + Clock> Read for Cue<'_, R> {
+    fn read(&mut self, buf: &mut [u8]) -> io::Result<usize> {
+        for _ in self.rt.forever() {
+            if self.over.load(Ordering::SeqCst) {
+                return Ok(0);
+            }
+            if self.now.load(Ordering::SeqCst) && !self.line.is_empty() {
+                let count = self.line.len().min(buf.len());
+                let (front, rest) = self.line.split_at(count);
+                buf[..count].copy_from_slice(front);
+                self.line = rest;
+                return Ok(count);
+            }
+            thread::sleep(self.rt, Duration::from_millis(5));
+        }
+        Ok(0)
+    }
+}
+
 /// An output that other threads can look at.
 #[derive(Drop)]
 pub(crate) struct Screen<'a, R: Wait> {

@@ -1,9 +1,9 @@
 // Nodes that end while their input is open, or while nobody reads their output.
 
 use crate::running::devices::Broken;
-use crate::running::rows::ran;
+use crate::running::rows::{At, ran};
 use rapid_run::Polled;
-use rapid_service::NodeFault;
+use rapid_service::RunningFault;
 use std::alloc::{AllocError, Global};
 use std::io::{self, ErrorKind, PipeReader, PipeWriter, Read, Write};
 use std::process::Abort;
@@ -25,13 +25,15 @@ fn a_fault_ends_a_node_whose_input_is_open(rt: HostRuntime) -> Result<(), Fail> 
     let ended = ran(
         &rt,
         rt.alloc(),
-        7_481,
-        Some(7_482),
+        At {
+            port: 7_481,
+            seed: Some(7_482),
+        },
         &mut Polled::new(reader),
         &mut Broken,
         &mut err,
     );
-    assert_eq!(rt; ended, Err(NodeFault::Write));
+    assert_eq!(rt; ended, Err(RunningFault::Write));
     assert_eq!(rt;
         err.as_slice(),
         b"error: the output could not be written\n".as_slice()
@@ -60,13 +62,15 @@ fn quit_ends_a_node_whose_output_nobody_reads(rt: HostRuntime) -> Result<(), Fai
     let ended = ran(
         &rt,
         rt.alloc(),
-        7_483,
-        None,
+        At {
+            port: 7_483,
+            seed: None,
+        },
         &mut lines.as_slice(),
         &mut Polled::new(writer),
         &mut err,
     );
-    assert_eq!(rt; ended, Err(NodeFault::Write));
+    assert_eq!(rt; ended, Err(RunningFault::Write));
     assert!(rt; begun.elapsed(&rt)? < Duration::from_millis(SOON));
     drop(unread);
     Ok(())
@@ -81,8 +85,10 @@ fn quit_ends_a_node_whose_input_stays_open(rt: HostRuntime) -> Result<(), Fail> 
     let ended = ran(
         &rt,
         rt.alloc(),
-        7_484,
-        None,
+        At {
+            port: 7_484,
+            seed: None,
+        },
         &mut Polled::new(reader),
         &mut printed,
         &mut err,

@@ -5,7 +5,7 @@ use rapid_config::{Configuration, Cut, Params};
 use rapid_endpoint::{Endpoint, Process, ProcessId};
 use rapid_join::Reply;
 use rapid_message::{Body, Message};
-use rapid_service::{Answer, InVain, NodeFault, Note, Post, Service};
+use rapid_service::{Answer, InVain, Note, Post, RunningFault, Service};
 use std::alloc::Global;
 use std::process::Abort;
 use std::sync::Wait;
@@ -47,7 +47,7 @@ fn reply(joiner: u8, reply: Reply) -> Result<Message, Fail> {
 fn ticked<R: Wait + Copy + Drop>(
     service: &mut Service<R, Nowhere>,
     count: u64,
-) -> Result<Vec<Note>, NodeFault> {
+) -> Result<Vec<Note>, RunningFault> {
     for _ in 0..count {
         service.tick()?;
     }
@@ -188,14 +188,22 @@ fn the_texts_of_notes(rt: HostRuntime) -> Result<(), Fail> {
 }
 
 /// The faults of a node, with the status of each and what is reported of it.
-const FAULTS: [(NodeFault, u8, &str); 7] = [
-    (NodeFault::Read, 1, "the input could not be read"),
-    (NodeFault::Write, 1, "the output could not be written"),
-    (NodeFault::NoPort, 1, "the port is not to be had"),
-    (NodeFault::NoIdentifier, 3, "no identifier could be drawn"),
-    (NodeFault::OutOfMemory, 3, "out of memory"),
-    (NodeFault::JournalFull, 3, "the journal of the node is full"),
-    (NodeFault::Halted, 3, "the node has halted"),
+const FAULTS: [(RunningFault, u8, &str); 7] = [
+    (RunningFault::Read, 1, "the input could not be read"),
+    (RunningFault::Write, 1, "the output could not be written"),
+    (RunningFault::NoPort, 1, "the port cannot be bound"),
+    (
+        RunningFault::NoIdentifier,
+        3,
+        "no identifier could be drawn",
+    ),
+    (RunningFault::OutOfMemory, 3, "out of memory"),
+    (
+        RunningFault::JournalFull,
+        3,
+        "the journal of the node is full",
+    ),
+    (RunningFault::Halted, 3, "the node has halted"),
 ];
 
 #[test]

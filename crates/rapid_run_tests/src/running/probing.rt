@@ -2,7 +2,7 @@
 
 use rapid_config::{Configuration, Params};
 use rapid_endpoint::{Endpoint, Process, ProcessId};
-use rapid_service::{EdgeState, Part, PartRound, Watch};
+use rapid_service::{EdgeState, ObservedEdges, Part, PartRound};
 use std::alloc::{AllocError, Global};
 use std::process::Abort;
 use std::test::*;
@@ -17,10 +17,10 @@ fn process(number: u8) -> Process {
 }
 
 /// Whom process 1 observes among five.
-fn watch_of_five(alloc: Global) -> Result<Watch, Fail> {
+fn watch_of_five(alloc: Global) -> Result<ObservedEdges, Fail> {
     let members = [process(1), process(2), process(3), process(4), process(5)];
     let configuration = Configuration::seed(alloc, Params::new(16, 9, 3)?, &members)?;
-    Ok(Watch::new(alloc, &configuration, &process(1))?)
+    Ok(ObservedEdges::new(alloc, &configuration, &process(1))?)
 }
 
 /// How many processes are named.

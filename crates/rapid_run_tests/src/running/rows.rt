@@ -4,7 +4,7 @@ use crate::running::devices::{Broken, Murmur, Screen};
 use rapid_config::Params;
 use rapid_endpoint::{Endpoint, ProcessId};
 use rapid_run::run_node;
-use rapid_service::{NodeFault, NodeOptions};
+use rapid_service::{NodeOptions, RunningFault};
 use std::alloc::Global;
 use std::io::{Read, Write};
 use std::net::{Ipv4Addr, Net, SocketAddr, SocketAddrV4, TcpListener, TcpStream};
@@ -16,17 +16,22 @@ use std::test::Fail;
 use std::thread::{self, Threads};
 use std::time::{Clock, Duration};
 
-/// Runs a node at this port: it founds a cluster, or joins one by the seed at
-/// that port.
+/// At which port a node runs, and at which its seed does; without a seed it founds a cluster.
+#[derive(Clone, Copy)]
+pub(crate) struct At {
+    pub port: u16,
+    pub seed: Option<u16>,
+}
+
+/// Runs a node: it founds a cluster, or joins one by its seed.
 pub(crate) fn ran<R, I, O, E>(
     rt: &R,
     alloc: Global,
-    port: u16,
-    seed: Option<u16>,
+    at: At,
     reader: &mut I,
     writer: &mut O,
     err: &mut E,
-) -> Result<(), NodeFault>
+) -> Result<(), RunningFault>
 where
     R: Net<Listener = TcpListener, Stream = TcpStream>
         + Threads
@@ -39,13 +44,13 @@ where
     E: Write + Send,
 {
     let Ok(params) = Params::new(10, 9, 3) else {
-        return Err(NodeFault::Halted);
+        return Err(RunningFault::Halted);
     };
     let id = [0, 0, 0, 0, 0, 0, 0, 0, 0, 0, 0, 0, 0, 0, 0, 1];
     let asked = NodeOptions {
-        listen: Endpoint::new([127, 0, 0, 1], port),
+        listen: Endpoint::new([127, 0, 0, 1], at.port),
         id: Some(ProcessId::new(id)),
-        join: seed.map(|port| Endpoint::new([127, 0, 0, 1], port)),
+        join: at.seed.map(|port| Endpoint::new([127, 0, 0, 1], port)),
         params,
         tick_ms: 0,
         probers: 1,
@@ -61,8 +66,10 @@ fn a_founder_prints_its_view(rt: HostRuntime) -> Result<(), Fail> {
     ran(
         &rt,
         rt.alloc(),
-        7_401,
-        None,
+        At {
+            port: 7_401,
+            seed: None,
+        },
         &mut input,
         &mut printed,
         &mut err,
@@ -83,8 +90,10 @@ fn a_founder_observes_nobody(rt: HostRuntime) -> Result<(), Fail> {
     ran(
         &rt,
         rt.alloc(),
-        7_415,
-        None,
+        At {
+            port: 7_415,
+            seed: None,
+        },
         &mut input,
         &mut printed,
         &mut err,
@@ -98,14 +107,16 @@ fn a_founder_observes_nobody(rt: HostRuntime) -> Result<(), Fail> {
 
 #[test]
 fn a_joiner_has_no_view(rt: HostRuntime) -> Result<(), Fail> {
-    let mut input = b"# none yet\nview\ntick 20\nleave\ntick 1001\n".as_slice();
+    let mut input = b"# none yet\nview\ntick 20\nleave\nleave now\ntick 1001\n".as_slice();
     let mut printed = Vec::new(rt.alloc());
     let mut err = Vec::new(rt.alloc());
     ran(
         &rt,
         rt.alloc(),
-        7_402,
-        Some(7_403),
+        At {
+            port: 7_402,
+            seed: Some(7_403),
+        },
         &mut input,
         &mut printed,
         &mut err,
@@ -132,17 +143,19 @@ fn a_port_that_is_taken(rt: HostRuntime) -> Result<(), Fail> {
     let ended = ran(
         &rt,
         rt.alloc(),
-        7_404,
-        None,
+        At {
+            port: 7_404,
+            seed: None,
+        },
         &mut input,
         &mut printed,
         &mut err,
     );
-    assert_eq!(rt; ended, Err(NodeFault::NoPort));
+    assert_eq!(rt; ended, Err(RunningFault::NoPort));
     assert!(rt; printed.is_empty());
     assert_eq!(rt;
         err.as_slice(),
-        b"error: the port is not to be had\n".as_slice()
+        b"error: the port cannot be bound\n".as_slice()
     );
     Ok(())
 }
@@ -154,13 +167,15 @@ fn an_input_that_fails(rt: HostRuntime) -> Result<(), Fail> {
     let ended = ran(
         &rt,
         rt.alloc(),
-        7_405,
-        None,
+        At {
+            port: 7_405,
+            seed: None,
+        },
         &mut Broken,
         &mut printed,
         &mut err,
     );
-    assert_eq!(rt; ended, Err(NodeFault::Read));
+    assert_eq!(rt; ended, Err(RunningFault::Read));
     assert_eq!(rt;
         err.as_slice(),
         b"error: the input could not be read\n".as_slice()
@@ -177,7 +192,7 @@ fn unwritten<R>(
     alloc: Global,
     port: u16,
     seed: Option<u16>,
-) -> (Result<(), NodeFault>, Vec<u8>)
+) -> (Result<(), RunningFault>, Vec<u8>)
 where
     R: Net<Listener = TcpListener, Stream = TcpStream>
         + Threads
@@ -188,7 +203,14 @@ where
 {
     let mut input = b"view\n".as_slice();
     let mut err = Vec::new(alloc);
-    let ended = ran(rt, alloc, port, seed, &mut input, &mut Broken, &mut err);
+    let ended = ran(
+        rt,
+        alloc,
+        At { port, seed },
+        &mut input,
+        &mut Broken,
+        &mut err,
+    );
     (ended, err)
 }
 
@@ -196,7 +218,7 @@ where
 fn an_output_that_fails(rt: HostRuntime) {
     for (port, seed) in [(7_406, None), (7_407, Some(7_408))] {
         let (ended, err) = unwritten(&rt, rt.alloc(), port, seed);
-        assert_eq!(rt; ended, Err(NodeFault::Write));
+        assert_eq!(rt; ended, Err(RunningFault::Write));
         assert_eq!(rt; err.as_slice(), UNWRITTEN);
     }
 }
@@ -218,7 +240,11 @@ fn is_told<R: Wait + Clock>(rt: &R, told: &Mutex<Vec<u8>>, over: &AtomicBool) ->
 
 /// Runs a node whose output fails, and whose input is quiet after a line; whether the fault was
 /// reported before the input ended, and how the node ended.
-fn quiet<'a, R>(rt: &'a R, alloc: Global, told: &'a Mutex<Vec<u8>>) -> (Result<(), NodeFault>, bool)
+fn quiet<'a, R>(
+    rt: &'a R,
+    alloc: Global,
+    told: &'a Mutex<Vec<u8>>,
+) -> (Result<(), RunningFault>, bool)
 where
     R: Net<Listener = TcpListener, Stream = TcpStream>
         + Threads
@@ -239,8 +265,10 @@ where
         || ran(
             rt,
             alloc,
-            7_409,
-            Some(7_410),
+            At {
+                port: 7_409,
+                seed: Some(7_410),
+            },
             &mut reader,
             &mut Broken,
             &mut err,
@@ -254,6 +282,6 @@ fn a_fault_is_told_while_the_input_is_quiet(rt: HostRuntime) {
     let told = Mutex::new(Vec::new(rt.alloc()));
     let (ended, was_told) = quiet(&rt, rt.alloc(), &told);
     assert!(rt; was_told);
-    assert_eq!(rt; ended, Err(NodeFault::Write));
+    assert_eq!(rt; ended, Err(RunningFault::Write));
     assert_eq!(rt; told.lock(&rt).as_slice(), UNWRITTEN);
 }

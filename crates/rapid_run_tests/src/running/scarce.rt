@@ -1,8 +1,8 @@
 // A node for which there are too few file descriptors.
 
-use crate::running::rows::ran;
+use crate::running::rows::{At, ran};
 use rapid_run::Polled;
-use rapid_service::NodeFault;
+use rapid_service::RunningFault;
 use std::alloc::Global;
 use std::io::{self, Write};
 use std::net::{Ipv4Addr, Net, SocketAddr, SocketAddrV4, TcpListener, TcpStream};
@@ -24,7 +24,7 @@ const SOON: u64 = 2_500;
 
 /// What is reported if there are too few.
 const WARNING: &[u8] =
-    b"warning: no file descriptor was to be had for a connection: messages are lost\n";
+    b"warning: no file descriptor was left for a connection: messages are lost\n";
 
 /// Takes all file descriptors but this many.
 fn hoard<R>(rt: &R, alloc: Global, port: u16, left: usize) -> io::Result<Vec<TcpListener>>
@@ -54,7 +54,7 @@ fn among<R>(
     alloc: Global,
     port: u16,
     left: usize,
-) -> io::Result<(Result<(), NodeFault>, Vec<u8>, bool)>
+) -> io::Result<(Result<(), RunningFault>, Vec<u8>, bool)>
 where
     R: Net<Listener = TcpListener, Stream = TcpStream>
         + Threads
@@ -72,7 +72,14 @@ where
     let begun = Instant::now(rt)?;
     let (ended, _) = thread::join(
         rt,
-        || ran(rt, alloc, port, None, &mut input, &mut printed, &mut err),
+        || ran(
+            rt,
+            alloc,
+            At { port, seed: None },
+            &mut input,
+            &mut printed,
+            &mut err,
+        ),
         || {
             thread::sleep(rt, Duration::from_millis(BEFORE_QUIT));
             typed.write_all(b"quit\n")
@@ -85,11 +92,11 @@ where
 
 /// With how many descriptors a node ends in which way, and what it reports: the listener takes one,
 /// and another accepts a connection.
-const ROWS: [(usize, Result<(), NodeFault>, &[u8]); 3] = [
+const ROWS: [(usize, Result<(), RunningFault>, &[u8]); 3] = [
     (
         0,
-        Err(NodeFault::NoPort),
-        b"error: the port is not to be had\n",
+        Err(RunningFault::NoPort),
+        b"error: the port cannot be bound\n",
     ),
     (1, Ok(()), WARNING),
     (2, Ok(()), b""),

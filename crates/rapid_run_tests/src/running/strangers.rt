@@ -1,11 +1,11 @@
 // Frames that claim a sender at which no peer can be.
 
-use crate::running::rows::ran;
+use crate::running::rows::{At, ran};
 use rapid_config::{Configuration, Params};
 use rapid_endpoint::{Endpoint, Process, ProcessId};
 use rapid_message::{Body, Message};
 use rapid_run::Polled;
-use rapid_service::NodeFault;
+use rapid_service::RunningFault;
 use rapid_wire::encode;
 use std::alloc::Global;
 use std::io::{self, ErrorKind, Write};
@@ -89,7 +89,7 @@ fn asked<R>(
     port: u16,
     bytes: &[u8],
     answers: &TcpListener,
-) -> io::Result<(Result<(), NodeFault>, Vec<u8>)>
+) -> io::Result<(Result<(), RunningFault>, Vec<u8>)>
 where
     R: Net<Listener = TcpListener, Stream = TcpStream>
         + Threads
@@ -105,7 +105,10 @@ where
     let mut err = Vec::new(alloc);
     let (ended, answered) = thread::join(
         rt,
-        || ran(rt, alloc, port, None, &mut input, &mut printed, &mut err),
+        || {
+            let at = At { port, seed: None };
+            ran(rt, alloc, at, &mut input, &mut printed, &mut err)
+        },
         || {
             let sent = send(rt, port, bytes);
             let answered = sent.is_ok() && is_answered(rt, answers);

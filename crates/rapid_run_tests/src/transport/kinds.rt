@@ -38,7 +38,7 @@ const BALLOT: &[u8] = &[2, 0, 5];
 type Parts<'a> = (u8, &'a [&'a [u8]]);
 
 /// A body of every kind, and of each form that a kind has.
-const BODIES: [Parts; 17] = [
+const BODIES: [Parts; 18] = [
     (1, &[&ID, &[0, 2], &[255, 2], &TWO, &[0, 1], &TWO]),
     (2, &[&ID, &[0, 2], &TWO, &THREE]),
     (3, &[&ID, BALLOT]),
@@ -56,6 +56,7 @@ const BODIES: [Parts; 17] = [
     (11, &[&HEAD, &[0, 2], &ONE, &TWO]),
     (12, &[&ID]),
     (13, &[&ID]),
+    (14, &[&ID, &[9]]),
 ];
 
 /// The frame of a body from the process with the number 1.

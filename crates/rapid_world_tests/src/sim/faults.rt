@@ -1,7 +1,7 @@
 // Faults of the input and the output of `sim`.
 
 use crate::sim::worked::joined;
-use rapid_sim::run_sim;
+use rapid_sim::{run_sim, run_sim_counted};
 use rapid_text::RunFault;
 use std::io;
 use std::io::{ErrorKind, Read, Write};
@@ -75,6 +75,31 @@ fn ends_by_name_if_a_write_fails(rt: HostRuntime) -> Result<(), Fail> {
     };
     let ran = run_sim(rt.alloc(), &mut input.as_slice(), &mut writer);
     assert_eq!(rt; ran, Err(RunFault::Write));
+    assert!(rt; VIEWS.starts_with(bytes.as_slice()));
+    Ok(())
+}
+
+/// After a fault the count of how often memory ran out is still given. If it is 0, what was
+/// written is a beginning of what the input prints.
+#[test]
+fn a_fault_leaves_the_count(rt: HostRuntime) -> Result<(), Fail> {
+    let mut reader = Faulty {
+        input: b"params 3 3 1\nfound 1 2\npack",
+    };
+    let mut output = Vec::new(rt.alloc());
+    let unread = run_sim_counted(rt.alloc(), &mut reader, &mut output);
+    assert_eq!(rt; unread.ended, Err(RunFault::Read));
+    assert_eq!(rt; unread.met, 0);
+    assert_eq!(rt; output.as_slice(), VIEWS);
+    let input = joined(rt.alloc(), "params 3 3 1 / found 1 2")?;
+    let mut bytes = [0u8; 40];
+    let mut writer = Fixed {
+        bytes: &mut bytes,
+        length: 0,
+    };
+    let unwritten = run_sim_counted(rt.alloc(), &mut input.as_slice(), &mut writer);
+    assert_eq!(rt; unwritten.ended, Err(RunFault::Write));
+    assert_eq!(rt; unwritten.met, 0);
     assert!(rt; VIEWS.starts_with(bytes.as_slice()));
     Ok(())
 }

@@ -72,6 +72,18 @@ fn prints_the_worked_outputs(rt: HostRuntime) -> Result<(), Fail> {
             "node 1 height 0 members 1 / refused NotObserved / refused NoSuchPacket / \
              refused NoSuchNode / refused IdentifierUsed / refused EndpointBusy",
         ),
+        (
+            "params 3 3 1 / found 1 2 / leave 2 / flow / tick 1 / flow / packets",
+            "node 1 height 0 members 1 2 / node 2 height 0 members 1 2 / \
+             node 2 removed at height 1 / node 1 height 1 members 1 / packets 6",
+        ),
+        (
+            // a member that is alone has no observer, and who joins has no view to leave
+            "params 3 3 1 / found 1 / leave 1 / start 2 2 1 / leave 2 / packets / leave 3 / \
+             crash 1 / leave 1 / leave 1 2",
+            "node 1 height 0 members 1 / packets 0 / refused NoSuchNode / refused NoSuchNode / \
+             refused BadLine",
+        ),
     ];
     for (lines, wanted) in rows {
         assert!(rt; prints(rt.alloc(), lines, wanted)?, "at {lines}");

@@ -3,7 +3,7 @@
 use crate::numbered::{endpoint, id, process};
 use crate::world::worlds::alone;
 use rapid_node::Phase;
-use rapid_world::WorldEvent::{Crash, Deliver, Probe, Start, Tick};
+use rapid_world::WorldEvent::{Crash, Deliver, Leave, Probe, Start, Tick};
 use rapid_world::{World, WorldError, WorldEvent};
 use std::process::Abort;
 use std::test::Fail;
@@ -68,9 +68,11 @@ fn only_refused_events_are_passed_over(rt: HostRuntime) -> Result<(), Fail> {
         Start(process(3), endpoint(1)),
         Tick(id(2)),
         Deliver(6),
+        Leave(id(2)),
         Crash(id(3)),
         Crash(id(3)),
+        Leave(id(3)),
     ]);
-    assert_eq!(&rt; (ran.accepted, ran.wanted), (6, 0));
+    assert_eq!(&rt; (ran.accepted, ran.wanted), (7, 0));
     Ok(())
 }

@@ -3,7 +3,7 @@
 use crate::numbered::{endpoint, id, process};
 use crate::world::worlds::alone;
 use rapid_endpoint::Process;
-use rapid_world::WorldEvent::{Crash, Deliver, Probe, Start, Tick};
+use rapid_world::WorldEvent::{Crash, Deliver, Leave, Probe, Start, Tick};
 use rapid_world::{World, WorldError, WorldEvent};
 use std::test::Fail;
 
@@ -27,6 +27,7 @@ fn refuses_by_the_rules(rt: HostRuntime) -> Result<(), Fail> {
         ),
         (Tick(id(2)), WorldError::NoSuchNode),
         (Crash(id(2)), WorldError::NoSuchNode),
+        (Leave(id(2)), WorldError::NoSuchNode),
         (Probe(id(2), 0, false), WorldError::NoSuchNode),
         (Probe(id(1), 0, false), WorldError::NotObserved),
         (Deliver(0), WorldError::NoSuchPacket),

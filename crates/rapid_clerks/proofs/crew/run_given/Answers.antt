@@ -19,5 +19,5 @@ loop-place-preserved g c =
       omega (arith, merged.amount, amount_before, counted, sums),
       search rules,
       search rules,
-      subst (All (λ count. count ≤ c.args.turns)) (sym items) (All-push (λ count. count ≤ c.args.turns) c.loop-place.counts.items place.done i.4 (omega (arith, most, given))),
+      subst (All (λ count. count ≤ c.args.crew.turns)) (sym items) (All-push (λ count. count ≤ c.args.crew.turns) c.loop-place.counts.items place.done i.4 (omega (arith, most, given))),
     )

@@ -1,11 +1,10 @@
-use Rattle.std.proofs.Common.{[], ◌∷◌, ◌++◌, Contains, sym, subst}
+use Rattle.std.proofs.Common.{◌≡◌, ◌⊎◌, [], ◌∷◌, ◌++◌, Contains, sym, subst}
+use Rattle.std.specs.BTreeMap.{values}
 use Rattle.std.proofs.lemmas.List.Elements.{Contains-push}
 use Rattle.rapid_service.specs.Repeating.{Passed}
-use Rattle.rapid_service.proofs.Keeping.{holds_more, was_let}
+use Rattle.rapid_service.specs.Remembering.{IsPlaced}
+use Rattle.rapid_service.proofs.Keeping.{holds_more}
 use Rattle.rapid_service.proofs.repeats.passes.Goals as goal
-
-pub returns-clause-dropped : goal.returns-clause-dropped
-returns-clause-dropped c passed h e = was_let passed _ _ _ (c.in-Some.ensures passed h) (c.is_repeat.ensures.equal c.if-is_repeat.true) (c.is_repeat.ensures.timely c.if-is_repeat.true)
 
 pub returns-in-Ok-clause-holds : goal.returns-in-Ok-clause-holds
 returns-in-Ok-clause-holds c passed h =
@@ -15,3 +14,11 @@ returns-in-Ok-clause-holds c passed h =
 
 pub returns-in_default-clause-holds : goal.returns-in_default-clause-holds
 returns-in_default-clause-holds c passed h = holds_more passed _ _ h
+
+pub returns-in-Ok-clause-placed : goal.returns-in-Ok-clause-placed
+returns-in-Ok-clause-placed c config b h p =
+    c.keep.ensures.placed config b h (subst (λ m. IsPlaced config b (c.args.key, record { message = m; ticks = c.args.now })) (sym c.in-Ok.ensures) p)
+
+pub returns-in-Ok-clause-kept : goal.returns-in-Ok-clause-kept
+returns-in-Ok-clause-kept c e =
+    subst (λ m. Contains (values c.keep.new.table) (record { message = m; ticks = c.args.now }) ⊎ (c.keep.new.table.entries ≡ c.args.table.now.entries)) c.in-Ok.ensures c.keep.ensures.kept

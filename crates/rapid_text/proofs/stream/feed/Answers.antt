@@ -1,7 +1,7 @@
 use Rattle.std.proofs.Common.{subst, sym, rules}
 use Rattle.std.proofs.lemmas.Result.{on_ok_weaker}
 use Rattle.rapid_text.specs.Underway.{Feeds}
-use Rattle.rapid_text.proofs.Streams.{on_err, feeds_first, feeds_line, feeds_rest, feeds_begun}
+use Rattle.rapid_text.proofs.Streams.{on_err, feeds_first, feeds_line, feeds_rest, feeds_stopped}
 use Rattle.rapid_text.proofs.stream.feed.Goals as goal
 
 pub loop-front-init : goal.loop-front-init
@@ -10,7 +10,7 @@ loop-front-init g c = feeds_first g.E.Engine.prints g.met.E.Engine.too_long c.ar
 pub returns-in_err-end_line-clause-begun : goal.returns-in_err-end_line-clause-begun
 returns-in_err-end_line-clause-begun g c =
     on_err _ c.from_residual.result
-    (feeds_begun g.E.Engine.prints g.met.E.Engine.speaks _ _ _ _ _ _ _ _
+    (feeds_stopped g.E.Engine.prints g.E.Engine.met g.met.E.Engine.speaks _ _ _ _ _ _ _ _
     (subst (Feeds g.E.Engine.prints c.args.engine.now c.loop-front.engine c.args.line.now c.loop-front.line c.args.part.now c.loop-front.rest.now c.args.output.now.items)
     (sym c.in_err-end_line.ensures.unchanged) c.loop-front.invariant))
 
@@ -30,4 +30,4 @@ returns-clause-ok g c =
     c.args.output.now.items c.loop-front.output.items c.loop-front.invariant c.keep.ensures.before c.keep.ensures.unended (search rules) kept) c.keep.ensures.ok
 
 pub returns-clause-begun : goal.returns-clause-begun
-returns-clause-begun g c = on_err _ c.keep.result (feeds_begun g.E.Engine.prints g.met.E.Engine.speaks _ _ _ _ _ _ _ _ c.loop-front.invariant)
+returns-clause-begun g c = on_err _ c.keep.result (feeds_stopped g.E.Engine.prints g.E.Engine.met g.met.E.Engine.speaks _ _ _ _ _ _ _ _ c.loop-front.invariant)

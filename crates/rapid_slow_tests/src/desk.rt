@@ -64,7 +64,7 @@ pub(crate) fn step<R: Wait>(desk: &mut Desk<&R>, event: Event) -> Result<(), Des
 
 /// Gives an event to the desk. A desk that was out of memory takes the event again. If the node
 /// halted in the step, or its view was not published, the node has halted.
-fn hand_over<R: Wait + Abort>(
+pub(crate) fn hand_over<R: Wait + Abort>(
     rt: &R,
     desk: &mut Desk<&R>,
     event: Event,

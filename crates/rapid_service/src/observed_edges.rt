@@ -4,7 +4,7 @@ ghost use Rattle.std.specs.Prelude.{◌≡◌, ◌<◌, IfOk};
 ghost use Rattle.rapid_model.specs.Ring.{subjects_of};
 
 use crate::edge_text::EdgeState;
-use crate::fault::NodeFault;
+use crate::fault::RunningFault;
 use crate::part::Part;
 use rapid_config::Configuration;
 use rapid_endpoint::Process;
@@ -15,7 +15,7 @@ use std::alloc::{AllocError, Global};
 /// The members that a node observes in one view, and the board of these edges. The seats of the
 /// edges are here until they are given to parts.
 #[derive(Drop)]
-pub struct Watch {
+pub struct ObservedEdges {
     alloc: Global,
     rings: Rings,
     me: Process,
@@ -48,35 +48,35 @@ fn board_of(alloc: Global, edges: usize) -> Result<(Option<EdgeBoard>, Vec<EdgeS
     }
 }
 
-impl Watch {
+impl ObservedEdges {
     /// Of a process in a configuration. It computes the rings of the configuration.
     pub fn new(
         alloc: Global,
         configuration: &Configuration,
         me: &Process,
-    ) -> Result<Watch, AllocError>
+    ) -> Result<ObservedEdges, AllocError>
         ensures { IfOk result (λ w. w.edges.items ≡ subjects_of configuration.now me.now) }
     {
         let rings = Rings::new(alloc, configuration)?;
-        Watch::over(alloc, rings, me)
+        ObservedEdges::over(alloc, rings, me)
     }
 
     /// Of the process in a configuration that follows. The rings are made of the current ones, so
     /// keys are hashed for newcomers only.
-    pub fn next(&self, configuration: &Configuration) -> Result<Watch, AllocError>
+    pub fn next(&self, configuration: &Configuration) -> Result<ObservedEdges, AllocError>
         ensures { IfOk result (λ w. w.edges.items ≡ subjects_of configuration.now self.now.me) }
     {
         let rings = self.rings.next(self.alloc, configuration)?;
-        Watch::over(self.alloc, rings, &self.me)
+        ObservedEdges::over(self.alloc, rings, &self.me)
     }
 
     /// Of a process in the configuration of these rings.
-    fn over(alloc: Global, rings: Rings, me: &Process) -> Result<Watch, AllocError>
+    fn over(alloc: Global, rings: Rings, me: &Process) -> Result<ObservedEdges, AllocError>
         ensures { IfOk result (λ w. w.edges.items ≡ subjects_of rings me.now) }
     {
         let edges = rings.subjects_of(alloc, me)?;
         let (board, seats) = board_of(alloc, edges.len())?;
-        Ok(Watch {
+        Ok(ObservedEdges {
             alloc,
             rings,
             me: *me,
@@ -89,7 +89,7 @@ impl Watch {
 
     /// The parts of the probes, as many as are asked for, each with the seats of its rings: once, at
     /// least one.
-    pub fn take_parts(&mut self, parts: u8) -> Result<Option<Vec<Part>>, NodeFault> {
+    pub fn take_parts(&mut self, parts: u8) -> Result<Option<Vec<Part>>, RunningFault> {
         if self.parted || parts == 0 {
             return Ok(None);
         }
@@ -102,7 +102,7 @@ impl Watch {
     }
 
     /// A part of the probes: its book, and the seats of its edges in the book's order.
-    fn part(&mut self, part: u8, parts: u8) -> Result<Part, NodeFault>
+    fn part(&mut self, part: u8, parts: u8) -> Result<Part, RunningFault>
         requires { 0 < parts }
     {
         let book = ProbeBook::part(self.alloc, &self.rings, &self.me, part, parts)?;
@@ -110,7 +110,7 @@ impl Watch {
         match Part::new(self.rings.id(), book, seats) {
             Some(part) => Ok(part),
             // A board has a seat for each edge, and both are dealt by ring: this does not happen.
-            None => Err(NodeFault::Halted),
+            None => Err(RunningFault::Halted),
         }
     }
 
