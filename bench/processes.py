@@ -1,12 +1,14 @@
 #!/usr/bin/env python3
-"""Runs nodes as processes on loopback, kills some of them with SIGKILL, and prints times.
+"""Runs nodes as processes on loopback, kills some of them with SIGKILL or has them leave, and prints
+times.
 
-  bench/processes.py [--nodes 30] [--kill 1] [--tick-ms 100] [--probers 1] [--settle 10] [--times 1] [--program FILE]
+  bench/processes.py [--nodes 30] [--kill 1 | --leave COUNT] [--tick-ms 100] [--probers 1] [--settle 10] [--times 1]
+                     [--program FILE]
 
-It prints how long the nodes took to come to one view, how long the survivors took from the kill to
-one view of exactly those that were not killed, how many views they entered on the way, and what a
-node used meanwhile: processor time, memory, threads, and bytes sent where the command ss tells them
-(nothing of that with --settle 0). With --times it does all of it again and again, and prints last
+It prints how long the nodes took to come to one view, how long the others took from the kill, or all
+from the wish to leave, to one view without those that go, how many views they entered on the way, and
+what a node used meanwhile: processor time, memory, threads, and bytes sent where the command ss tells
+them (nothing of that with --settle 0). With --times it does all of it again and again, and prints last
 how often that went well. It is no part of the gate. The nodes end with it."""
 import argparse
 import os
@@ -94,8 +96,9 @@ def used(label, nodes, seconds):
         print(f"  bytes sent a node   {rate:.0f} a second")
 
 
-def measure(nodes, kill, settle):
-    """Forms the cluster, kills this many, and prints the times; how long the last survivor took, if all went well."""
+def measure(nodes, kill, leave, settle):
+    """Forms the cluster, has this many leave or else kills as many, and prints the times; how long the last
+    one took to its new view, if all went well."""
     names = [f"127.0.0.1:{it.port}" for it in nodes]
     took = wait_for(nodes, frozenset(names), 120)
     if took is None:
@@ -104,30 +107,36 @@ def measure(nodes, kill, settle):
     count = len(nodes[0].views())
     print(f"{len(nodes)} nodes came to one view in {took:.2f} s; the founder entered {count} views")
     used("all nodes", nodes, settle)
-    if kill == 0:
+    going = leave or kill
+    if going == 0:
         return 0
-    gone, stay = nodes[-kill:], nodes[:-kill]
+    gone, stay = nodes[-going:], nodes[:-going]
     before = [len(it.views()) for it in stay]
     for node in gone:
-        node.ran.kill()
-    took = wait_for(stay, frozenset(names[:-kill]), 300)
+        if leave:
+            node.ran.stdin.write(b"leave\n")
+            node.ran.stdin.flush()
+        else:
+            node.ran.kill()
+    # who leaves prints the view without itself too
+    took = wait_for(nodes if leave else stay, frozenset(names[:-going]), 300)
     if took is None:
-        print("the survivors have not come to one view")
+        print("the others have not come to one view")
         return None
     views = [len(it.views()) - count for it, count in zip(stay, before)]
-    print(f"{kill} were killed; the last survivor's new view came after {took:.2f} s")
+    print(f"{going} {'left' if leave else 'were killed'}; the last new view came after {took:.2f} s")
     print(f"views on the way: {max(views)}")
-    used("survivors", stay, settle)
+    used("those that stay", stay, settle)
     return took
 
 
 def attempt(given):
-    """Runs nodes once; how long the last survivor took, if all went well."""
+    """Runs nodes once; how long the last one took, if all went well."""
     first, nodes = given.first_port, []
     try:
         for number in range(given.nodes):
             nodes.append(Node(given.program, first + number, first, given))
-        return measure(nodes, given.kill, given.settle)
+        return measure(nodes, given.kill, given.leave, given.settle)
     finally:
         for node in nodes:
             node.ran.kill()
@@ -138,6 +147,7 @@ def main():
     parser = argparse.ArgumentParser()
     parser.add_argument("--nodes", type=int, default=30)
     parser.add_argument("--kill", type=int, default=1)
+    parser.add_argument("--leave", type=int, default=0)
     parser.add_argument("--tick-ms", type=int, default=100)
     parser.add_argument("--probers", type=int, default=1)
     parser.add_argument("--settle", type=float, default=10)

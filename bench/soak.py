@@ -14,6 +14,7 @@ import itertools
 import os
 import resource
 import signal
+import statistics
 import sys
 import time
 import traceback
@@ -28,6 +29,7 @@ from soak_cluster import (BATCH, GREATEST, JOIN, PRE_JOIN, PREPARE, VOTE, Cluste
 TOP = Path(__file__).resolve().parent.parent
 FLOOD = 3_000  # frames of a flood of the mixed run
 HELD = 10  # seconds for which connections are held open, and output is left unread
+HALF = GREATEST.to_bytes(4, "big") + bytes([1, BATCH]) + bytes(30_000)  # of a frame
 
 
 class Mixed:
@@ -36,7 +38,7 @@ class Mixed:
     def __init__(self, cluster):
         self.it, self.random, self.given = cluster, cluster.random, cluster.given
         self.later, self.done, self.paused = [], collections.Counter(), {}
-        self.last = collections.deque(maxlen=8)
+        self.last, self.leaving, self.left = collections.deque(maxlen=8), {}, []
 
     def after(self, seconds, action):
         self.later.append((time.monotonic() + seconds, action))
@@ -68,11 +70,39 @@ class Mixed:
         """`quit`; soon after another node joins."""
         node = self.member(losing=True)
         if node:
-            self.leave(node)
+            self.retire(node)
             self.after(self.random.uniform(0, 6), self.join)
         return node
 
-    def leave(self, node):
+    def leave(self):
+        """The line `leave`, again if a view comes that has it yet; `quit` once it is out, and another joins."""
+        node = self.member(losing=True)
+        if not node or node in self.leaving:
+            return None
+        self.wish(node)
+        return node
+
+    def wish(self, node):
+        """Tells a node to leave, and keeps since when it has been told so, and when and where last."""
+        now = time.monotonic()
+        self.it.leave(node)
+        self.leaving[node] = (self.leaving.get(node, (now,))[0], now, node.views[-1][0])
+
+    def tend_leaving(self):
+        """Tells those that are in yet once more, and notes how long the others took."""
+        now = time.monotonic()
+        for node, (first, last, height) in list(self.leaving.items()):
+            if node.may_end or node.is_out():
+                del self.leaving[node]
+                if node.is_out() and first:
+                    self.left.append(now - first)
+            elif node.stopped:  # how long it takes tells nothing then
+                self.leaving[node] = (None, now, height)
+            elif node.views[-1][0] > height or now - last > 60 * self.it.tick:
+                self.done["leave once more"] += 1
+                self.wish(node)
+
+    def retire(self, node):
         self.it.excuse(node, "quit")
         node.may_end = True
         node.type("quit\n")
@@ -159,7 +189,7 @@ class Mixed:
 
     def half(self):
         """32 connections that say half a frame."""
-        return self.hold(GREATEST.to_bytes(4, "big") + bytes([1, BATCH]) + bytes(30_000), 32)
+        return self.hold(HALF, 32)
 
     def hold(self, first, count):
         node = self.member()
@@ -194,10 +224,11 @@ class Mixed:
         self.later = [it for it in self.later if it not in due]
         for _, action in due:
             action()
+        self.tend_leaving()
         for node in self.it.running():
             waits = time.monotonic() - node.begun
             if node.is_out() and not node.stopped:
-                self.leave(node)
+                self.retire(node)
                 self.after(0, self.join)
             elif not node.views and node.seed and node.seed.may_end and waits > 100 * self.it.tick:
                 self.it.kill(node)
@@ -208,7 +239,9 @@ class Mixed:
         """This many minutes of it, between these numbers of nodes."""
         self.it.fake()  # the sink, which takes what is answered to floods
         founders = self.it.form(self.given.nodes)
-        before = [max(kinds) for kinds in zip(*(node.figures() for node in founders))]
+        before = [most(founders)]
+        self.warm_up(founders[0])
+        before.append(most(founders))
         names = [name for name in ACTIONS if name not in self.given.without]
         end, at = time.monotonic() + 60 * self.given.minutes, 0
         while time.monotonic() < end:
@@ -217,6 +250,18 @@ class Mixed:
             self.tend()
         self.calm()
         return before
+
+    def warm_up(self, node):
+        """Twice each flood, and half frames, to one node: it uses what they take once, and no more by their repeats."""
+        for _ in range(2):
+            for kind in (self.of_others, self.fresh_joiners, self.garbage):
+                self.send(node, kind(), kind.__name__)
+                self.it.rest(1)
+            self.it.hold(node, HALF, 32)
+            self.it.rest(7)  # they are closed after five seconds
+            self.release()
+        self.done.clear()
+        self.it.rest(10)
 
     def act(self, name):
         """Does something bad, if it can be done now; whether it was."""
@@ -235,7 +280,7 @@ class Mixed:
             action()
         self.settle()
         while len(self.it.running()) > self.given.nodes:
-            self.leave(self.random.choice(self.it.running()))
+            self.retire(self.random.choice(self.it.running()))
             self.settle()
         while len(self.it.running()) < self.given.nodes:
             self.join()
@@ -244,20 +289,23 @@ class Mixed:
 
     def settle(self):
         end = time.monotonic() + self.given.limit
-        while not self.it.agreed() or self.later:
+        while not self.it.agreed() or self.later or self.leaving:
             self.tend()
             if time.monotonic() > end:
                 lasts = {it.name: it.views[-1:] for it in self.it.running()}
                 raise Failed(f"no view of all live nodes in {self.given.limit} s: {lasts}")
 
     def figures(self, before):
-        """Prints what nodes use after all of it; no more than before it and a tenth."""
+        """Prints what nodes use after all of it; no more than a tenth above what one used that was warmed up."""
         rows = [(node, node.figures()) for node in self.it.running()]
         print(f"{'at rest':<20} {'memory, kB':>12} {'threads':>9} {'descriptors':>12}")
-        print(f"{'most before':<20} {before[0]:>12} {before[1]:>9} {before[2]:>12}")
+        labelled = [("most at first", before[0]), ("most, warmed up", before[1])]
+        for name, now in labelled + [(node.name, now) for node, now in rows]:
+            print(f"{name:<20} {now[0]:>12} {now[1]:>9} {now[2]:>12}")
         for node, now in rows:
-            print(f"{node.name:<20} {now[0]:>12} {now[1]:>9} {now[2]:>12}")
-        grown = [node.name for node, now in rows if any(b > 1.1 * a for a, b in zip(before, now))]
+            if now[1] > before[1][1] or now[2] > before[1][2]:
+                print(f"{node.name} has {node.connections()}")
+        grown = [node.name for node, now in rows if any(b > 1.1 * a for a, b in zip(before[1], now))]
         if grown:
             raise Failed(f"more than a tenth above what it was before: {', '.join(grown)}")
 
@@ -268,10 +316,18 @@ class Mixed:
               f"{self.given.tick_ms} ms, {len(it.nodes)} started; heights 0 to {max(it.views, default=0)}")
         print("done: " + ", ".join(f"{name} {count}" for name, count in sorted(self.done.items())))
         print("expelled: " + (", ".join(f"{n} {cause}" for cause, n in it.expelled.items()) or "nobody"))
+        if self.left:
+            print(f"left after {min(self.left):.2f} to {max(self.left):.2f} s, in the median "
+                  f"{statistics.median(self.left):.2f} s")
         print("last done: " + ", ".join(self.last))
 
 
-ACTIONS = ["join", "kill", "quit", "stop", "stop_long", "flood", "batches", "silent", "half", "cut", "unread"]
+ACTIONS = ["join", "kill", "quit", "leave", "stop", "stop_long", "flood", "batches", "silent", "half", "cut", "unread"]
+
+
+def most(nodes):
+    """The most memory, threads and descriptors of these."""
+    return [max(kinds) for kinds in zip(*(node.figures() for node in nodes))]
 
 
 def mixed(cluster):
@@ -311,6 +367,7 @@ def options():
     parser.add_argument("--without", default="")
     parser.add_argument("--limit", type=float, default=60)
     parser.add_argument("--load", type=int, default=os.cpu_count())
+    parser.add_argument("--autogroup", type=int)
     parser.add_argument("--first-port", type=int, default=19_000)
     parser.add_argument("--program", default=str(TOP / "crates/rapidd/out/rapidd"))
     parser.add_argument("--list", action="store_true")

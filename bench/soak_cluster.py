@@ -106,10 +106,12 @@ class Fake:
             stream.close()
 
 
-def prepare(limit):
+def prepare(limit, autogroup):
     """In a process that becomes a node: no signal is ignored, as `nohup` and `&` have it, and so many descriptors."""
     for number in (signal.SIGHUP, signal.SIGINT, signal.SIGTERM):
         signal.signal(number, signal.SIG_DFL)
+    if autogroup is not None:
+        Path("/proc/self/autogroup").write_text(str(autogroup))  # of its session alone, which has just begun
     if limit:
         resource.setrlimit(resource.RLIMIT_NOFILE, (limit, limit))
 
@@ -117,13 +119,13 @@ def prepare(limit):
 class Node:
     """A node that was started, and what it printed."""
 
-    def __init__(self, words, identifier, port, seed, tick_ms, limit):
+    def __init__(self, words, identifier, port, seed, tick_ms, prepared):
         words = words + ["node", "--listen", f"{HOST}:{port}", "--tick-ms", str(tick_ms)]
         words += ["--id", str(uuid.UUID(bytes=identifier))]
         words += [] if seed is None else ["--join", f"{HOST}:{seed.port}"]
         self.popen = subprocess.Popen(
             words, stdin=subprocess.PIPE, stdout=subprocess.PIPE, stderr=subprocess.PIPE,
-            start_new_session=True, bufsize=0, preexec_fn=lambda: prepare(limit))
+            start_new_session=True, bufsize=0, preexec_fn=prepared)
         for pipe in (self.popen.stdin, self.popen.stdout, self.popen.stderr):
             os.set_blocking(pipe.fileno(), False)
         self.port, self.seed, self.process = port, seed, process(identifier, port)
@@ -167,6 +169,15 @@ class Node:
         home = Path(f"/proc/{self.popen.pid}")
         memory = int((home / "statm").read_text().split()[1]) * PAGE // 1024
         return memory, len(os.listdir(home / "task")), len(os.listdir(home / "fd"))
+
+    def connections(self):
+        """Its connections, each as its own port, the port of the other end, and the state as Linux has it."""
+        inodes = set()
+        for entry in Path(f"/proc/{self.popen.pid}/fd").iterdir():
+            inodes.add(os.readlink(entry).removeprefix("socket:[").removesuffix("]"))
+        rows = [line.split() for line in Path("/proc/net/tcp").read_text().splitlines()[1:]]
+        ports = [[int(place.split(":")[1], 16) for place in row[1:3]] + [row[3]] for row in rows if row[9] in inodes]
+        return sorted((own, other, state) for own, other, state in ports if other)
 
     def connect(self):
         return socket.create_connection((HOST, self.port), timeout=5)
@@ -228,7 +239,8 @@ class Cluster:
         if port is None:
             port, self.port = self.port, self.port + 1
         tick_ms = self.given.tick_ms if tick_ms is None else tick_ms
-        node = Node([*words, self.given.program], identifier or self.draw(), port, seed, tick_ms, limit)
+        prepared = lambda: prepare(limit, self.given.autogroup)
+        node = Node([*words, self.given.program], identifier or self.draw(), port, seed, tick_ms, prepared)
         self.nodes.append(node)
         return node
 
@@ -293,7 +305,7 @@ class Cluster:
             if cause is None:
                 raise Failed(f"{name} was expelled without a cause at height {height}")
             self.expelled[cause] += 1
-            if cause in ("killed", "quit"):
+            if cause in ("killed", "quit", "left"):
                 del self.causes[name]
 
     def cause(self, name):
@@ -335,6 +347,12 @@ class Cluster:
             self.excuse(node, "killed")
             node.may_end = True
             node.popen.kill()
+
+    def leave(self, *nodes):
+        """Tells members to leave; they end once they are told to quit."""
+        for node in nodes:
+            self.excuse(node, "left")
+            node.type("leave\n")
 
     def answers(self, node):
         """It is there, and answers a line."""

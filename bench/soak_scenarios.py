@@ -263,6 +263,43 @@ def quit_hangs(it):
     return "; ".join(said)
 
 
+def go(it, nodes, *going):
+    """These leave at once: how long until all are at one view, and by how many views; they are told to quit."""
+    height = nodes[0].views[-1][0]
+    stay = {node.name for node in nodes} - {node.name for node in going}
+    it.leave(*going)
+    gone = lambda: all(set(node.views[-1][1]) == stay for node in nodes)
+    took = it.until(gone, 20, f"more than {stay} are members yet")
+    if took > 3:
+        raise Failed(f"{len(going)} left after {took:.2f} s, as late as after a crash")
+    for node in going:
+        node.type("leave\n")
+        it.answers(node)
+        it.until(lambda: node.errors, 5, f"{node.name} has not said that it was removed")
+        node.may_end = True
+        node.type("quit\n")
+        it.until(lambda: node.gone, 5, f"{node.name} has not quit")
+        if node.errors.count(b"note: this node was removed") != 1 or node.popen.returncode != 0:
+            raise Failed(f"{node.name} ended with status {node.popen.returncode} and said {node.errors}")
+    return f"{len(going)} of {len(nodes)} after {took:.2f} s by {nodes[0].views[-1][0] - height}"
+
+
+def leaves(it):
+    """Members leave: one, three at once, all but one by turns; alone, without a view and out it does nothing."""
+    nodes = it.form(9)
+    said = [go(it, nodes, nodes[8]), go(it, nodes[:8], *nodes[5:8])]
+    said += [go(it, nodes[:count], nodes[count - 1]) for count in range(5, 1, -1)]
+    stranger = it.start(SimpleNamespace(port=it.port + 1))
+    for node in (nodes[0], stranger):
+        node.type("leave\nleave\n")
+        it.answers(node)
+    it.rest(10 * it.tick)
+    if len(nodes[0].views[-1][1]) != 1 or stranger.views or nodes[0].errors:
+        raise Failed(f"alone it printed {nodes[0].views[-1]} and {nodes[0].errors}, the stranger {stranger.views}")
+    stranger.may_end = True
+    return f"{', '.join(said)} views; {keeps(it, nodes[:1], nodes[0].views[-1][0])}"
+
+
 def joiners_in_vain(it):
     """Joiners ask nobody, themselves, a removed member, a stopped one, and by a used identifier; they say so."""
     nodes = it.form(5)
@@ -301,15 +338,22 @@ def without_ticks(it):
 
 
 def one_without_ticks(it):
-    """Of five, one has no ticks but those typed until it is a member; another is killed: no view comes in 10 s."""
+    """Of five, one has no ticks but those typed until it is a member; whom it observes most is killed: no view."""
     nodes = it.form(4, tick_ms=20)
     fifth = it.start(nodes[0], tick_ms=0)
     it.until(lambda: fifth.views or not fifth.type("tick 1\n"), 30, "it is no member")
     it.agree(10)
-    height = nodes[0].views[-1][0]
-    it.kill(nodes[3])
+    height, members = nodes[0].views[-1][0], [node.process for node in nodes + [fifth]]
+
+    def missing(node):
+        """On how many rings nobody reports it."""
+        return sum(observer_of(members, ring, node.process) == fifth.process for ring in range(RINGS))
+
+    target = max(nodes, key=missing)
+    it.kill(target)
     it.rest(10)
-    return f"none came; {keeps(it, nodes[:3] + [fifth], height)}"
+    left = [node for node in nodes + [fifth] if node is not target]
+    return f"none came, {missing(target)} rings of {RINGS} without reports; {keeps(it, left, height)}"
 
 
 def two_members(it):
@@ -427,30 +471,40 @@ def is_free(port):
         return False
 
 
+def traced(calls, what):
+    """The words by which strace, if it is there, writes these calls of a node to a file, as a child of it."""
+    if not shutil.which("strace"):
+        return ()
+    return ("strace", "-D", "-f", "-qq", "-e", f"trace={what}", "-o", str(calls))
+
+
 def self_connect(it):
     """Joiners at a port where nothing listens ask, so that a node connects there ever again: the port stays free."""
-    node, met = it.form(1)[0], 0
     with socket.create_server((HOST, 0)) as free:
         port = free.getsockname()[1] & ~1
-    for count in range(0, ANSWERS, 100):
-        # few at a time: what nobody reads soon fills such a connection, and it is closed again
-        node.send([b"".join(frame(PRE_JOIN, process(it.draw(), port)) for _ in range(100))])
-        it.rest(0.02)
-        if is_taken(port):
-            met += 1
-            it.rest(0.1)
-            if not is_free(port):
+    with tempfile.TemporaryDirectory() as room:
+        calls = Path(room) / "names"
+        words = traced(calls, "getsockname")  # asked of each connection that was made, so of those to itself alone
+        node = it.form(1, words=words)[0]
+        for count in range(0, ANSWERS, 100):
+            # few at a time: what nobody reads soon fills such a connection, and it is closed again
+            node.send([b"".join(frame(PRE_JOIN, process(it.draw(), port)) for _ in range(100))])
+            it.rest(0.02)
+            if is_taken(port) and not (it.rest(0.1) or is_free(port)):
                 raise Failed(f"after {count} answers port {port} was connected to itself, and none can listen there")
-    return f"{ANSWERS} answers to port {port}, {met} times seen connected to itself; {keeps(it, [node], 0)}"
+        told = calls.read_text() if words else ""
+    if not is_free(port):
+        raise Failed(f"after {ANSWERS} answers none can listen at port {port}")
+    met = f"{told.count(f'htons({port})')} times connected to itself, by strace" if words else "none knows how often"
+    return f"{ANSWERS} answers to port {port}, {met}; {keeps(it, [node], 0)}"
 
 
 def foreign_sender(it):
     """Joiners ask by endpoints that are not 127.x.x.x with a port from 1: none is dialled, and none is let in."""
-    fake, words = it.fake(), ()
+    fake = it.fake()
     with tempfile.TemporaryDirectory() as room:
         calls = Path(room) / "connects"
-        if shutil.which("strace"):
-            words = ("strace", "-f", "-qq", "-e", "trace=connect", "-o", str(calls))
+        words = traced(calls, "connect")
         node = it.form(1, words=words)[0]
         # Linux takes 0.0.0.0 for the host itself, and answers at once that 224.0.0.1, a group, can't
         # be had: no packet leaves the machine, whatever the node does.
@@ -468,6 +522,6 @@ def foreign_sender(it):
 
 
 ALL = [pair_without_quorum, flapping_edge, used_identifier, prejoin_flood, batch_flood, silent_256, half_frame,
-       sixty_five_destinations, restart_same_endpoint, stopped_process_goes_on, stopped_majority,
+       sixty_five_destinations, restart_same_endpoint, leaves, stopped_process_goes_on, stopped_majority,
        stopped_stdout, tick10_nine_nodes, quit_hangs, joiners_in_vain, without_ticks, one_without_ticks, two_members,
        signals, supervised, fault_ends_process, self_connect, foreign_sender]

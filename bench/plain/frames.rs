@@ -41,6 +41,7 @@ pub enum Body {
     Confirm(Arc<Configuration>),
     Probe(ConfigId),
     ProbeAck(ConfigId),
+    Leave(ConfigId, u8),
 }
 
 pub struct Message {
@@ -100,6 +101,7 @@ fn kind_of(body: &Body) -> u8 {
         Body::Confirm(_) => 11,
         Body::Probe(_) => 12,
         Body::ProbeAck(_) => 13,
+        Body::Leave(..) => 14,
     }
 }
 
@@ -140,7 +142,7 @@ pub fn encode(message: &Message) -> Vec<u8> {
             out.extend_from_slice(joiner);
             put_answer(&mut out, answer);
         }
-        Body::JoinRequest(id, ring) => {
+        Body::JoinRequest(id, ring) | Body::Leave(id, ring) => {
             out.extend_from_slice(id);
             out.push(*ring);
         }
@@ -251,7 +253,8 @@ impl Reader<'_> {
             10 => Body::JoinRequest(self.array()?, self.byte()?),
             11 => Body::Confirm(Arc::new(from_bytes(std::mem::take(&mut self.0))?)),
             12 => Body::Probe(self.array()?),
-            _ => Body::ProbeAck(self.array()?),
+            13 => Body::ProbeAck(self.array()?),
+            _ => Body::Leave(self.array()?, self.byte()?),
         })
     }
 }
@@ -271,7 +274,7 @@ fn decode(frame: &[u8]) -> Result<Message, Fault> {
     if *version != 1 {
         return Err(Fault::BadVersion);
     }
-    if !(1..=13).contains(kind) {
+    if !(1..=14).contains(kind) {
         return Err(Fault::BadKind);
     }
     let mut reader = Reader(rest);

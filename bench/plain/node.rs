@@ -18,6 +18,7 @@ pub enum Event<'a> {
     EdgeDown(ConfigId, u8, Process),
     Tick,
     Receive(&'a Message),
+    Leave,
 }
 
 pub enum Destination {
@@ -188,6 +189,12 @@ impl Member {
             Body::Accept(_, ballot, cut) if is_of(ballot) => self.take_accept(out, *ballot, cut),
             Body::Accepted(_, ballot, cut) => self.take_accepted(position?, *ballot, cut),
             Body::Decision(_, cut) => Some(cut.clone()),
+            Body::Leave(_, ring) => {
+                let kind = Kind::Remove;
+                let (observer, config) = (self.me, self.id());
+                self.raise(Alert { observer, subject: *from, ring: *ring, kind, config });
+                None
+            }
             _ => None,
         }
     }
@@ -334,7 +341,8 @@ fn about(body: &Body) -> Option<ConfigId> {
         | Body::Promise(id, ..)
         | Body::Accept(id, ..)
         | Body::Accepted(id, ..)
-        | Body::Probe(id) => Some(*id),
+        | Body::Probe(id)
+        | Body::Leave(id, _) => Some(*id),
         _ => None,
     }
 }
@@ -480,6 +488,17 @@ impl Node {
         }
     }
 
+    /// A member asks those that observe it to have it removed.
+    fn leave(&self, out: &mut Outputs) {
+        if let Phase::Member(member) = &self.phase {
+            for ring in 0..member.view.k() {
+                if let Some(observer) = member.view.observer(ring, &self.me) {
+                    member.say(out, &observer, Body::Leave(member.id(), ring));
+                }
+            }
+        }
+    }
+
     /// Takes an event, by views that nodes share, and gives out what it sends.
     pub fn step(&mut self, views: &mut Views, event: &Event) -> Outputs {
         let mut out = Vec::new();
@@ -490,6 +509,10 @@ impl Node {
             }
             Event::Tick => self.on_tick(&mut out),
             Event::Receive(message) => self.receive(views, &mut out, message),
+            Event::Leave => {
+                self.leave(&mut out);
+                None
+            }
         };
         if let Some(cut) = decided {
             self.install(views, &mut out, cut);

@@ -95,6 +95,7 @@ fn command(mut words: Words) -> Option<Command> {
         b"drop" => Command::Drop(packet(&mut words)?),
         b"flow" => Command::Flow,
         b"crash" => Command::Events(WorldEvent::Crash(id(named(&mut words)?)), 1),
+        b"leave" => Command::Events(WorldEvent::Leave(id(named(&mut words)?)), 1),
         b"packets" => Command::Packets,
         _ => return None,
     };

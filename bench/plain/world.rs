@@ -19,6 +19,7 @@ pub enum WorldEvent {
     Tick(ProcessId),
     Deliver(u64),
     Crash(ProcessId),
+    Leave(ProcessId),
 }
 
 #[derive(Clone, Copy, Debug)]
@@ -207,6 +208,10 @@ impl World {
             }
             WorldEvent::Deliver(number) => self.deliver(*number)?,
             WorldEvent::Crash(id) => self.crash(id).map(|()| None)?,
+            WorldEvent::Leave(id) => {
+                let place = self.running_under(id)?;
+                self.hand(place, Event::Leave)
+            }
         };
         self.accepted += 1;
         Ok(installed)
