@@ -72,8 +72,8 @@ cluster_text n s =
     ++ agree_line (is_split (all_installed (world_of s) n))
 
 -- The text is what is printed of a cluster of the nodes 1 to n, at its end. Process 1 founded it with these parameters,
--- the others were started in order and asked process 1 to let them in, and then turns alone were taken, at most so many.
--- Its world is the run of the events of these. If no two different configurations that nodes installed share an
+-- and the others were started in order and asked process 1 to let them in. Then turns alone were taken, at most this
+-- many. Its world is the run of the events of these. If no two different configurations that nodes installed share an
 -- identifier, all that holds of runs holds of it.
 pub record IsReport (params : Params) (n most : ℕ) (text : Text) : Type 0 where
   pub end : ClusterState

@@ -88,8 +88,8 @@ impl Prober {
         Ok(true)
     }
 
-    /// Whether a round is made, at once or when it is begun again, after which so many probes went out
-    /// and edges went down, and as many edges are down.
+    /// Whether a round is made, at once or when it is begun again. After it these many probes went
+    /// out and edges went down, and as many edges are down.
     fn rounds_to(&mut self, alloc: Global, probes: u32, downs: u32) -> bool {
         let before = self.told;
         let is_made = match self.try_round(alloc) {
