@@ -140,7 +140,7 @@ impl Peers {
         None
     }
 
-    /// Adds one. Want of memory changes nothing that is seen.
+    /// Adds one. If out of memory nothing that is seen changes.
     pub(crate) fn add(&mut self, peer: Peer) -> Result<(), AllocError>
         requires { IsNew self.old peer }
         ensures added { OnOk result (self.new ≡ self.old ++ peer ∷ []) }

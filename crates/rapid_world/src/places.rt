@@ -56,7 +56,7 @@ impl PlacesById {
         &self.ids
     }
 
-    /// Sets the place by an identifier. Want of memory leaves the places as they were.
+    /// Sets the place by an identifier. If out of memory the places stay as they were.
     pub(crate) fn insert(&mut self, id: ProcessId, place: usize) -> Result<(), AllocError>
         ensures ok { OnOk result (self.new ≡ finmap.insert self.old id place) }
         ensures unchanged { OnErr result (self.new ≡ self.old) }

@@ -198,13 +198,13 @@ impl World {
     ///
     /// # Errors
     ///
-    /// `EventsFull` where 1,000,000 events were accepted, which is tested first. At a start
-    /// `IdentifierUsed` where a node ever had the identifier, then `EndpointBusy` where one runs at
-    /// the endpoint. `NoSuchNode` where none runs under the identifier, or at the endpoint of the
-    /// packet; before the latter `NoSuchPacket` where none with the number was sent. `NotObserved`
-    /// where the node observes nobody on the ring. `OutOfMemory` if the event is not refused, but
-    /// the world itself has no memory for it, to read the frame of a packet or to write those that
-    /// its node sends. Each leaves the world as it was.
+    /// `EventsFull` if 1,000,000 events were accepted, which is tested first. At a start
+    /// `IdentifierUsed` if a node ever had the identifier, then `EndpointBusy` if one runs at the
+    /// endpoint. `NoSuchNode` if none runs under the identifier, or at the endpoint of the packet;
+    /// before the latter `NoSuchPacket` if none with the number was sent. `NotObserved` if the node
+    /// observes nobody on the ring. `OutOfMemory` if the event is not refused, but the world itself
+    /// has no memory for it, to read the frame of a packet or to write those that its node sends.
+    /// Each leaves the world as it was.
     pub fn step(&mut self, event: &WorldEvent) -> Result<Vec<Report>, WorldError>
         ensures stored { IfOk result (λ reports. StoresEvent self.old self.new (event_of event.now) (map report_of reports.items)) }
         ensures refused { IfErr result (Refuses (event_refusal self.old (event_of event.now))) }
