@@ -32,16 +32,17 @@ HEAD = """# What a reader has to believe
 
 Written by `docs/believed.py` from the sources; `docs/believed.py --check` says whether it still is what they say.
 
-A proof shows that the code meets its clauses. That the clauses say the right thing is for a reader to see. These are \
-all definitions of this repository that a clause of a public call reaches: the clause names them, or a definition does \
-that it names. What stands in `specs/` and not here is glue: it ties code to code, and a mistake in it makes a proof \
-fail and no promise false. The definitions of the toolchain's own libraries (lists, numbers, sets, SHA-256) come on top.
+This page is for those who want to know what the promises rest on. A proof shows that the code meets its clauses. \
+That the clauses say the right thing is for a reader to see. Here are all definitions of this repository that a clause \
+of a public call reaches. The clause names them, or a definition does that it names. What stands in `specs/` and not \
+here is glue. It ties code to code, and a mistake in it makes a proof fail and no promise false. The definitions of the \
+toolchain's own libraries (lists, numbers, sets, SHA-256) come on top.
 
-How a type's value is read off its fields (`ghost view`) is left out too: a caller knows a value by what calls answer \
+How a type's value is read off its fields (`ghost view`) is left out too. A caller knows a value by what calls answer \
 of it.
 
 The lines are those of the definitions, without comments and imports. Code above `rapid_model` has definitions of its \
-own for two reasons: to say of which of its values a definition speaks (an event, an error's number), and for \
+own for two reasons. Some say of which of its values a definition speaks (an event, an error's number). Others are \
 relations that speak of one type alone (what a seat has seen).
 """
 

@@ -30,15 +30,16 @@ NO_LIBRARIES = {
 
 HEAD = """# The public surface
 
-Written by `docs/surface.py` from the sources; `docs/surface.py --check` says whether it still is what they say. A page \
-a crate, lowest first. How to read one:
+Written by `docs/surface.py` from the sources; `docs/surface.py --check` says whether it still is what they say. It is \
+for those who look for a call: all public functions and refusals, a page a crate, lowest first. How to read one:
 
 - Behind each function stands how its docstring begins: its first sentences, up to some 40 words. What a call ensures \
 stands in its contract: [PROMISES.md](PROMISES.md) retells it.
 - *shows* is what its caller has to show, if anything (its clauses `requires`).
 - *errors* is what the docstring says of them.
 - A list of refusals (or replies) has for each the number that `code()` answers, and when it comes. Out of memory is \
-99, except in `rapid_node` and `rapid_desk` (2) and `rapid_world` (7). It is answered only if a growth was really refused.
+99, except in `rapid_node` and `rapid_desk` (2) and `rapid_world` (7). That it is answered only if a growth was really \
+refused is shown by tests.
 - A function named `tell` does nothing: what it ensures is for proofs.
 
 ## The crates
