@@ -1,10 +1,11 @@
 """Runs of nodes in which one has an allocation refused: a founder alone, or the founder or the joiner of a cluster of
 two, which the joiner leaves again, and of which the other one has ample memory. Each run has an address of its own, so
 that runs go side by side."""
+import os
 import subprocess
 import tempfile
 import time
-from contextlib import ExitStack
+from contextlib import ExitStack, suppress
 
 PORTS = 7461, 7462  # of the founder and of the joiner
 RINGS = ["--k", "3", "--h", "3", "--l", "1"]
@@ -13,6 +14,7 @@ LINES = b"tick 3\nleave\nview\nquit\n"  # of a founder alone, who has no observe
 LOOK = 0.005  # seconds between two looks at what a node printed
 AGAIN = 0.5  # seconds until the joiner is told once more to leave, since what it says may be lost
 PATIENCE = 20  # seconds for a node to print what it prints
+MOST = 10**6  # bytes that a node prints at most
 HOST = "127.0.0.1"  # what every run's address is called in what it printed
 BOTH = f"height 1 members {HOST}:{PORTS[0]} {HOST}:{PORTS[1]}\n".encode()
 FIRST = f"height 0 members {HOST}:{PORTS[0]}\n".encode()
@@ -36,57 +38,43 @@ def renamed(ran, host):
     return ran
 
 
-class Running:
+class Running(subprocess.Popen):
     """A node that runs; what it prints can be looked at."""
 
     def __init__(self, words, room, env):
-        self.words = words
-        self.printed, self.told = (tempfile.NamedTemporaryFile(dir=room) for _ in range(2))
-        self.process = subprocess.Popen(
-            words, bufsize=0, stdin=subprocess.PIPE, stdout=self.printed, stderr=self.told, cwd=room, env=env
-        )
+        self.printed, self.told = (tempfile.TemporaryFile(dir=room) for _ in range(2))
+        ends = {"stdin": subprocess.PIPE, "stdout": self.printed, "stderr": self.told}
+        super().__init__(words, bufsize=0, cwd=room, env=env, **ends)
 
-    def __enter__(self):
-        return self
-
-    def __exit__(self, *_):
-        if self.process.poll() is None:
-            self.process.kill()
-            self.process.wait()
-        self.printed.close()
-        self.told.close()
+    def __exit__(self, *given):
+        self.kill()
+        super().__exit__(*given)
 
     def wait_for(self, lines, seconds=PATIENCE):
         """Waits until it has printed this many lines, or has ended. Says whether it runs and has not printed them."""
         end = time.monotonic() + seconds
-        while (waits := self.process.poll() is None and self.lines() < lines) and time.monotonic() < end:
+        while (waits := self.poll() is None and self.text(self.printed).count(b"\n") < lines) and time.monotonic() < end:
             time.sleep(LOOK)
         return waits
 
-    def lines(self):
-        """How many lines it has printed."""
-        return self.text(self.printed).count(b"\n")
-
     def text(self, file):
-        with open(file.name, "rb") as it:
-            return it.read()
+        """What is in a file, which goes on being written behind that."""
+        return os.pread(file.fileno(), MOST, 0)
 
     def tell(self, line):
         """Gives it a line, if it has not ended."""
-        try:
-            self.process.stdin.write(line)
-        except BrokenPipeError:
-            pass
+        with suppress(BrokenPipeError):
+            self.stdin.write(line)
 
     def quit(self):
         """Gives it the line that ends it, and no more."""
         self.tell(b"quit\n")
-        self.process.stdin.close()
+        self.stdin.close()
 
     def ended(self, seconds):
         """The run, once it has ended."""
-        status = self.process.wait(seconds)
-        return subprocess.CompletedProcess(self.words, status, self.text(self.printed), self.text(self.told))
+        status = self.wait(seconds)
+        return subprocess.CompletedProcess(self.args, status, self.text(self.printed), self.text(self.told))
 
 
 class Alone:
