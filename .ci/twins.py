@@ -80,8 +80,8 @@ def is_named_elsewhere(crate, folder):
 
 def twin_of(crate, stem, pairs):
     """The twin by which a mutant of a crate can be tried, if it can."""
-    file = pairs[0][0]
-    if not file.startswith("src/") or any(it[0] != file for it in pairs):
+    file = pairs[0][0] if pairs else ""
+    if not file.startswith("src/") or not (crate / file).is_file() or any(it[0] != file for it in pairs):
         return None
     text = (crate / file).read_text()
     functions = functions_of(text.split("\n"))
