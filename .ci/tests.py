@@ -63,19 +63,19 @@ def try_examples(command):
 
 def run(words):
     """Runs the tests whose names have the word, or all and the examples; how many passed and failed."""
+
+    def task(key, call, *given):
+        def counted(jobs):
+            passed, failed, said = call(*given)
+            print(f"{said}check: {key}: {passed} passed, {failed} failed", flush=True)
+            return passed, failed
+
+        return [], counted
+
     # the last of crates.txt stand on most, and take longest
     crates = [it for it in reversed(tree.LINES) if it.endswith("_tests") and it not in tree.NATIVE]
-    tasks = {it: ([], lambda jobs, it=it: try_tests(it, words)) for it in crates}
+    tasks = {it: task(it, try_tests, it, words) for it in crates}
     for it in [] if words else ("detect", "sim"):
-        tasks[f"examples/{it}"] = [], lambda jobs, it=it: try_examples(it)
-    counts = {}
-
-    def counted(key, call):
-        def counting(jobs):
-            passed, failed, said = counts[key] = call(jobs)
-            print(f"{said}check: {key}: {passed} passed, {failed} failed", flush=True)
-
-        return counting
-
-    tree.in_lanes({key: (waits, counted(key, call)) for key, (waits, call) in tasks.items()}, {})
-    return sum(it[0] for it in counts.values()), sum(it[1] for it in counts.values())
+        tasks[f"examples/{it}"] = task(f"examples/{it}", try_examples, it)
+    given, _ = tree.in_lanes(tasks, {})
+    return tuple(map(sum, zip(*given.values())))
