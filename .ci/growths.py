@@ -191,8 +191,8 @@ def runs():
             ways = SIM_WAYS if command == "sim" else ()
             yield Task(f"{command}: {name}", [PROGRAM, command], given, judge_program, whole, ways=ways)
     yield Task("cluster: three nodes", [PROGRAM, *CLUSTER], b"", judge_cluster, CLUSTER_REPORT, RUNS, ways=CLUSTER_WAYS)
-    for name, node in nodes.runs(PROGRAM).items():
-        yield Task(f"node: {name}", node, b"", judge_program, node.whole, RUNS)
+    for name, (node, whole) in nodes.runs(PROGRAM).items():
+        yield Task(f"node: {name}", node, b"", judge_program, whole, RUNS)
 
 
 def growths():

@@ -45,13 +45,6 @@ def write_record(names):
     RECORD.write_text(head + "".join(f"{found[it]}\n" for it in sorted(found)))
 
 
-def restore(crate, name):
-    """Gives a crate's copy its own files again."""
-    for part in tree.SOURCES:
-        shutil.rmtree(crate / part, ignore_errors=True)
-        tree.copied(tree.TOP / "crates" / name / part, crate / part, shutil.copy)
-
-
 def try_twins(crate, made):
     """The mutants that the prover refuses as twins; none if it does not prove one of them, the
     control, with its body as it is."""
@@ -68,8 +61,13 @@ def try_twins(crate, made):
     return {stem for stem, (it, _) in made.items() if verdicts.get(it.name) in ("not proved", "no proof")}
 
 
-def try_alone(crate, pairs):
+def try_alone(crate, name, pairs):
     """Why a mutant is not refused; nothing if it is."""
+    for part in tree.SOURCES:
+        shutil.rmtree(crate / part, ignore_errors=True)
+        tree.copied(tree.TOP / "crates" / name / part, crate / part)
+    if not pairs:
+        return "it has no pair of texts"
     for file, old, new in pairs:
         text = (crate / file).read_text() if (crate / file).is_file() else ""
         if text.count(old) != 1:
@@ -87,19 +85,11 @@ def try_mutants(room, name):
     crate = prove.tree_over_libraries(room / f"{name}-mutants", name)
     shutil.rmtree(crate / "out/incremental", ignore_errors=True)
     tree.copied(prove.out_of(name) / "incremental", crate / "out/incremental", shutil.copy)
-    restore(crate, name)
-    left, made = {it.stem: twins.pairs_of(it) for it in mutants_of(name)}, {}
-    for stem, pairs in left.items():
-        readable = pairs and all((crate / it[0]).is_file() for it in pairs)
-        twin = readable and twins.twin_of(crate, stem, pairs)
-        made |= {stem: (twin, pairs)} if twin else {}
+    given = {it.stem: twins.pairs_of(it) for it in mutants_of(name)}
+    made = {stem: (twin, pairs) for stem, pairs in given.items() if (twin := twins.twin_of(crate, stem, pairs))}
     refused = try_twins(crate, made) if made else set()
-    left = {stem: pairs for stem, pairs in left.items() if stem not in refused}
-    bad = {}
-    for stem, pairs in left.items():
-        restore(crate, name)
-        why = try_alone(crate, pairs) if pairs else "it has no pair of texts"
-        bad |= {stem: why} if why else {}
+    whys = {stem: try_alone(crate, name, pairs) for stem, pairs in given.items() if stem not in refused}
+    bad = {stem: why for stem, why in whys.items() if why}
     shutil.rmtree(crate.parent.parent)
     said = "".join(f"check: mutant {name}/{stem}: NOT REFUSED: {why}\n" for stem, why in bad.items())
     print(f"{said}check: mutants of {name}: {len(mutants_of(name)) - len(bad)} refused, {len(bad)} not", flush=True)

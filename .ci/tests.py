@@ -7,13 +7,6 @@ from pathlib import Path
 import tree
 
 RESULT = re.compile(r"test result: \w+\. (\d+) passed; (\d+) failed;")
-SECONDS = {
-    "rapid_memory_tests": 200,
-    "rapid_run_tests": 140,
-    "rapid_node_tests": 120,
-    "rapid_world_tests": 100,
-    "rapid_parts_tests": 70,
-}
 MAIN = """//! One command of the program.
 #![tactic(auto)]
 
@@ -70,18 +63,19 @@ def try_examples(command):
 
 def run(words):
     """Runs the tests whose names have the word, or all and the examples; how many passed and failed."""
-    crates = [it for it in tree.LINES if it.endswith("_tests") and it not in tree.NATIVE]
-    tasks = {it: ([], lambda jobs, it=it: try_tests(it, words)) for it in crates}
-    for it in [] if words else ("detect", "sim"):
-        tasks[f"examples/{it}"] = [], lambda jobs, it=it: try_examples(it)
-    counts = {}
 
-    def counted(key, call):
-        def counting(jobs):
-            passed, failed, said = counts[key] = call(jobs)
+    def task(key, call, *given):
+        def counted(jobs):
+            passed, failed, said = call(*given)
             print(f"{said}check: {key}: {passed} passed, {failed} failed", flush=True)
+            return passed, failed
 
-        return counting
+        return [], counted
 
-    tree.in_lanes({key: (waits, counted(key, call)) for key, (waits, call) in tasks.items()}, SECONDS)
-    return sum(it[0] for it in counts.values()), sum(it[1] for it in counts.values())
+    # the last of crates.txt stand on most, and take longest
+    crates = [it for it in reversed(tree.LINES) if it.endswith("_tests") and it not in tree.NATIVE]
+    tasks = {it: task(it, try_tests, it, words) for it in crates}
+    for it in [] if words else ("detect", "sim"):
+        tasks[f"examples/{it}"] = task(f"examples/{it}", try_examples, it)
+    given, _ = tree.in_lanes(tasks, {})
+    return tuple(map(sum, zip(*given.values())))

@@ -56,8 +56,11 @@ def last_line(text):
 
 
 def copied(source, target, copy=os.link):
+    """Copies a folder or a file, if it is there."""
     if source.is_dir():
         shutil.copytree(source, target, copy_function=copy)
+    elif source.is_file():
+        copy(source, target)
 
 
 def write_tree(tree, names, parts=SOURCES, copy=os.link):

@@ -6,6 +6,7 @@ alone. A mutant has no twin if it changes more than one body, if the function is
 for or stands in a cycle of calls, or if another proof names what the function's goals are made of."""
 import re
 from collections import namedtuple
+from itertools import takewhile
 
 HEAD = re.compile(r"^( *)(?:pub(?:\(\w+\))? )?(?:const )?fn (\w+)")
 BLOCK = re.compile(r"^(?:pub(?:\(\w+\))? )?(impl|trait)\b(.*)")
@@ -36,22 +37,18 @@ def pairs_of(mutant):
 
 def functions_of(lines):
     """The functions of a source file that have a body, in order."""
-    found, block, at = [], "", 0
-    while at < len(lines):
-        line, head = lines[at], HEAD.match(lines[at])
-        block = line if BLOCK.match(line) else "" if line == "}" else block
-        if head:
-            ends = (number for number in range(at, len(lines)) if lines[number] == f"{head[1]}}}")
-            last = next(ends, at)
-            opens = {f"{head[1]}{{"} if f"{head[1]}{{" in lines[at:last] else {line}
-            body = next((number for number in range(at, last) if lines[number] in opens), last)
-            first = at
-            while first and ABOVE.match(lines[first - 1]):
-                first -= 1
-            if body < last:
-                found.append(Function(first, at, body, last, head[2], block))
-                at = last
-        at += 1
+    found, block, past = [], "", 0
+    for at, line in enumerate(lines):
+        if at < past:
+            continue
+        block, head = line if BLOCK.match(line) else "" if line == "}" else block, HEAD.match(line)
+        last = next((it for it in range(at, len(lines)) if lines[it] == f"{head[1]}}}"), at) if head else at
+        if last > at:
+            opens, part = f"{head[1]}{{", lines[at:last]
+            body = at + (part.index(opens) if opens in part else 0)
+            first = at - len([*takewhile(ABOVE.match, reversed(lines[:at]))])
+            found.append(Function(first, at, body, last, head[2], block))
+            past = last + 1
     return found
 
 
@@ -83,8 +80,8 @@ def is_named_elsewhere(crate, folder):
 
 def twin_of(crate, stem, pairs):
     """The twin by which a mutant of a crate can be tried, if it can."""
-    file = pairs[0][0]
-    if not file.startswith("src/") or any(it[0] != file for it in pairs):
+    file = pairs[0][0] if pairs else ""
+    if not file.startswith("src/") or not (crate / file).is_file() or any(it[0] != file for it in pairs):
         return None
     text = (crate / file).read_text()
     functions = functions_of(text.split("\n"))
