@@ -154,6 +154,28 @@ def restart_same_endpoint(it):
     return f"a member again after {took:.1f} s, at height {again.views[-1][0]}"
 
 
+def old_identifier(it):
+    """A killed member is started again with its old identifier: at its endpoint it seems to be that member, at another
+    one it is told that a member has its identifier, until that is out."""
+    nodes = it.form(5)
+    height, killed = nodes[0].views[-1][0], nodes[3]
+    used = killed.process[:16]
+    it.kill(killed)
+    killed.popen.wait()
+    again = it.start(nodes[0], port=killed.port, identifier=used)
+    took = it.until(again.is_in, 10, "it has no view")
+    it.rest(80 * it.tick)
+    keeps(it, nodes[:3] + [nodes[4], again], height)
+    if again.errors:
+        raise Failed(f"at its old endpoint it said {again.errors}")
+    it.kill(again)
+    other = it.start(nodes[0], identifier=used)
+    answer = b"last answer: a member has its identifier or its endpoint\n"
+    it.until(lambda: answer in other.errors, 10, f"elsewhere no note: {answer}; but {other.errors}")
+    it.agree(30)
+    return f"the present view after {took:.2f} s, and a member; elsewhere a note, and let in when the old one was out"
+
+
 def stopped_process_goes_on(it):
     """A member is stopped for 12 ticks, which expels nobody, then for 80, and goes on: it says that it is out."""
     nodes = it.form(5)
@@ -338,7 +360,7 @@ def without_ticks(it):
 
 
 def one_without_ticks(it):
-    """Of five, one has no ticks but those typed until it is a member; whom it observes most is killed: no view."""
+    """Of five, one has no ticks but those typed until it is in; whom it observes most is killed: no view till it leaves."""
     nodes = it.form(4, tick_ms=20)
     fifth = it.start(nodes[0], tick_ms=0)
     it.until(lambda: fifth.views or not fifth.type("tick 1\n"), 30, "it is no member")
@@ -353,7 +375,14 @@ def one_without_ticks(it):
     it.kill(target)
     it.rest(10)
     left = [node for node in nodes + [fifth] if node is not target]
-    return f"none came, {missing(target)} rings of {RINGS} without reports; {keeps(it, left, height)}"
+    kept = keeps(it, left, height)
+    it.leave(fifth)
+    gone = lambda: all(fifth.name not in node.views[-1][1] and target.name not in node.views[-1][1] for node in left)
+    took = it.until(gone, 10, "it was told to leave, and the killed one and it are members yet")
+    fifth.may_end = True
+    views = nodes[0].views[-1][0] - height if nodes[0] is not target else nodes[1].views[-1][0] - height
+    return f"none came, {missing(target)} rings of {RINGS} without reports; told to leave, both were out after " \
+           f"{took:.2f} s by {views}; {kept}"
 
 
 def two_members(it):
@@ -522,6 +551,6 @@ def foreign_sender(it):
 
 
 ALL = [pair_without_quorum, flapping_edge, used_identifier, prejoin_flood, batch_flood, silent_256, half_frame,
-       sixty_five_destinations, restart_same_endpoint, leaves, stopped_process_goes_on, stopped_majority,
+       sixty_five_destinations, restart_same_endpoint, old_identifier, leaves, stopped_process_goes_on, stopped_majority,
        stopped_stdout, tick10_nine_nodes, quit_hangs, joiners_in_vain, without_ticks, one_without_ticks, two_members,
        signals, supervised, fault_ends_process, self_connect, foreign_sender]
