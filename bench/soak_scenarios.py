@@ -360,7 +360,8 @@ def without_ticks(it):
 
 
 def one_without_ticks(it):
-    """Of five, one has no ticks but those typed until it is in; whom it observes most is killed: no view till it leaves."""
+    """Of five, one has no ticks but those typed until it is in; whom it observes most is killed: no view until it is
+    told to leave."""
     nodes = it.form(4, tick_ms=20)
     fifth = it.start(nodes[0], tick_ms=0)
     it.until(lambda: fifth.views or not fifth.type("tick 1\n"), 30, "it is no member")
@@ -551,6 +552,6 @@ def foreign_sender(it):
 
 
 ALL = [pair_without_quorum, flapping_edge, used_identifier, prejoin_flood, batch_flood, silent_256, half_frame,
-       sixty_five_destinations, restart_same_endpoint, old_identifier, leaves, stopped_process_goes_on, stopped_majority,
-       stopped_stdout, tick10_nine_nodes, quit_hangs, joiners_in_vain, without_ticks, one_without_ticks, two_members,
-       signals, supervised, fault_ends_process, self_connect, foreign_sender]
+       sixty_five_destinations, restart_same_endpoint, old_identifier, leaves, stopped_process_goes_on,
+       stopped_majority, stopped_stdout, tick10_nine_nodes, quit_hangs, joiners_in_vain, without_ticks,
+       one_without_ticks, two_members, signals, supervised, fault_ends_process, self_connect, foreign_sender]
