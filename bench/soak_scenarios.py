@@ -516,9 +516,12 @@ def self_connect(it):
         calls = Path(room) / "names"
         words = traced(calls, "getsockname")  # asked of each connection that was made, so of those to itself alone
         node = it.form(1, words=words)[0]
+        # one connection for all: by chance another would have this port, and keep it for a minute after its end
+        asking = it.hold(node, frame(PRE_JOIN, process(it.draw(), port)), 1)[0]
+        asking.settimeout(10)
         for count in range(0, ANSWERS, 100):
             # few at a time: what nobody reads soon fills such a connection, and it is closed again
-            node.send([b"".join(frame(PRE_JOIN, process(it.draw(), port)) for _ in range(100))])
+            asking.sendall(b"".join(frame(PRE_JOIN, process(it.draw(), port)) for _ in range(100)))
             it.rest(0.02)
             if is_taken(port) and not (it.rest(0.1) or is_free(port)):
                 raise Failed(f"after {count} answers port {port} was connected to itself, and none can listen there")
