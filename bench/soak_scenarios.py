@@ -155,8 +155,7 @@ def restart_same_endpoint(it):
 
 
 def old_identifier(it):
-    """A killed member is started again with its old identifier: at its endpoint it seems to be that member, at another
-    one it is told that a member has its identifier, until that is out."""
+    """A killed member is started again with its identifier: at its endpoint it seems that member, elsewhere it waits."""
     nodes = it.form(5)
     height, killed = nodes[0].views[-1][0], nodes[3]
     used = killed.process[:16]
@@ -360,8 +359,7 @@ def without_ticks(it):
 
 
 def one_without_ticks(it):
-    """Of five, one has no ticks but those typed until it is in; whom it observes most is killed: no view until it is
-    told to leave."""
+    """Of five, one has no ticks but those typed until it is in; whom it observes most is killed: no view; it leaves."""
     nodes = it.form(4, tick_ms=20)
     fifth = it.start(nodes[0], tick_ms=0)
     it.until(lambda: fifth.views or not fifth.type("tick 1\n"), 30, "it is no member")
