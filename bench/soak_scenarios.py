@@ -155,7 +155,7 @@ def restart_same_endpoint(it):
 
 
 def old_identifier(it):
-    """A killed member is started again with its identifier: at its endpoint it seems that member, elsewhere it waits."""
+    """A killed member is started again with its identifier: at its endpoint it seems the same, elsewhere it waits."""
     nodes = it.form(5)
     height, killed = nodes[0].views[-1][0], nodes[3]
     used = killed.process[:16]
