@@ -117,6 +117,22 @@ def silent_256(it):
     return f"{cut} connections of peers cut; {keeps(it, nodes, height)}"
 
 
+def idle_256(it):
+    """Connections that have sent a frame take all places of a member: its peers go on, a joiner waits till they end."""
+    nodes = it.form(3)
+    height, fake = nodes[1].views[-1][0], it.fake()
+    held = it.hold(nodes[1], frame(PRE_JOIN, process(it.draw(), fake.port)), 256)
+    it.until(lambda: sum(is_closed(stream) for stream in held) >= 2, 5, "its peers have no place")
+    joiner = it.start(nodes[1])
+    it.until(lambda: b"last answer: none" in joiner.errors, 10, f"no note; but {joiner.errors}")
+    it.rest(6)
+    kept = keeps(it, nodes, height)
+    for stream in held:
+        stream.close()
+    took = it.until(lambda: joiner.is_in() and it.agreed(), 10, "the joiner is not let in")
+    return f"a joiner was let in {took:.2f} s after they were closed; {kept}"
+
+
 def half_frame(it):
     """100 connections say the first half of the longest frame, and no more."""
     nodes = it.form(3)
@@ -552,7 +568,7 @@ def foreign_sender(it):
     return f"none was dialled{', by strace too' if words else ''}; {keeps(it, [node], 0)}"
 
 
-ALL = [pair_without_quorum, flapping_edge, used_identifier, prejoin_flood, batch_flood, silent_256, half_frame,
-       sixty_five_destinations, restart_same_endpoint, old_identifier, leaves, stopped_process_goes_on,
+ALL = [pair_without_quorum, flapping_edge, used_identifier, prejoin_flood, batch_flood, silent_256, idle_256,
+       half_frame, sixty_five_destinations, restart_same_endpoint, old_identifier, leaves, stopped_process_goes_on,
        stopped_majority, stopped_stdout, tick10_nine_nodes, quit_hangs, joiners_in_vain, without_ticks,
        one_without_ticks, two_members, signals, supervised, fault_ends_process, self_connect, foreign_sender]
