@@ -117,6 +117,22 @@ def silent_256(it):
     return f"{cut} connections of peers cut; {keeps(it, nodes, height)}"
 
 
+def idle_256(it):
+    """Connections that have sent a frame take all places of a member: its peers go on, a joiner waits till they end."""
+    nodes = it.form(3)
+    height, fake = nodes[1].views[-1][0], it.fake()
+    held = it.hold(nodes[1], frame(PRE_JOIN, process(it.draw(), fake.port)), 256)
+    it.until(lambda: sum(is_closed(stream) for stream in held) >= 2, 5, "its peers have no place")
+    joiner = it.start(nodes[1])
+    it.until(lambda: b"last answer: none" in joiner.errors, 10, f"no note; but {joiner.errors}")
+    it.rest(6)
+    kept = keeps(it, nodes, height)
+    for stream in held:
+        stream.close()
+    took = it.until(lambda: joiner.is_in() and it.agreed(), 10, "the joiner is not let in")
+    return f"a joiner was let in {took:.2f} s after they were closed; {kept}"
+
+
 def half_frame(it):
     """100 connections say the first half of the longest frame, and no more."""
     nodes = it.form(3)
@@ -152,6 +168,27 @@ def restart_same_endpoint(it):
     again = it.start(nodes[0], port=nodes[3].port)
     took = it.until(lambda: again.is_in() and it.agreed(), 30, "it is not a member again")
     return f"a member again after {took:.1f} s, at height {again.views[-1][0]}"
+
+
+def old_identifier(it):
+    """A killed member is started again with its identifier: at its endpoint it seems the same, elsewhere it waits."""
+    nodes = it.form(5)
+    height, killed = nodes[0].views[-1][0], nodes[3]
+    used = killed.process[:16]
+    it.kill(killed)
+    killed.popen.wait()
+    again = it.start(nodes[0], port=killed.port, identifier=used)
+    took = it.until(again.is_in, 10, "it has no view")
+    it.rest(80 * it.tick)
+    keeps(it, nodes[:3] + [nodes[4], again], height)
+    if again.errors:
+        raise Failed(f"at its old endpoint it said {again.errors}")
+    it.kill(again)
+    other = it.start(nodes[0], identifier=used)
+    answer = b"last answer: a member has its identifier or its endpoint\n"
+    it.until(lambda: answer in other.errors, 10, f"elsewhere no note: {answer}; but {other.errors}")
+    it.agree(30)
+    return f"the present view after {took:.2f} s, and a member; elsewhere a note, and let in when the old one was out"
 
 
 def stopped_process_goes_on(it):
@@ -338,7 +375,7 @@ def without_ticks(it):
 
 
 def one_without_ticks(it):
-    """Of five, one has no ticks but those typed until it is a member; whom it observes most is killed: no view."""
+    """Of five, one has no ticks but those typed until it is in; whom it observes most is killed: no view; it leaves."""
     nodes = it.form(4, tick_ms=20)
     fifth = it.start(nodes[0], tick_ms=0)
     it.until(lambda: fifth.views or not fifth.type("tick 1\n"), 30, "it is no member")
@@ -353,7 +390,14 @@ def one_without_ticks(it):
     it.kill(target)
     it.rest(10)
     left = [node for node in nodes + [fifth] if node is not target]
-    return f"none came, {missing(target)} rings of {RINGS} without reports; {keeps(it, left, height)}"
+    kept = keeps(it, left, height)
+    it.leave(fifth)
+    gone = lambda: all(fifth.name not in node.views[-1][1] and target.name not in node.views[-1][1] for node in left)
+    took = it.until(gone, 10, "it was told to leave, and the killed one and it are members yet")
+    fifth.may_end = True
+    views = nodes[0].views[-1][0] - height if nodes[0] is not target else nodes[1].views[-1][0] - height
+    return f"none came, {missing(target)} rings of {RINGS} without reports; told to leave, both were out after " \
+           f"{took:.2f} s by {views}; {kept}"
 
 
 def two_members(it):
@@ -486,9 +530,12 @@ def self_connect(it):
         calls = Path(room) / "names"
         words = traced(calls, "getsockname")  # asked of each connection that was made, so of those to itself alone
         node = it.form(1, words=words)[0]
+        # one connection for all: by chance another would have this port, and keep it for a minute after its end
+        asking = it.hold(node, frame(PRE_JOIN, process(it.draw(), port)), 1)[0]
+        asking.settimeout(10)
         for count in range(0, ANSWERS, 100):
             # few at a time: what nobody reads soon fills such a connection, and it is closed again
-            node.send([b"".join(frame(PRE_JOIN, process(it.draw(), port)) for _ in range(100))])
+            asking.sendall(b"".join(frame(PRE_JOIN, process(it.draw(), port)) for _ in range(100)))
             it.rest(0.02)
             if is_taken(port) and not (it.rest(0.1) or is_free(port)):
                 raise Failed(f"after {count} answers port {port} was connected to itself, and none can listen there")
@@ -521,7 +568,7 @@ def foreign_sender(it):
     return f"none was dialled{', by strace too' if words else ''}; {keeps(it, [node], 0)}"
 
 
-ALL = [pair_without_quorum, flapping_edge, used_identifier, prejoin_flood, batch_flood, silent_256, half_frame,
-       sixty_five_destinations, restart_same_endpoint, leaves, stopped_process_goes_on, stopped_majority,
-       stopped_stdout, tick10_nine_nodes, quit_hangs, joiners_in_vain, without_ticks, one_without_ticks, two_members,
-       signals, supervised, fault_ends_process, self_connect, foreign_sender]
+ALL = [pair_without_quorum, flapping_edge, used_identifier, prejoin_flood, batch_flood, silent_256, idle_256,
+       half_frame, sixty_five_destinations, restart_same_endpoint, old_identifier, leaves, stopped_process_goes_on,
+       stopped_majority, stopped_stdout, tick10_nine_nodes, quit_hangs, joiners_in_vain, without_ticks,
+       one_without_ticks, two_members, signals, supervised, fault_ends_process, self_connect, foreign_sender]

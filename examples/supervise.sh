@@ -5,9 +5,10 @@
 #
 # It takes the options of `rapidd node` without --id: a process never comes back as itself, so each
 # start draws a fresh identifier. It wants --join, since a founder that is started again founds
-# another cluster. The views go to standard output, and all else to standard error. SIGTERM, SIGINT
-# or SIGHUP to this script has the node quit.
+# another cluster, and --tick-ms, since a node without ticks joins nobody. The views go to standard
+# output, and all else to standard error. SIGTERM, SIGINT or SIGHUP to this script has the node quit.
 set -u
+case ${1:-} in -h | --help) sed -n '2,/^set/ s/^# \{0,1\}//p' "$0"; exit 0 ;; esac
 top=$(cd "$(dirname "${BASH_SOURCE[0]}")/.." && pwd)
 program=${RAPIDD:-$top/crates/rapidd/out/rapidd}
 refuse() { echo "supervise: $1" >&2; exit 2; }
@@ -22,6 +23,7 @@ for ((at = 1; at <= $#; at++)); do
 done
 [ -n "$endpoint" ] || refuse "--listen ENDPOINT is missing"
 [[ " $* " == *" --join"[\ =]* ]] || refuse "--join ENDPOINT is missing"
+[[ " $* " == *" --tick-ms"[\ =]* ]] || refuse "--tick-ms NUMBER is missing"
 
 # a node's threads share one heap of glibc, and what a long frame took goes back to the system
 export MALLOC_ARENA_MAX=${MALLOC_ARENA_MAX:-1} MALLOC_MMAP_THRESHOLD_=${MALLOC_MMAP_THRESHOLD_:-16384}
