@@ -7,6 +7,7 @@ ghost use Rattle.rapid_model.specs.RunHolds.{RunHolds};
 ghost use Rattle.rapid_model.specs.StoredWorld.{world_of, accepted};
 ghost use Rattle.rapid_world.specs.Events.{report_of};
 ghost use Rattle.rapid_clerks.specs.Clusters.{DoesJob, RefusesJob, new_cluster};
+ghost use Rattle.rapid_clerks.specs.declared.job.Job.TheVariants as job;
 
 use crate::cluster::Cluster;
 use crate::{DoJob, Job, TurnJob};
@@ -135,13 +136,29 @@ impl<L: Ledger> ClusterBook<L> {
 }
 
 impl<L: Ledger> DoJob<L, Job> for ClusterBook<L> {
-    fn do_job(&mut self, share: &mut Share<L>, job: &Job) -> Result<Vec<Report>, WorldError> {
+    fn do_job(&mut self, share: &mut Share<L>, job: &Job) -> Result<Vec<Report>, WorldError>
+        requires { 0 < share.old.parts }
+        ensures done { IfOk result (λ reports. DoesJob job.now self.old self.new (map report_of reports.items)) }
+        ensures raised { OnOk result (share.new.amount ≡ share.old.amount + 1) }
+        ensures refused { IfErr result (RefusesJob job.now self.old) }
+        ensures unchanged { OnErr result (self.new ≡ self.old) }
+        ensures kept { OnErr result (share.new.amount ≡ share.old.amount) }
+        ensures parts { share.new.parts ≡ share.old.parts }
+    {
         self.step(share, job)
     }
 }
 
 impl<L: Ledger> DoJob<L, TurnJob> for ClusterBook<L> {
-    fn do_job(&mut self, share: &mut Share<L>, _job: &TurnJob) -> Result<Vec<Report>, WorldError> {
+    fn do_job(&mut self, share: &mut Share<L>, _job: &TurnJob) -> Result<Vec<Report>, WorldError>
+        requires { 0 < share.old.parts }
+        ensures done { IfOk result (λ reports. DoesJob job.Turn self.old self.new (map report_of reports.items)) }
+        ensures raised { OnOk result (share.new.amount ≡ share.old.amount + 1) }
+        ensures refused { IfErr result (RefusesJob job.Turn self.old) }
+        ensures unchanged { OnErr result (self.new ≡ self.old) }
+        ensures kept { OnErr result (share.new.amount ≡ share.old.amount) }
+        ensures parts { share.new.parts ≡ share.old.parts }
+    {
         self.step(share, &Job::Turn)
     }
 }
