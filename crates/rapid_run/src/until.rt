@@ -1,6 +1,8 @@
 // Streams that are given up when the node ends.
 
-ghost use Rattle.std.specs.Prelude.{◌≡◌, IfOk, Ok};
+ghost use Rattle.std.specs.Prelude.{◌≡◌, ◌≢◌, IfOk, IfErr, OnErr, IsErr, Ok};
+ghost use Rattle.std.specs.IoError.{error_kind};
+ghost use Rattle.std.specs.declared.io.ErrorKind.TheVariants.{Interrupted};
 
 use rapid_service::Ending;
 use std::io::{self, ErrorKind, Read, Write};
@@ -23,7 +25,9 @@ pub(crate) struct Until<'a, W: Wait + Clock, S: Drop> {
 
 impl<'a, W: Wait + Clock, S: Drop> Until<'a, W, S> {
     /// The stream of a node that has this ending.
-    pub(crate) fn new(rt: &'a W, ending: &'a Ending, stream: S) -> Until<'a, W, S> {
+    pub(crate) fn new(rt: &'a W, ending: &'a Ending, stream: S) -> Until<'a, W, S>
+        ensures { result.stream ≡ stream }
+    {
         Until {
             rt,
             ending,
@@ -33,7 +37,9 @@ impl<'a, W: Wait + Clock, S: Drop> Until<'a, W, S> {
     }
 
     /// Whether the node ended at least this long ago.
-    fn is_over(&mut self, longest: Duration) -> io::Result<bool> {
+    fn is_over(&mut self, longest: Duration) -> io::Result<bool>
+        ensures stream { self.new.stream ≡ self.old.stream }
+    {
         if !self.ending.has_come(self.rt) {
             return Ok(false);
         }
@@ -44,9 +50,12 @@ impl<'a, W: Wait + Clock, S: Drop> Until<'a, W, S> {
     }
 
     /// The outcome of a call, which is not to be made again if the node ended at least this long
-    /// ago.
+    /// ago. Only the error of an interrupted call becomes another.
     fn settle(&mut self, outcome: io::Result<usize>, longest: Duration) -> io::Result<usize>
-        ensures kept { IfOk result (λ n. outcome ≡ Ok n) }
+        ensures kept { IfOk outcome (λ n. result ≡ Ok n) }
+        ensures failed { OnErr outcome (IsErr result) }
+        ensures fault { IfErr outcome (λ error. error_kind error ≢ Interrupted → result ≡ outcome) }
+        ensures stream { self.new.stream ≡ self.old.stream }
     {
         if let Err(error) = &outcome
             && error.kind() == ErrorKind::Interrupted
@@ -59,6 +68,8 @@ impl<'a, W: Wait + Clock, S: Drop> Until<'a, W, S> {
 }
 
 impl<W: Wait + Clock, S: Read + Drop> Read for Until<'_, W, S> {
+    ghost remaining = { λ u. S.remaining u.stream };
+
     fn read(&mut self, buf: &mut [u8]) -> io::Result<usize> {
         let read = self.stream.read(buf);
         self.settle(read, Duration::ZERO)
@@ -66,6 +77,8 @@ impl<W: Wait + Clock, S: Read + Drop> Read for Until<'_, W, S> {
 }
 
 impl<W: Wait + Clock, S: Write + Drop> Write for Until<'_, W, S> {
+    ghost contents = { λ u. S.contents u.stream };
+
     fn write(&mut self, buf: &[u8]) -> io::Result<usize> {
         let written = self.stream.write(buf);
         self.settle(written, Duration::from_millis(LAST_LINES))
