@@ -218,8 +218,8 @@ where
 fn an_output_that_fails(rt: HostRuntime) {
     for (port, seed) in [(7_406, None), (7_407, Some(7_408))] {
         let (ended, err) = unwritten(&rt, rt.alloc(), port, seed);
-        assert_eq!(rt; ended, Err(RunningFault::Write));
-        assert_eq!(rt; err.as_slice(), UNWRITTEN);
+        assert_eq!(rt; ended, Err(RunningFault::Write), "at {port}");
+        assert_eq!(rt; err.as_slice(), UNWRITTEN, "at {port}");
     }
 }
 
