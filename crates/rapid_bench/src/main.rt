@@ -43,7 +43,7 @@ const USAGE: &str = "rapid_bench WORD.. prints figures, a line each: NAME, a spa
   frames    nanoseconds of a thousand bytes of frames, written, and read in pieces
   steps     nanoseconds of a step of a node and of a copy of one, at 5, 100 and 1,024 members
   step_bytes    bytes that are held after a step or a copy and were not before
-  world_200, world_1000    so many founders of which two or ten crash, until all others have installed the next view:
+  world_200, world_1000    this many founders of which two or ten crash, until all others have installed the next view:
             nanoseconds an event, how many events, nanoseconds of the founding, and the most bytes that the process held
   views     nanoseconds of a hundred reads of a stamp, of a copy of the view of 1,000 processes, and of this view where a
             seat keeps it, by 1 and by 4 threads at a time; and of the first two under a lock

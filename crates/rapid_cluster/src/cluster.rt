@@ -173,6 +173,15 @@ fn found<L: Ledger>(
     Ok((book, share))
 }
 
+/// How many clerks are started, and how many turns each takes at most.
+#[derive(Clone, Copy, Debug)]
+pub struct Crew {
+    /// How many clerks, 32 at most.
+    pub workers: usize,
+    /// How many turns each takes at most.
+    pub turns: usize,
+}
+
 /// Lets clerks take turns in a cluster of nodes; the result is what is printed of it. A type stands
 /// for what is asked for.
 fn drive<L: Ledger + Send + Sync, A: Asked + Send + Sync, R: Threads + Wait + Sync>(
@@ -181,17 +190,17 @@ fn drive<L: Ledger + Send + Sync, A: Asked + Send + Sync, R: Threads + Wait + Sy
     blank: Blank,
     params: Params,
     nodes: u16,
-    workers: usize,
-    turns: usize,
+    crew: Crew,
 ) -> Result<Vec<u8>, AllocError>
     requires name { blank.name ≡ L.name }
     requires parts { blank.parts ≡ L.parts }
     requires room { 33 ≤ blank.parts }
     requires params { params ≡ A.params }
     requires nodes { nodes ≡ A.nodes }
-    requires few { workers ≤ 32 }
-    ensures { IfOk result (λ text. IsReport params nodes (workers * turns) text.items) }
+    requires few { crew.workers ≤ 32 }
+    ensures { IfOk result (λ text. IsReport params nodes (crew.workers * crew.turns) text.items) }
 {
+    let Crew { workers, turns } = crew;
     let (book, mut share) = found::<L>(alloc, blank, params, nodes)?;
     let driven = Mutex::new(Driven::<L, A>::new(book));
     let _counts = run_clerks(rt, alloc, &driven, &Open, &mut share, workers, turns)?;
@@ -201,11 +210,12 @@ fn drive<L: Ledger + Send + Sync, A: Asked + Send + Sync, R: Threads + Wait + Sy
 }
 
 /// Starts a cluster of `nodes` nodes, of which process 1 is the founder and the others ask it to
-/// let them in. Each of `workers` clerks takes at most `turns` turns in it, in a thread of its own.
-/// Then writes how many events are stored, the view of each member, and whether two nodes hold
-/// different identifiers at one height. The stored events are the starts, and then the turns that
-/// were taken. The world is their run, so if no two different configurations share an identifier,
-/// all that holds of runs holds of it. The caller ensures that there are at most 32 clerks.
+/// let them in. Each of `crew.workers` clerks takes at most `crew.turns` turns in it, in a thread of
+/// its own. Then writes how many events are stored, the view of each member, and whether two nodes
+/// hold different identifiers at one height. The stored events are the starts, and then the turns
+/// that were taken. The world is their run, so if no two different configurations share an
+/// identifier, all that holds of runs holds of it. The caller ensures that there are at most 32
+/// clerks.
 ///
 /// # Errors
 ///
@@ -217,15 +227,14 @@ pub fn run_cluster<R: Threads + Wait + Sync, W: Write>(
     writer: &mut W,
     params: Params,
     nodes: u16,
-    workers: usize,
-    turns: usize,
+    crew: Crew,
 ) -> Result<(), RunFault>
-    requires { workers ≤ 32 }
-    ensures written { OnOk result ((text : List ℕ) × IsReport params nodes (workers * turns) text × Appends (W.contents writer.old) (W.contents writer.new) text) }
-    ensures ended { IfErr result (Ended params nodes (workers * turns) (W.contents writer.old) (W.contents writer.new)) }
+    requires { crew.workers ≤ 32 }
+    ensures written { OnOk result ((text : List ℕ) × IsReport params nodes (crew.workers * crew.turns) text × Appends (W.contents writer.old) (W.contents writer.new) text) }
+    ensures ended { IfErr result (Ended params nodes (crew.workers * crew.turns) (W.contents writer.old) (W.contents writer.new)) }
 {
     let blank = Blank::new(PARTS);
-    match drive::<Brand, Brand, R>(rt, alloc, blank, params, nodes, workers, turns) {
+    match drive::<Brand, Brand, R>(rt, alloc, blank, params, nodes, crew) {
         Ok(text) => write_text(writer, text.as_slice()),
         Err(AllocError) => Err(RunFault::OutOfMemory),
     }

@@ -6,4 +6,4 @@ mod agreement;
 mod cluster;
 mod report;
 
-pub use cluster::run_cluster;
+pub use cluster::{Crew, run_cluster};

@@ -1,15 +1,15 @@
 // The command `node`.
 
-ghost use Rattle.std.specs.Prelude.{◌≡◌, ◌≤◌, true, false, IfOk};
+ghost use Rattle.std.specs.Prelude.{◌≡◌, ◌≤◌, true, false, IfOk, codes, pos};
 ghost use Rattle.clap.specs.Words.{rule_of, app_of};
-ghost use Rattle.rapid_commands.specs.Grammar.{text_option, node_words};
+ghost use Rattle.rapid_commands.specs.Grammar.{text_option, number_option, node_words};
 ghost use Rattle.rapid_commands.specs.NodeWords.{NamesNode};
 
 use crate::explain::{note_no_ticks, note_unused, tell_params, tell_port, tell_texts};
 use crate::help::NODE_LINES;
 use crate::words::{DONE, REFUSED, number, with_params};
 use clap::{Arg, ArgAction, ArgMatches, Command};
-use rapid_run::run_node;
+use rapid_run::{Setup, run_node};
 use rapid_service::{NodeOptions, NodeWords, OptionsError, RunningFault, judge};
 use std::alloc::{AllocError, Global};
 use std::convert::AsStr;
@@ -35,6 +35,36 @@ pub(crate) fn text<'a>(alloc: Global, name: &'a str, kind: &'a str, help: &'a st
         .help(help)
 }
 
+/// The option of how much time lies between two ticks.
+fn tick_ms<'a>(alloc: Global) -> Arg<'a>
+    ensures rule { rule_of result ≡ number_option (codes "tick-ms") (codes "0") (pos 0) (pos 60000) }
+    ensures local { result.global ≡ false }
+{
+    number(
+        alloc,
+        "tick-ms",
+        "0",
+        0,
+        60_000,
+        "How many milliseconds lie between two ticks, 0 to 60000; at 0 only lines tick",
+    )
+}
+
+/// The option of how many threads probe.
+fn probers<'a>(alloc: Global) -> Arg<'a>
+    ensures rule { rule_of result ≡ number_option (codes "probers") (codes "1") (pos 1) (pos 16) }
+    ensures local { result.global ≡ false }
+{
+    number(
+        alloc,
+        "probers",
+        "1",
+        1,
+        16,
+        "In how many threads those that it observes are probed, 1 to 16",
+    )
+}
+
 /// The words that `node` takes.
 pub(crate) fn node<'a>(alloc: Global) -> Result<Command<'a>, AllocError>
     ensures app { IfOk result (λ c. app_of c ≡ node_words) }
@@ -57,29 +87,15 @@ pub(crate) fn node<'a>(alloc: Global) -> Result<Command<'a>, AllocError>
         "ENDPOINT",
         "Where a member is by which it joins; without it the node founds a cluster",
     );
-    let tick_ms = number(
-        alloc,
-        "tick-ms",
-        "0",
-        0,
-        60_000,
-        "How many milliseconds lie between two ticks, 0 to 60000; at 0 only lines tick",
-    );
-    let probers = number(
-        alloc,
-        "probers",
-        "1",
-        1,
-        16,
-        "In how many threads those that it observes are probed, 1 to 16",
-    );
     let command = Command::new(alloc, NODE)
         .about("Runs a node over loopback TCP, and prints the views that it enters")
         .after_help(NODE_LINES)
         .arg(listen.required(true))?
         .arg(id)?
         .arg(join)?;
-    with_params(alloc, command)?.arg(tick_ms)?.arg(probers)
+    with_params(alloc, command)?
+        .arg(tick_ms(alloc))?
+        .arg(probers(alloc))
 }
 
 /// Whether the words of the program name the command `node`.
@@ -158,7 +174,11 @@ where
         return REFUSED;
     };
     let listen = options.listen;
-    match run_node(rt, alloc, options, rt, reader, out, err) {
+    let setup = Setup {
+        options,
+        source: rt,
+    };
+    match run_node(rt, alloc, setup, reader, out, err) {
         Ok(()) => DONE,
         Err(fault) => {
             if fault == RunningFault::NoPort {

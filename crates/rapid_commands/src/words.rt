@@ -17,7 +17,7 @@ use crate::node::{names_node, node, node_matches, run_as_node, text};
 use clap::builder::ValueParser;
 use clap::error::ErrorKind;
 use clap::{Arg, ArgMatches, Command, Error};
-use rapid_cluster::run_cluster;
+use rapid_cluster::{Crew, run_cluster};
 use rapid_config::Params;
 use rapid_detect::run_detect;
 use rapid_sim::run_sim;
@@ -203,8 +203,10 @@ fn run_job<T: Threads + Wait + Sync, R: Read, O: Write>(
             out,
             setting.params,
             setting.nodes,
-            usize::from(setting.workers),
-            usize::from(setting.turns),
+            Crew {
+                workers: usize::from(setting.workers),
+                turns: usize::from(setting.turns),
+            },
         ),
     }
 }

@@ -33,8 +33,8 @@ fn sent_by(output: &Output) -> Sent {
 
 /// Checks that this is all that is sent, in order.
 fn assert_sent(rt: &impl Abort, outputs: &Outputs, expected: &[Sent]) {
-    for (output, expected) in outputs.iter().zip(expected) {
-        assert_eq!(rt; sent_by(output), *expected);
+    for (place, (output, expected)) in outputs.iter().zip(expected).enumerate() {
+        assert_eq!(rt; sent_by(output), *expected, "at {place}");
     }
     assert_eq!(rt; outputs.len(), expected.len());
 }

@@ -256,9 +256,9 @@ fn assert_halted(rt: &impl Abort, node: &mut Node, event: &Event) {
 
 /// Checks what a node sent in a step, in order: to whom, and what.
 fn assert_outputs(rt: &impl Abort, outputs: &Outputs, expected: &[(To, Said)]) {
-    for (output, expected) in outputs.iter().zip(expected) {
+    for (place, (output, expected)) in outputs.iter().zip(expected).enumerate() {
         let sent = (whom(output.to()), said_by(output.message().body()));
-        assert_eq!(rt; sent, *expected);
+        assert_eq!(rt; sent, *expected, "at {place}");
     }
     assert_eq!(rt; outputs.len(), expected.len());
 }

@@ -3,7 +3,7 @@
 
 ghost use Rattle.std.specs.Prelude.{◌≤◌};
 
-use rapid_cluster::run_cluster;
+use rapid_cluster::{Crew, run_cluster};
 use rapid_config::Params;
 use rapid_detect::run_detect;
 use rapid_text::RunFault;
@@ -80,7 +80,8 @@ fn written<R: Threads + Wait + Sync>(
 {
     let mut text = Vec::with_capacity(alloc, ROOM)?;
     let params = Params::new(10, 9, 3)?;
-    run_cluster(rt, alloc, &mut text, params, nodes, workers, turns)?;
+    let crew = Crew { workers, turns };
+    run_cluster(rt, alloc, &mut text, params, nodes, crew)?;
     Ok(text)
 }
 

@@ -8,7 +8,7 @@ use std::io::{self, ErrorKind, Read, Write};
 use std::os::fd::{AsRawFd, RawFd};
 
 /// How long a call waits at most, in milliseconds.
-const LONGEST_WAIT: i32 = 100;
+const LONGEST_POLL: i32 = 100;
 
 /// How many bytes a write takes at most: as many as go into a pipe at once if it has room.
 const MOST: usize = 4_096;
@@ -42,7 +42,7 @@ fn wait_for(fd: RawFd, events: i16) -> io::Result<()> {
         revents: 0,
     }];
     // 0 if the time is over; below 0 after a signal, or a fault that the next call meets too
-    if poll(&mut asked, LONGEST_WAIT) <= 0 {
+    if poll(&mut asked, LONGEST_POLL) <= 0 {
         return Err(io::Error::from(ErrorKind::Interrupted));
     }
     Ok(())

@@ -15,7 +15,7 @@ use std::thread::{self, Threads};
 use std::time::{Clock, Duration};
 
 /// The time between two looks for something to report, in milliseconds.
-const BETWEEN_LOOKS: u64 = 1_000;
+const BETWEEN_REPORTS: u64 = 1_000;
 
 /// What a node begins with.
 #[derive(Drop)]
@@ -101,7 +101,7 @@ fn watch<W: Wait + Clock, R: Wait + Copy + Drop, P: Post + Drop, E: Write>(
     peers: &Peers,
     err: &mut E,
 ) {
-    let between = Duration::from_millis(BETWEEN_LOOKS);
+    let between = Duration::from_millis(BETWEEN_REPORTS);
     let mut warned = false;
     for _ in rt.forever() {
         let ends = shared.ending().wait(rt, between);

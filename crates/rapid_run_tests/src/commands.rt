@@ -242,7 +242,8 @@ fn answers_1_if_the_output_fails(rt: HostRuntime) {
         let mut err = Vec::new(rt.alloc());
         assert_eq!(rt;
             run_words(&rt, rt.alloc(), words, &mut input, &mut narrow, &mut err),
-            1
+            1,
+            "at {words:?}"
         );
         let front: &[u8] = if words.len() == detect.len() && words[1] == "detect" {
             b"ref"

@@ -6,7 +6,7 @@ use std::sync::Wait;
 use std::time::{Clock, Duration};
 
 /// How long to wait for a round before looking whether the node ends, in milliseconds.
-const BETWEEN_LOOKS: u64 = 100;
+const LONGEST_WAIT_FOR_ROUND: u64 = 100;
 
 /// Makes parts of each round of probes beside who begins it, until the node ends.
 pub fn run_prober<W: Wait + Clock, R: Wait + Copy + Drop, P: Post + Drop>(
@@ -19,7 +19,7 @@ pub fn run_prober<W: Wait + Clock, R: Wait + Copy + Drop, P: Post + Drop>(
         }
         shared
             .dealer()
-            .wait(rt, Duration::from_millis(BETWEEN_LOOKS));
+            .wait(rt, Duration::from_millis(LONGEST_WAIT_FOR_ROUND));
         shared.probe_parts(rt);
     }
 }

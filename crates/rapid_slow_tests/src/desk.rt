@@ -125,7 +125,8 @@ fn let_three_in<R: Wait + Abort>(
             decision(alloc, id, number)?,
             decision(alloc, id, number)?,
         )?;
-        assert_eq!(rt; seat.stamp().height(), u64::from(number) - 1);
+        let height = u64::from(number) - 1;
+        assert_eq!(rt; seat.stamp().height(), height, "at {number}");
     }
     Ok(())
 }

@@ -43,8 +43,9 @@ fn a_beginning_is_written_before_a_fault(rt: HostRuntime) {
             takes_none,
         };
         let ended = write_text(&mut writer, b"height");
-        assert_eq!(rt; ended, Err(RunFault::Write));
-        assert!(rt; b"height".starts_with(writer.written.as_slice()));
-        assert!(rt; writer.written.len() == 3);
+        assert_eq!(rt; ended, Err(RunFault::Write), "at {takes_none}");
+        let written = writer.written.as_slice();
+        assert!(rt; b"height".starts_with(written), "at {takes_none}");
+        assert_eq!(rt; written.len(), 3, "at {takes_none}");
     }
 }

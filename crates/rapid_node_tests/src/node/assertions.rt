@@ -17,8 +17,9 @@ pub fn assert_sent_after(
     before: usize,
     expected: &[(u16, To, Said)],
 ) {
-    for (sent, expected) in network.sent().iter().skip(before).zip(expected) {
-        assert_eq!(rt; sent, expected);
+    let all = network.sent().iter().skip(before).zip(expected);
+    for (place, (sent, expected)) in all.enumerate() {
+        assert_eq!(rt; sent, expected, "at {place}");
     }
     assert_eq!(rt; network.sent().len().wrapping_sub(before), expected.len());
 }
@@ -97,9 +98,9 @@ pub fn assert_halted(rt: &impl Abort, node: &mut Node, event: &Event) {
 
 /// Checks what a node sent in a step, in order: to whom, and what.
 pub fn assert_outputs(rt: &impl Abort, outputs: &Outputs, expected: &[(To, Said)]) {
-    for (output, expected) in outputs.iter().zip(expected) {
+    for (place, (output, expected)) in outputs.iter().zip(expected).enumerate() {
         let sent = (whom(output.to()), said_by(output.message().body()));
-        assert_eq!(rt; sent, *expected);
+        assert_eq!(rt; sent, *expected, "at {place}");
     }
     assert_eq!(rt; outputs.len(), expected.len());
 }

@@ -100,7 +100,7 @@ fn word_after(results: &[(bool, u8)]) -> u64 {
 #[test]
 fn words_of_edges(rt: HostRuntime) {
     for (results, word) in &WORDS {
-        assert_eq!(rt; word_after(results), *word);
+        assert_eq!(rt; word_after(results), *word, "at {results:?}");
     }
 }
 

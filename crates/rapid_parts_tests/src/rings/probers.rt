@@ -214,10 +214,10 @@ fn four_threads_bring_sixteen_edges_down_once(rt: HostRuntime) -> Result<(), Fai
     assert!(rt; boards.len() == WATCHERS && all_answer(&mut boards, false));
     let all = thread::map_vec(&rt, probers, &|prober| probe_all(alloc, prober))?;
     assert_eq!(rt; all.len(), usize::from(PROBERS));
-    for told in &all {
+    for (prober, told) in all.iter().enumerate() {
         let told = told.as_ref().expect(&rt, "all rounds");
-        assert!(rt; told.of_the_other);
-        assert_eq!(rt; told_of(told), (4, 4));
+        assert!(rt; told.of_the_other, "at {prober}");
+        assert_eq!(rt; told_of(told), (4, 4), "at {prober}");
     }
     assert!(rt; all_answer(&mut boards, true));
     Ok(())

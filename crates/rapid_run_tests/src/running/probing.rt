@@ -81,13 +81,15 @@ fn probe_in<R: Abort>(rt: &R, alloc: Global, count: u8) -> Result<(), Fail> {
     let mut watch = watch_of_five(alloc)?;
     let mut parts = watch.take_parts(count)?.expect(rt, "parts");
     assert_eq!(rt; parts.len(), usize::from(count));
-    assert!(rt; watch.take_parts(count)?.is_none());
+    assert!(rt; watch.take_parts(count)?.is_none(), "at {count}");
     let (all, silent) = edges_of(watch.states()?.as_slice());
-    assert!(rt; 0 < silent && silent < all);
+    assert!(rt; 0 < silent && silent < all, "at {count}: {silent}, {all}");
     for number in 0..9 {
-        assert!(rt; are_down(watch.states()?.as_slice(), 4 < number));
+        let are_down = are_down(watch.states()?.as_slice(), 4 < number);
+        assert!(rt; are_down, "at {count}, {number}");
         let downs = if number == 4 { silent } else { 0 };
-        assert_eq!(rt; round(alloc, &mut parts)?, (all, downs));
+        let made = round(alloc, &mut parts)?;
+        assert_eq!(rt; made, (all, downs), "at {count}, {number}");
     }
     Ok(())
 }

@@ -76,15 +76,22 @@ fn votes_and_batches_of_members_are_taken_once(rt: HostRuntime) -> Result<(), Fa
     let configuration = three(alloc)?;
     let (here, elsewhere) = (configuration.id(), ConfigId::zero());
     let mut repeats = Repeats::new(alloc, &configuration)?;
+    // who speaks of whom and in which configuration, and whether that is taken
+    let told = [
+        (2, 4, here, true),
+        (2, 4, here, false),
+        (3, 4, here, true),
+        (2, 5, here, true),
+        (2, 5, here, false),
+        (9, 4, here, true),
+        (2, 4, elsewhere, true),
+        (9, 4, here, true),
+        (2, 4, elsewhere, true),
+    ];
     for votes in [true, false] {
-        assert!(rt; repeats.admits(&said(alloc, votes, 2, here, 4)?));
-        assert!(rt; !repeats.admits(&said(alloc, votes, 2, here, 4)?));
-        assert!(rt; repeats.admits(&said(alloc, votes, 3, here, 4)?));
-        assert!(rt; repeats.admits(&said(alloc, votes, 2, here, 5)?));
-        assert!(rt; !repeats.admits(&said(alloc, votes, 2, here, 5)?));
-        for _ in 0..2 {
-            assert!(rt; repeats.admits(&said(alloc, votes, 9, here, 4)?));
-            assert!(rt; repeats.admits(&said(alloc, votes, 2, elsewhere, 4)?));
+        for (place, (sender, joiner, id, is_taken)) in told.into_iter().enumerate() {
+            let message = said(alloc, votes, sender, id, joiner)?;
+            assert_eq!(rt; repeats.admits(&message), is_taken, "at {votes}, {place}");
         }
     }
     Ok(())
@@ -97,16 +104,19 @@ fn requests_are_taken_once_and_questions_each_tenth_tick(rt: HostRuntime) -> Res
     let (here, elsewhere) = (configuration.id(), ConfigId::zero());
     let mut repeats = Repeats::new(alloc, &configuration)?;
     for ring in 0..2 {
-        assert!(rt; repeats.admits(&request(7, here, ring)?));
-        assert!(rt; !repeats.admits(&request(7, here, ring)?));
-        for _ in 0..2 {
-            assert!(rt; repeats.admits(&request(7, elsewhere, ring)?));
+        assert!(rt; repeats.admits(&request(7, here, ring)?), "at {ring}");
+        assert!(rt; !repeats.admits(&request(7, here, ring)?), "at {ring}");
+        for time in 0..2 {
+            assert!(rt;
+                repeats.admits(&request(7, elsewhere, ring)?),
+                "at {ring}, {time}"
+            );
         }
     }
-    for _ in 0..3 {
-        assert!(rt; repeats.admits(&question(7)?));
-        for _ in 0..10 {
-            assert!(rt; !repeats.admits(&question(7)?));
+    for time in 0..3 {
+        assert!(rt; repeats.admits(&question(7)?), "at {time}");
+        for ticks in 0..10 {
+            assert!(rt; !repeats.admits(&question(7)?), "at {time}, {ticks}");
             repeats.tick();
         }
     }

@@ -3,7 +3,7 @@
 use crate::running::devices::{Broken, Murmur, Screen};
 use rapid_config::Params;
 use rapid_endpoint::{Endpoint, ProcessId};
-use rapid_run::run_node;
+use rapid_run::{Setup, run_node};
 use rapid_service::{NodeOptions, RunningFault};
 use std::alloc::Global;
 use std::io::{Read, Write};
@@ -47,7 +47,7 @@ where
         return Err(RunningFault::Halted);
     };
     let id = [0, 0, 0, 0, 0, 0, 0, 0, 0, 0, 0, 0, 0, 0, 0, 1];
-    let asked = NodeOptions {
+    let options = NodeOptions {
         listen: Endpoint::new([127, 0, 0, 1], at.port),
         id: Some(ProcessId::new(id)),
         join: at.seed.map(|port| Endpoint::new([127, 0, 0, 1], port)),
@@ -55,7 +55,11 @@ where
         tick_ms: 0,
         probers: 1,
     };
-    run_node(rt, alloc, asked, rt, reader, writer, err)
+    let setup = Setup {
+        options,
+        source: rt,
+    };
+    run_node(rt, alloc, setup, reader, writer, err)
 }
 
 #[test]
@@ -218,8 +222,8 @@ where
 fn an_output_that_fails(rt: HostRuntime) {
     for (port, seed) in [(7_406, None), (7_407, Some(7_408))] {
         let (ended, err) = unwritten(&rt, rt.alloc(), port, seed);
-        assert_eq!(rt; ended, Err(RunningFault::Write));
-        assert_eq!(rt; err.as_slice(), UNWRITTEN);
+        assert_eq!(rt; ended, Err(RunningFault::Write), "at {port}");
+        assert_eq!(rt; err.as_slice(), UNWRITTEN, "at {port}");
     }
 }
 

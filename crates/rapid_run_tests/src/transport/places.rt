@@ -360,7 +360,7 @@ where
 fn a_connection_that_has_ended_is_not_written_to(rt: HostRuntime) {
     for (port, peer) in [(7_476, Peer::Closes), (7_478, Peer::Answers)] {
         let found = of_two(&rt, rt.alloc(), port, peer);
-        assert_eq!(rt; found, Some((2, 0, true)));
+        assert_eq!(rt; found, Some((2, 0, true)), "at {peer:?}");
     }
 }
 

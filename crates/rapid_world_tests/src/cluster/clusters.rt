@@ -2,7 +2,7 @@
 
 ghost use Rattle.std.specs.Prelude.{◌≤◌};
 
-use rapid_cluster::run_cluster;
+use rapid_cluster::{Crew, run_cluster};
 use rapid_config::Params;
 use rapid_text::RunFault;
 use std::alloc::Global;
@@ -35,7 +35,8 @@ fn written<R: Threads + Wait + Sync>(
 {
     let mut text = Vec::with_capacity(alloc, ROOM)?;
     let params = Params::new(10, 9, 3)?;
-    run_cluster(rt, alloc, &mut text, params, nodes, workers, turns)?;
+    let crew = Crew { workers, turns };
+    run_cluster(rt, alloc, &mut text, params, nodes, crew)?;
     Ok(text)
 }
 
@@ -46,7 +47,11 @@ fn after_nine_turns<R: Threads + Wait + Sync>(
     params: Params,
 ) -> Result<Vec<u8>, Fail> {
     let mut text = Vec::with_capacity(alloc, ROOM)?;
-    run_cluster(rt, alloc, &mut text, params, 2, 1, 9)?;
+    let crew = Crew {
+        workers: 1,
+        turns: 9,
+    };
+    run_cluster(rt, alloc, &mut text, params, 2, crew)?;
     Ok(text)
 }
 
@@ -111,7 +116,12 @@ fn a_writer_that_fails_ends_the_report(rt: HostRuntime) -> Result<(), Fail> {
     let mut narrow = Narrow {
         written: Vec::new(rt.alloc()),
     };
-    let ended = run_cluster(&rt, rt.alloc(), &mut narrow, Params::new(3, 3, 1)?, 1, 1, 1);
+    let params = Params::new(3, 3, 1)?;
+    let crew = Crew {
+        workers: 1,
+        turns: 1,
+    };
+    let ended = run_cluster(&rt, rt.alloc(), &mut narrow, params, 1, crew);
     assert!(rt; matches!(ended, Err(RunFault::Write)));
     assert_eq!(rt; narrow.written.as_slice(), b"eve".as_slice());
     Ok(())

@@ -5,7 +5,7 @@ use Rattle.rapid_cluster.proofs.cluster.run_cluster.Goals as goal
 
 pub returns-in-Ok-clause-ended : goal.returns-in-Ok-clause-ended
 returns-in-Ok-clause-ended g c =
-    let most = c.args.workers * c.args.turns in
+    let most = c.args.crew.workers * c.args.crew.turns in
     has_ended c.args.params c.args.nodes most _ _ c.write_text.result c.as_slice.result.now
     (subst (IsReport c.args.params c.args.nodes most) (sym c.as_slice.ensures.value) c.in-Ok.ensures) c.write_text.ensures.fault c.write_text.ensures.begun
 

@@ -14,8 +14,8 @@ returns c =
     let listen_is : rule_of c.required.result ≡ record (text_option (codes "listen")) { required = true } = ap rule_of c.required.ensures ∙ ap (λ (r : Rule). record r { required = true }) named in
     let id_is : rule_of c.text-id.result ≡ text_option (codes "id") = search rules in
     let join_is : rule_of c.text-join.result ≡ text_option (codes "join") = search rules in
-    let tick_is : rule_of c.number-tick_ms.result ≡ number_option (codes "tick-ms") (codes "0") (pos 0) (pos 60000) = search rules in
-    let probers_is : rule_of c.number-probers.result ≡ number_option (codes "probers") (codes "1") (pos 1) (pos 16) = search rules in
+    let tick_is : rule_of c.tick_ms.result ≡ number_option (codes "tick-ms") (codes "0") (pos 0) (pos 60000) = search rules in
+    let probers_is : rule_of c.probers.result ≡ number_option (codes "probers") (codes "1") (pos 1) (pos 16) = search rules in
     let begin : app_of c.after_help.result ≡ new_app (codes "node") = ap app_of_fields c.after_help.ensures ∙ ap app_of_fields c.about.ensures ∙ c.new.ensures.app in
     let one = c.in_ok-arg.ensures.shape (ap (λ (a : Arg). a.global) c.required.ensures ∙ c.text-listen.ensures.local) ∙ ap₂ with_rule begin listen_is in
     let two = c.in_ok-arg-2.ensures.shape (search rules) ∙ ap₂ with_rule one id_is in
