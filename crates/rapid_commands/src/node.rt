@@ -9,7 +9,7 @@ use crate::explain::{note_no_ticks, note_unused, tell_params, tell_port, tell_te
 use crate::help::NODE_LINES;
 use crate::words::{DONE, REFUSED, number, with_params};
 use clap::{Arg, ArgAction, ArgMatches, Command};
-use rapid_run::{Setup, run_node};
+use rapid_run::run_node;
 use rapid_service::{NodeOptions, NodeWords, OptionsError, RunningFault, judge};
 use std::alloc::{AllocError, Global};
 use std::convert::AsStr;
@@ -174,11 +174,7 @@ where
         return REFUSED;
     };
     let listen = options.listen;
-    let setup = Setup {
-        options,
-        source: rt,
-    };
-    match run_node(rt, alloc, setup, reader, out, err) {
+    match run_node(rt, alloc, options, rt, reader, out, err) {
         Ok(()) => DONE,
         Err(fault) => {
             if fault == RunningFault::NoPort {

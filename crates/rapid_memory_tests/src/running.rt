@@ -3,7 +3,7 @@
 use bytes::Bytes;
 use rapid_config::Params;
 use rapid_endpoint::{Endpoint, ProcessId};
-use rapid_run::{Setup, run_node};
+use rapid_run::run_node;
 use rapid_service::{NodeOptions, RunningFault};
 use rapid_transport::{Metered, SenderQueue, receive};
 use rapid_wire::Feed;
@@ -83,7 +83,7 @@ where
         return Err(RunningFault::Halted);
     };
     let id = [0, 0, 0, 0, 0, 0, 0, 0, 0, 0, 0, 0, 0, 0, 0, 1];
-    let options = NodeOptions {
+    let asked = NodeOptions {
         listen: Endpoint::new([127, 0, 0, 1], port),
         id: Some(ProcessId::new(id)),
         join: None,
@@ -91,11 +91,7 @@ where
         tick_ms: 0,
         probers: 1,
     };
-    let setup = Setup {
-        options,
-        source: rt,
-    };
-    run_node(rt, alloc, setup, reader, writer, err)
+    run_node(rt, alloc, asked, rt, reader, writer, err)
 }
 
 /// What a founder prints for its lines. It has no observer to tell that it leaves.

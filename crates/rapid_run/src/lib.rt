@@ -10,4 +10,4 @@ mod threads;
 mod until;
 
 pub use polled::Polled;
-pub use run::{Setup, run_node};
+pub use run::run_node;

@@ -14,15 +14,6 @@ use std::sync::atomic::{AtomicBool, Ordering};
 use std::thread::Threads;
 use std::time::{Clock, Duration};
 
-/// What a node is asked to be, and where its identifier comes from.
-#[derive(Drop)]
-pub struct Setup<'a, S> {
-    /// What the words of its user ask for.
-    pub options: NodeOptions,
-    /// What an identifier is drawn from, if the options have none.
-    pub source: &'a S,
-}
-
 /// Listens at the endpoint of the node.
 fn listen<R>(
     rt: &R,
@@ -98,7 +89,8 @@ where
 fn run<R, S, I, O, E>(
     rt: &R,
     alloc: Global,
-    setup: Setup<'_, S>,
+    options: NodeOptions,
+    source: &S,
     streams: Streams<&mut I, &mut O, &mut E>,
     told: &AtomicBool,
 ) -> Result<(), RunningFault>
@@ -109,7 +101,6 @@ where
     O: Write + Send,
     E: Write + Send,
 {
-    let Setup { options, source } = setup;
     let id = identify(options.id, source)?;
     let me = Process::new(id, options.listen);
     let (peers, ends) = listen(rt, alloc, &options)?;
@@ -148,7 +139,8 @@ where
 pub fn run_node<R, S, I, O, E>(
     rt: &R,
     alloc: Global,
-    setup: Setup<'_, S>,
+    options: NodeOptions,
+    source: &S,
     reader: &mut I,
     writer: &mut O,
     err: &mut E,
@@ -166,7 +158,7 @@ where
         writer,
         err: &mut *err,
     };
-    let ended = run(rt, alloc, setup, streams, &told);
+    let ended = run(rt, alloc, options, source, streams, &told);
     if let Err(fault) = &ended
         && !told.load(Ordering::SeqCst)
     {

@@ -3,7 +3,7 @@
 use crate::running::devices::{Screen, Silence, Wires, cut};
 use rapid_config::Params;
 use rapid_endpoint::{Endpoint, ProcessId};
-use rapid_run::{Setup, run_node};
+use rapid_run::run_node;
 use rapid_service::NodeOptions;
 use std::alloc::{AllocError, Global};
 use std::net::{Net, TcpListener, TcpStream};
@@ -96,12 +96,17 @@ where
         rt,
         opened: &place.opened,
     };
-    let setup = Setup {
-        options: options(place.port, place.seed, place.params),
-        source: rt,
-    };
+    let asked = options(place.port, place.seed, place.params);
     let mut told = Vec::new(alloc);
-    let _ = run_node(&wires, alloc, setup, &mut reader, &mut writer, &mut told);
+    let _ = run_node(
+        &wires,
+        alloc,
+        asked,
+        rt,
+        &mut reader,
+        &mut writer,
+        &mut told,
+    );
 }
 
 /// Whether the last that each node printed ends with this text.

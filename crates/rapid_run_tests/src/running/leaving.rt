@@ -3,7 +3,7 @@
 use crate::running::devices::{Cue, Screen};
 use rapid_config::Params;
 use rapid_endpoint::{Endpoint, ProcessId};
-use rapid_run::{Setup, run_node};
+use rapid_run::run_node;
 use rapid_service::NodeOptions;
 use std::alloc::Global;
 use std::net::{Net, TcpListener, TcpStream};
@@ -82,11 +82,8 @@ where
         printed: &place.printed,
     };
     let mut told = Vec::new(alloc);
-    let setup = Setup {
-        options: options(place.port, params),
-        source: rt,
-    };
-    let _ = run_node(rt, alloc, setup, &mut reader, &mut writer, &mut told);
+    let asked = options(place.port, params);
+    let _ = run_node(rt, alloc, asked, rt, &mut reader, &mut writer, &mut told);
 }
 
 /// Waits until the last that each of both printed ends with this text; whether it does.

@@ -3,7 +3,7 @@
 use crate::running::devices::{Broken, Murmur, Screen};
 use rapid_config::Params;
 use rapid_endpoint::{Endpoint, ProcessId};
-use rapid_run::{Setup, run_node};
+use rapid_run::run_node;
 use rapid_service::{NodeOptions, RunningFault};
 use std::alloc::Global;
 use std::io::{Read, Write};
@@ -47,7 +47,7 @@ where
         return Err(RunningFault::Halted);
     };
     let id = [0, 0, 0, 0, 0, 0, 0, 0, 0, 0, 0, 0, 0, 0, 0, 1];
-    let options = NodeOptions {
+    let asked = NodeOptions {
         listen: Endpoint::new([127, 0, 0, 1], at.port),
         id: Some(ProcessId::new(id)),
         join: at.seed.map(|port| Endpoint::new([127, 0, 0, 1], port)),
@@ -55,11 +55,7 @@ where
         tick_ms: 0,
         probers: 1,
     };
-    let setup = Setup {
-        options,
-        source: rt,
-    };
-    run_node(rt, alloc, setup, reader, writer, err)
+    run_node(rt, alloc, asked, rt, reader, writer, err)
 }
 
 #[test]
