@@ -7,7 +7,8 @@ pub(crate) const VERSION: &str = "0.1.0";
 pub(crate) const STATUSES: &str =
     "Status: 0 at the end of the input and after help and the version, 1 if standard input or output
 failed, 2 if the words were refused, 3 if memory ran out. Of node see rapidd node --help.
-Faults go to standard error as error: .., all else to standard output.";
+Faults go to standard error as error: .., and what a node reports while it goes on as note: .. or
+warning: ..; all else goes to standard output.";
 
 /// What `detect --help` says of the lines.
 pub(crate) const DETECT_LINES: &str = "Lines:
@@ -16,12 +17,13 @@ pub(crate) const DETECT_LINES: &str = "Lines:
   edge RING OBSERVER SUBJECT     an edge of the table of observers
   remove RING OBSERVER SUBJECT   an alert to remove a member, for the next batch
   join RING OBSERVER SUBJECT     an alert to let a joiner in, for the next batch
-  batch                          hands the batch to the detector, and prints its cut or none
+  batch                          hands the batch to the detector, and prints cut N .. or none, and then
+                                 skipped n if it skipped n alerts; after the first cut always none
 Processes are numbers from 1 to 65535. A line that begins with # is ignored.
 
 A line that is refused prints refused NAME and has no effect. The run goes on, and its status stays 0.
 NAME is the first of these that holds:
-  BadLine        the line is none of the above, or a second watermarks
+  BadLine        the line is none of the above, a second watermarks, or an edge of a process to itself
   NoWatermarks   watermarks was not taken yet
   BadParams      K, H and L are not 1 <= L <= H <= K <= 16
   TooLate        joiner or edge after the first alert or batch
@@ -47,7 +49,8 @@ pub(crate) const SIM_LINES: &str = "Lines:
   leave N                          node N asks those that observe it to have it removed
   packets                          prints how many packets were sent
 Processes are numbers from 1 to 65535 at 127.0.0.1, packets are numbered from 1 in the order sent, and
-COUNT is 1 to 1000. A line that begins with # is ignored. A view that a node enters prints a line.
+COUNT is 1 to 1000. A line that begins with # is ignored. A view that a node enters prints
+  node N height H members N ..     or node N removed at height H if it is not in it
 
 A line that is refused prints refused NAME and has no effect; of a repeated event what came before
 stands. The run goes on, and its status stays 0. NAME is one of
@@ -80,7 +83,7 @@ memory ran out.";
 
 /// What `node --help` says of the lines.
 pub(crate) const NODE_LINES: &str = "Lines of standard input:
-  tick [COUNT]   the clock ticks so often, 1 to 1000 times
+  tick [COUNT]   the clock ticks this many times, 1 to 1000; once without COUNT
   view           prints the present view, or no view
   edges          prints edge RING ENDPOINT up or down for each edge that the node observes, or edges none
   leave          asks the cluster to remove the node; once a view without it is printed, quit
@@ -88,6 +91,8 @@ pub(crate) const NODE_LINES: &str = "Lines of standard input:
 A line that begins with # is ignored, and another prints refused BadLine. Each view that the node
 enters prints
   height H members ENDPOINT ..
+What it reports while it goes on, such as why it waits to be let in, is a line note: .. on standard
+error.
 An ENDPOINT is 127.x.x.x:PORT with a port from 1 to 65535, such as 127.0.0.1:7401. K, H and L are those
 of a cluster that the node founds, 1 <= L <= H <= K <= 16; one that joins takes those of its cluster.
 
