@@ -199,8 +199,8 @@ def growths():
     """Refuses each growth in turn; how many passed, and how many failed."""
     compiler = next(filter(shutil.which, [os.environ.get("CC", ""), "cc", "gcc", "clang"]), None)
     if compiler is None:
-        tree.note("refused growths: PASSED OVER, since no C compiler (cc, gcc, clang) is there")
-        return 0, 0
+        print("check: refused growths: FAILED: no C compiler (cc, gcc, clang) is on the path", flush=True)
+        return 0, 1
     resource.setrlimit(resource.RLIMIT_CORE, (0, 0))
     if not PROGRAM.is_file():
         print("check: refused growths: FAILED: the program is not built: ./check builds it", flush=True)
