@@ -57,7 +57,7 @@ fn run(world: &mut World, events: &[WorldEvent], nodes: usize) {
     }
 }
 
-/// Prints the figures of so many founders of which so many crash.
+/// Prints the figures of this many founders, of which these many crash.
 pub fn measure(founders: u16, crashes: u16) {
     let mut least = u128::MAX;
     let mut founding = u128::MAX;
