@@ -17,7 +17,7 @@ TOP = Path(__file__).resolve().parent.parent
 SOURCES = TOP / "crates/rapid_commands/src"
 FOLDER = TOP / "docs/manual"
 COMMAND = re.compile(r'Command::new\(alloc, ("\w+"|NODE)\)(.*?)(?=\n    Command::new|;\n|\Z)', re.DOTALL)
-OPTION = re.compile(r"(?<!fn )\b(text|number)\(\s*alloc,\s*(.*?),?\s*\)[;)]", re.DOTALL)
+OPTION = re.compile(r"(?<!fn )\b(text|number)\(\s*alloc,\s*(.*?),?\s*\)(?:[;)]|$)", re.DOTALL)
 STRING = re.compile(r'"((?:[^"\\]|\\.)*)"')
 REQUIRED = {"listen"}
 
@@ -57,11 +57,12 @@ def commands():
     texts = constants(helps) | constants(node)
     params = options(body(words, "with_params"))
     grammar, cluster = body(words, "grammar"), body(words, "cluster")
+    ticking = [it for name in ("tick_ms", "probers") for it in options(body(node, name))]
     found, about = {}, ""
     for where, all_options in (
         (grammar, []),
         (cluster, [*options(cluster), *params]),
-        (body(node, "node"), [*options(body(node, "node")), *params]),
+        (body(node, "node"), [*options(body(node, "node")), *params, *ticking]),
     ):
         for name, said in COMMAND.findall(where):
             name = texts["NODE"] if name == "NODE" else name.strip('"')
