@@ -11,13 +11,11 @@ ghost use Rattle.rapid_model.specs.Detector.{empty_detector, after_batch, batch_
 ghost use Rattle.rapid_alerts.specs.Alerts.{alert_of};
 ghost use Rattle.rapid_cut.specs.Closing.{IsBetween, HaveCome, active as active_of};
 ghost use Rattle.rapid_cut.specs.Growing.{before};
-ghost use Rattle.rapid_cut.specs.Keeping.{AreKept};
 ghost use Rattle.rapid_cut.specs.Limits.{IsDetecting, IsKept, IsWithinLimits};
 
 use crate::ascending::ascending;
 use crate::closure::{active_with, close_grown, tally};
 use crate::growing::GrowingReports;
-use crate::kept::KeptObservers;
 use crate::reports::KnownReports;
 use crate::taken::{Taken, take_all};
 use rapid_alerts::Alert;
@@ -129,13 +127,11 @@ struct Advance {
 fn settle<T: ObserverTable>(
     alloc: Global,
     table: &T,
-    kept: &KeptObservers,
     known: &mut GrowingReports,
     active: &mut Vec<Process>,
     grown: &[Process],
 ) -> Result<Option<Cut>, AllocError>
     requires rules { AreObservers (T.observers table.now) }
-    requires kept { AreKept (T.observers table.now) kept.now.places.entries kept.now.observers.items }
     requires known { IsBetween (T.observers table.now) known.old.reports.direct known.old.reports.all }
     requires limits { IsWithinLimits (T.observers table.now) known.old.reports.direct }
     requires low { (q : Bytes) → model.reaches_low (T.observers table.now) known.old.reports.direct (Some q) ≡ (is_in active.old.items q || is_in grown.now q) }
@@ -156,7 +152,7 @@ fn settle<T: ObserverTable>(
         return cut_of(alloc, table, &known.reports, active);
     }
     let more = active_with(alloc, table, &known.reports, active, grown)?;
-    close_grown(table, kept, &more, grown, known)?;
+    close_grown(table, &more, grown, known)?;
     let cut = cut_of(alloc, table, &known.reports, &more)?;
     *active = more;
     Ok(cut)
@@ -166,7 +162,6 @@ fn settle<T: ObserverTable>(
 fn take_batch<T: ObserverTable>(
     alloc: Global,
     table: &T,
-    kept: &mut KeptObservers,
     known: &mut GrowingReports,
     active: &mut Vec<Process>,
     joiners: usize,
@@ -175,8 +170,6 @@ fn take_batch<T: ObserverTable>(
     requires detecting { IsDetecting (T.observers table.now) known.old.reports.direct known.old.reports.all }
     requires active { active.old.items ≡ active_of (T.observers table.now) known.old.reports.direct }
     requires joiners { joiners ≡ length (detector.joiners (T.observers table.now) known.old.reports.direct) }
-    requires kept { AreKept (T.observers table.now) kept.old.places.entries kept.old.observers.items }
-    ensures kept { AreKept (T.observers table.now) kept.new.places.entries kept.new.observers.items }
     ensures direct { OnOk result (known.new.reports.direct ≡ detector.with_alerts known.old.reports.direct (detector.taken (T.observers table.now) known.old.reports.direct (map alert_of alerts.now))) }
     ensures known { IfOk result (λ advance. IsKept (T.observers table.now) known.new.reports.direct known.new.reports.all active.new.items advance.joiners (is_some advance.cut)) }
     ensures cut { IfOk result (λ advance. advance.cut ≡ model.cut_of (T.observers table.now) known.new.reports.direct) }
@@ -189,9 +182,9 @@ fn take_batch<T: ObserverTable>(
         joiners,
         count,
         grown,
-    } = take_all(alloc, table, kept, known, joiners, alerts)?;
+    } = take_all(alloc, table, known, joiners, alerts)?;
     let grown = ascending(grown);
-    let cut = settle(alloc, table, kept, known, active, &grown)?;
+    let cut = settle(alloc, table, known, active, &grown)?;
     Ok(Advance {
         cut,
         joiners,
@@ -212,7 +205,6 @@ pub struct Detector<T: ObserverTable> {
     known: GrowingReports,
     active: Vec<Process>,
     joiners: usize,
-    kept: KeptObservers,
     closed: bool,
     skipped: usize,
     alloc: Global,
@@ -222,7 +214,6 @@ impl<T: ObserverTable> Model for Detector<T> {
     ghost use Rattle.std.specs.Prelude.{◌≡◌};
     ghost use Rattle.rapid_cut.specs.Watching.{Watching, watching_code};
     ghost use Rattle.rapid_cut.specs.Growing.{before};
-    ghost use Rattle.rapid_cut.specs.Keeping.{AreKept};
     ghost use Rattle.rapid_cut.specs.Limits.{IsKept};
 
     ghost Value = { Watching T };
@@ -231,7 +222,7 @@ impl<T: ObserverTable> Model for Detector<T> {
 
     ghost view = { λ d. record { table = d.table; detector = record { direct = d.known.reports.direct; closed = d.closed; skipped = d.skipped } } };
 
-    ghost invariant = { λ d. IsKept (T.observers d.table) d.known.reports.direct d.known.reports.all d.active.items d.joiners d.closed × AreKept (T.observers d.table) d.kept.places.entries d.kept.observers.items × (before d.known ≡ d.known.reports) };
+    ghost invariant = { λ d. IsKept (T.observers d.table) d.known.reports.direct d.known.reports.all d.active.items d.joiners d.closed × (before d.known ≡ d.known.reports) };
 }
 
 impl<T: ObserverTable> Detector<T> {
@@ -246,7 +237,6 @@ impl<T: ObserverTable> Detector<T> {
             known: GrowingReports::new(alloc),
             active: Vec::new(alloc),
             joiners: 0,
-            kept: KeptObservers::new(alloc),
             closed: false,
             skipped: 0,
             alloc,
@@ -270,7 +260,6 @@ impl<T: ObserverTable> Detector<T> {
         let advance = take_batch(
             self.alloc,
             &self.table,
-            &mut self.kept,
             &mut self.known,
             &mut self.active,
             self.joiners,
@@ -327,7 +316,6 @@ impl<T: ObserverTable> Detector<T> {
             known: self.known.try_copy(self.alloc)?,
             active: self.active.clone()?,
             joiners: self.joiners,
-            kept: self.kept.try_copy()?,
             closed: self.closed,
             skipped: self.skipped,
             alloc: self.alloc,

@@ -8,7 +8,6 @@ mod ascending;
 mod closure;
 mod detector;
 mod growing;
-mod kept;
 mod mask;
 mod reports;
 mod subject_key;

@@ -16,7 +16,6 @@ loop-alert-preserved g c =
     ] in
     let at = drop_map alert_of c.args.alerts.now c.loop-alert.alert-index c.alert-item.result c.loop-alert-test.true c.alert-item.is in
     record {
-      kept = c.take.ensures.kept;
       known =
           includes_when c.in_ok-take.field-0 c.loop-alert.known.reports.all c.loop-alert.known.reports.direct c.take.new.known.reports.all c.take.new.known.reports.direct (report_of (alert_of c.alert-item.result))
           c.in_ok-take.ensures.all c.in_ok-take.ensures.direct c.loop-alert.invariant.known;

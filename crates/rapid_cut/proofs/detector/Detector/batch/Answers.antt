@@ -14,15 +14,14 @@ returns-then-self-clause-taken g c =
 pub invariant_of-self-in-Err : goal.invariant_of-self-in-Err
 invariant_of-self-in-Err g c =
     let known : c.undo.new.self.reports ≡ c.self.inside.known.reports =
-    c.undo.ensures.reports ∙ c.take_batch-advance.ensures.before ∙ c.self.invariant.2 in (
+    c.undo.ensures.reports ∙ c.take_batch-advance.ensures.before ∙ c.self.invariant.1 in (
       kept_along (g.T.ObserverTable.observers c.self.inside.table) c.self.inside.known.reports c.undo.new.self.reports
           c.self.inside.active.items c.take_batch-advance.new.active.items c.self.inside.joiners c.self.inside.closed (sym known) (sym c.in-Err.ensures.active) c.self.invariant.0,
-      c.take_batch-advance.ensures.kept,
       c.undo.ensures.kept,
     )
 
 pub returns-in-Err-clause-unchanged : goal.returns-in-Err-clause-unchanged
 returns-in-Err-clause-unchanged g c =
     view_along c.self.inside.table c.undo.new.self.reports.direct c.self.inside.known.reports.direct c.self.inside.closed c.self.inside.skipped
-    (ap (λ (k : Known). k.direct) (c.undo.ensures.reports ∙ c.take_batch-advance.ensures.before ∙ c.self.invariant.2))
+    (ap (λ (k : Known). k.direct) (c.undo.ensures.reports ∙ c.take_batch-advance.ensures.before ∙ c.self.invariant.1))
     ∙ c.self.view_is
