@@ -8,6 +8,7 @@ mod ascending;
 mod closure;
 mod detector;
 mod growing;
+mod in_turn;
 mod kept;
 mod mask;
 mod reports;

@@ -36,7 +36,7 @@ fn flushed(outbox: &mut Outbox<Table>) -> Result<usize, AllocError> {
 fn has_raised(batch: &Batch, outbox: &Outbox<Table>) -> bool {
     batch.observer() == process(1)
         && batch.config() == ConfigId::zero()
-        && batch.alerts() == outbox.raised()
+        && batch.alerts().says_same(outbox.raised())
 }
 
 /// Whether the next batch has just what was raised.
@@ -198,7 +198,7 @@ fn copy_is_empty(outbox: &Outbox<Table>, table: Table) -> Result<bool, AllocErro
     requires { table ≡ outbox.now.table }
 {
     let copy = outbox.try_copy(table)?;
-    Ok(copy.raised().is_empty())
+    Ok(copy.raised().len() == 0)
 }
 
 /// Whether a copy of a new outbox of process 1 has raised nothing.
@@ -228,7 +228,7 @@ fn alerts(alloc: Global, many: usize) -> Result<Vec<Alert>, AllocError> {
 fn refusal(alloc: Global, many: usize, observer: u16) -> Result<Option<BatchError>, AllocError> {
     let mut alerts = alerts(alloc, many)?;
     alerts.push(alert(Kind::Remove, 0, observer, 5))?;
-    Ok(Batch::new(alerts).err())
+    Ok(Batch::new(alloc, &alerts).err())
 }
 
 const REFUSALS: [(usize, u16, Option<BatchError>); 6] = [
@@ -253,7 +253,7 @@ fn are_refused(alloc: Global, rows: &[(usize, u16, Option<BatchError>)]) -> Resu
 
 /// Why a batch of no alerts is refused.
 fn refusal_of_none(alloc: Global) -> Option<BatchError> {
-    Batch::new(Vec::new(alloc)).err()
+    Batch::new(alloc, &[]).err()
 }
 
 #[test]
