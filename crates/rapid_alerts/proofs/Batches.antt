@@ -1,5 +1,5 @@
 -- Batches: what their alerts have in common, and which stretches of an outbox are batches.
-use Rattle.std.proofs.Common.{◌≡◌, ℕ, zero, suc, ◌+◌, ◌-◌, ◌<◌, ◌≤◌, min, ◌⊎◌, inl, inr, Bool, true, false, cond, not, ◌&&◌, List, [], ◌∷◌, length, map, take, drop, get_or, nat_eq, refl, sym, ap, subst, ◌∙◌, arith, nat_lt, Option, Some, None}
+use Rattle.std.proofs.Common.{◌≡◌, ℕ, zero, suc, ◌+◌, ◌-◌, ◌<◌, ◌≤◌, min, ◌⊎◌, inl, inr, Bool, true, false, cond, not, ◌&&◌, List, [], ◌∷◌, length, map, take, drop, refl, sym, ap, subst, ◌∙◌, arith, nat_lt, Option, Some, None}
 use Rattle.std.specs.Prelude.{All}
 use Rattle.std.specs.List.{list_all, slice_index_or}
 use Rattle.std.proofs.lemmas.Bool.{cases_lt}
@@ -9,7 +9,7 @@ use Rattle.rapid_model.specs.Process.{Process, same_bytes}
 use Rattle.rapid_model.specs.Ring.{Observers}
 use Rattle.rapid_model.specs.Alert as model
 use Rattle.rapid_model.specs.Outbox.{Outbox, unflushed, flush}
-use Rattle.rapid_model.specs.Batch.{Batch, BatchFault, EmptyBatch, MixedAlerts, TooManyAlerts, is_alike, batch_fault, batch_of}
+use Rattle.rapid_model.specs.Batch.{Batch, BatchFault, MixedAlerts, TooManyAlerts, is_alike, batch_fault, batch_of}
 use Rattle.rapid_model.proofs.Orders.{same_bytes_decides}
 use Rattle.rapid_model.specs.Message.{AlertItem, batch_alerts, alert_of as read_as}
 use Rattle.rapid_alerts.specs.Alerts.{ListedAlerts, alert_of, alerts_in}
@@ -72,56 +72,37 @@ own_alike from id a (x ∷ xs) o c =
     (and (same_bytes from a.observer) _ ((same_bytes_decides from a.observer).1 (sym o)) ((same_bytes_decides id a.config).1 (sym c)))
     (own_alike from id a xs o c)
 
-fault_of_items : (from : Process) (id : List ℕ) (xs : List AlertItem) → batch_fault (batch_alerts from id xs) ≡ cond (nat_eq (length (batch_alerts from id xs)) 0) (Some EmptyBatch) (cond (nat_lt 2048 (length (batch_alerts from id xs))) (Some TooManyAlerts) None)
-fault_of_items from id [] = refl
-fault_of_items from id (x ∷ xs) =
-    ap (λ b. cond (nat_lt 2048 (length (batch_alerts from id (x ∷ xs)))) (Some TooManyAlerts) (cond (not b) (Some MixedAlerts) None))
-    (own_alike from id (read_as from id x) xs refl refl)
+-- alerts of one observer and one configuration that are some and not too many are a batch
+pub fits_when : (from : Process) (id : List ℕ) (xs : List AlertItem) → 1 ≤ length (batch_alerts from id xs) → length (batch_alerts from id xs) ≤ 2048 → batch_fault (batch_alerts from id xs) ≡ None
+fits_when from id [] some few = absurd (omega (arith, some))
+fits_when from id (x ∷ xs) some few =
+    let enough : nat_lt 2048 (length (batch_alerts from id (x ∷ xs))) ≡ false = grind (arith, few) in
+    let same = own_alike from id (read_as from id x) xs refl refl in
+    rw (enough, same) refl
 
--- why the alerts of a list are no batch
-pub listed_fault : (l : ListedAlerts) → batch_fault (alerts_in l) ≡ cond (nat_eq (length (alerts_in l)) 0) (Some EmptyBatch) (cond (nat_lt 2048 (length (alerts_in l))) (Some TooManyAlerts) None)
-listed_fault l = fault_of_items l.observer l.config l.items
+pub listed_fits : (l : ListedAlerts) → 1 ≤ length (alerts_in l) → length (alerts_in l) ≤ 2048 → batch_fault (alerts_in l) ≡ None
+listed_fits l some few = fits_when l.observer l.config l.items some few
 
 -- ---- what the alerts of a batch have in common
 
-abbrev Common : model.Alert → model.Alert → Type 0
-Common a x = (x.observer ≡ a.observer) × (x.config ≡ a.config)
-
-common : (a : model.Alert) (xs : List model.Alert) → list_all (is_alike a) xs ≡ true → All (Common a) xs
-common a [] h k d l = absurd (omega (arith, l))
-common a (x ∷ xs) h zero d l =
-    let p = both (is_alike a x) (list_all (is_alike a) xs) h in
+alike_parts : (a : Alert) (xs : List Alert) → list_all (λ y. is_alike (alert_of a) (alert_of y)) xs ≡ true → All (λ y. (y.observer ≡ a.observer) × (y.config ≡ a.config)) xs
+alike_parts a [] h k d l = absurd (omega (arith, l))
+alike_parts a (x ∷ xs) h zero d l =
+    let p = both (is_alike (alert_of a) (alert_of x)) (list_all (λ y. is_alike (alert_of a) (alert_of y)) xs) h in
     let q = both (same_bytes x.observer a.observer) (same_bytes x.config a.config) p.0 in
     ((same_bytes_decides x.observer a.observer).0 q.0, (same_bytes_decides x.config a.config).0 q.1)
-common a (x ∷ xs) h (suc k) d l = common a xs (both (is_alike a x) (list_all (is_alike a) xs) h).1 k d (omega (arith, l))
+alike_parts a (x ∷ xs) h (suc k) d l = alike_parts a xs (both (is_alike (alert_of a) (alert_of x)) (list_all (λ y. is_alike (alert_of a) (alert_of y)) xs) h).1 k d (omega (arith, l))
 
 -- the alerts of a batch have the observer and the configuration of the first
-pub common_first : (xs : List Alert) (d : Alert) (b : Batch) → map alert_of xs ≡ b → batch_fault b ≡ None → All (Common (alert_of (slice_index_or xs 0 d))) b
-common_first [] d b e h = absurd (none (ap batch_fault e ∙ h))
+pub alike_first : (xs : List Alert) (d : Alert) → batch_fault (map alert_of xs) ≡ None → All (λ y. (y.observer ≡ (slice_index_or xs 0 d).observer) × (y.config ≡ (slice_index_or xs 0 d).config)) xs
+alike_first [] d h k e l = absurd (omega (arith, l))
+alike_first (x ∷ xs) d h zero e l = (refl, refl)
+alike_first (x ∷ xs) d h (suc k) e l = alike_parts x xs (sym (all_mapped (alert_of x) xs) ∙ alike _ (list_all (is_alike (alert_of x)) (map alert_of xs)) h) k e (omega (arith, l))
   where
-    none : batch_fault [] ≡ None → ⊥
-    none f = cc
-common_first (x ∷ xs) d b e h = subst (All (Common (alert_of x))) e (first (ap batch_fault e ∙ h))
-  where
-    alike : (c l : Bool) → cond c (Some TooManyAlerts) (cond (not l) (Some MixedAlerts) None) ≡ None → l ≡ true
-    alike true l f = cc
+    alike : (c m : Bool) → cond c (Some TooManyAlerts) (cond (not m) (Some MixedAlerts) None) ≡ None → m ≡ true
+    alike true m f = cc
     alike false true f = refl
     alike false false f = cc
-
-    first : batch_fault (map alert_of (x ∷ xs)) ≡ None → All (Common (alert_of x)) (map alert_of (x ∷ xs))
-    first f zero d l = (refl, refl)
-    first f (suc k) d l = common (alert_of x) (map alert_of xs) (alike _ (list_all (is_alike (alert_of x)) (map alert_of xs)) f) k d (omega (arith, l))
-
--- each alert of a batch has the observer and the configuration of the first
-pub like_first : (xs : List Alert) (d : Alert) (i : ℕ) (a : Alert) → batch_fault (map alert_of xs) ≡ None → i < length xs → a ≡ get_or xs i a → Common (alert_of (slice_index_or xs 0 d)) (alert_of a)
-like_first xs d i a h l is =
-    let same = length_mapped xs in
-    subst (Common (alert_of (slice_index_or xs 0 d))) (mapped xs i a is l) (common_first xs d (map alert_of xs) refl h i (alert_of a) (omega (arith, l, same)))
-  where
-    mapped : (ys : List Alert) (k : ℕ) (x : Alert) → x ≡ get_or ys k x → k < length ys → get_or (map alert_of ys) k (alert_of x) ≡ alert_of x
-    mapped [] k x e m = absurd (omega (arith, m))
-    mapped (y ∷ ys) zero x e m = ap alert_of (sym e)
-    mapped (y ∷ ys) (suc k) x e m = mapped ys k x e (omega (arith, m))
 
 -- ---- stretches of an outbox
 

@@ -1,14 +1,13 @@
 -- Lists of alerts whose subjects stand at places.
 use Rattle.std.proofs.Common.{◌≡◌, ℕ, suc, zero, ◌+◌, ◌<◌, ◌≤◌, Bool, true, false, cond, not, ◌&&◌, List, [], ◌∷◌, ◌++◌, length, map, take, drop, get_or, refl, sym, ap, subst, ◌∙◌, arith, nat_eq, Some}
-use Rattle.std.specs.Prelude.{All, slice_get}
+use Rattle.std.specs.Prelude.{All, slice_get, Result, Ok, Err, OnErr}
 use Rattle.std.proofs.lemmas.Bool.{and_parts, eqb-true}
 use Rattle.std.proofs.lemmas.Cmp.{nat_eq_equiv}
-use Rattle.std.proofs.lemmas.Option.{slice_get_within, get_or_from_slice_get, slice_get-get_or}
+use Rattle.std.proofs.lemmas.Option.{slice_get_within, get_or_from_slice_get}
 use Rattle.std.proofs.lemmas.List.{take_more, take_all, map_push, length-map, length-append, get_or_append_left, get_or-drop, length-drop}
 use Rattle.std.proofs.lemmas.List.Elements.{All-append, All-from_recursion, All-map, All-weaker}
 use Rattle.rapid_model.specs.Process.{Process, same_bytes}
 use Rattle.rapid_model.specs.Alert as model
-use Rattle.rapid_model.specs.Batch.{batch_fault, is_alike}
 use Rattle.rapid_model.specs.Message.{AlertItem, item_of, batch_alerts, alert_of as read_as}
 use Rattle.rapid_model.proofs.Orders.{same_bytes_decides}
 use Rattle.rapid_alerts.specs.Alerts.{ListedAlerts, ArePlaced, alert_of, alerts_in, item_in, kind_of}
@@ -65,7 +64,20 @@ more_placed ss new xs x s g h at =
 pub listed_is : (observer config : List ℕ) {xs ys : List AlertItem} → xs ≡ ys → ◌≡◌ {A = ListedAlerts} (record { observer = observer; config = config; items = xs }) (record { observer = observer; config = config; items = ys })
 listed_is observer config e = ap (λ (xs : List AlertItem). let l : ListedAlerts = record { observer = observer; config = config; items = xs } in l) e
 
+-- what holds in any case holds after an error
+pub whenever : {X E P : Type 0} (r : Result X E) → P → OnErr r P
+whenever (Ok x) p = tt
+whenever (Err e) p = p
+
 -- ---- one alert of a list
+
+-- a place among the alerts is one among the items
+pub within_items : (ss : List Process) (xs : List Item) (at : ℕ) (l : ListedAlerts) → map (item_in ss) xs ≡ l.items → at < length (alerts_in l) → at < length xs
+within_items ss xs at l e h =
+    let whole = length-map l.items (read_as l.observer l.config) in
+    let same = ap length e in
+    let own = length-map xs (item_in ss) in
+    omega (arith, h, whole, same, own)
 
 slice_get_map : {A B : Type 0} (f : A → B) (xs : List A) (i : ℕ) (a : A) → slice_get xs i ≡ Some a → slice_get (map f xs) i ≡ Some (f a)
 slice_get_map f [] i a h = cc
@@ -142,6 +154,10 @@ parts_back E p q a b e =
 pub same_at : (xs ys : List model.Alert) (i : ℕ) (a b : model.Alert) → xs ≡ ys → slice_get xs i ≡ Some a → slice_get ys i ≡ Some b → a ≡ b
 same_at xs ys i a b e h k = let s : Some a ≡ Some b = sym h ∙ ap (λ l. slice_get l i) e ∙ k in cc
 
+pub held : (b : Bool) → not b ≡ false → b ≡ true
+held true e = refl
+held false e = let n : true ≡ false = e in cc
+
 -- ---- a stretch of a list
 
 -- one more of what stands behind the first ones
@@ -153,9 +169,6 @@ stretch_more xs from i a h =
     take_more (drop from xs) i a l ∙ ap (λ x. take i (drop from xs) ++ x ∷ []) (get_or-drop from xs i a ∙ get_or_from_slice_get xs (from + i) a a h)
 
 -- ---- batches
-
-pub length_listed : (l : ListedAlerts) → length (alerts_in l) ≡ length l.items
-length_listed l = length-map l.items (read_as l.observer l.config)
 
 -- the alerts of a list have its observer and its configuration
 pub of_observer : (l : ListedAlerts) → All (λ a. a.observer ≡ l.observer) (alerts_in l)

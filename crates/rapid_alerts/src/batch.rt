@@ -1,6 +1,6 @@
 // Batches: the alerts that go out together.
 
-ghost use Rattle.std.specs.Prelude.{◌≡◌, ◌≤◌, None, All, length, map, IfOk, IfErr, OnOk};
+ghost use Rattle.std.specs.Prelude.{◌≡◌, ◌≤◌, ◌++◌, None, All, length, map, IfOk, IfErr, OnOk};
 ghost use Rattle.std.specs.List.{list_all};
 ghost use Rattle.rapid_model.specs.Batch.{batch_fault, is_alike};
 ghost use Rattle.rapid_alerts.specs.Alerts.{alert_of, alerts_in};
@@ -63,19 +63,29 @@ fn fault(alerts: &[Alert]) -> Option<BatchError>
 }
 
 /// Why the alerts of a list are no batch.
+#[tactic(auto, using(crate::proofs::Batches::listed_fits))]
 fn list_fault(alerts: &AlertList) -> Option<BatchError>
     ensures { ReportsIfAny (batch_fault (alerts_in alerts.now)) result }
 {
-    match alerts.len() {
-        0 => Some(BatchError::EmptyBatch),
-        len => {
-            if Batch::MOST < len {
-                Some(BatchError::TooManyAlerts)
-            } else {
-                None
-            }
-        }
+    let count = alerts.len();
+    if count == 0 {
+        Some(BatchError::EmptyBatch)
+    } else if Batch::MOST < count {
+        Some(BatchError::TooManyAlerts)
+    } else {
+        None
     }
+}
+
+/// Adds alerts of a list's observer and configuration to it.
+fn push_all(list: &mut AlertList, alerts: &[Alert]) -> Result<(), AllocError>
+    requires { All (λ a. (a.observer ≡ list.old.observer) × (a.config ≡ list.old.config)) alerts.now }
+    ensures { OnOk result (alerts_in list.new ≡ alerts_in list.old ++ map alert_of alerts.now) }
+{
+    for alert in alerts {
+        list.push(&alert.subject, alert.ring, alert.kind)?;
+    }
+    Ok(())
 }
 
 /// A list of alerts that are a batch.
@@ -83,10 +93,9 @@ fn listed(alloc: Global, alerts: &[Alert]) -> Result<AlertList, AllocError>
     requires { batch_fault (map alert_of alerts.now) ≡ None }
     ensures { IfOk result (λ list. alerts_in list ≡ map alert_of alerts.now) }
 {
-    let mut list = AlertList::new(alloc, alerts[0].observer, alerts[0].config);
-    for alert in alerts {
-        list.push(&alert.subject, alert.ring, alert.kind)?;
-    }
+    let first = alerts[0];
+    let mut list = AlertList::new(alloc, first.observer, first.config);
+    push_all(&mut list, alerts)?;
     Ok(list)
 }
 

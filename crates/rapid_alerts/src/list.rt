@@ -58,10 +58,10 @@ fn is_at(subjects: &[Process], place: usize, subject: &Process) -> bool
 }
 
 /// The place of a subject, if it is this place or the next one.
-fn place_near(subjects: &[Process], near: usize, subject: &Process) -> Option<usize>
-    requires { near < 65536 }
+fn place_near(subjects: &[Process], near: u16, subject: &Process) -> Option<usize>
     ensures { IfSome result (λ place. slice_get subjects.now place ≡ Some subject.now) }
 {
+    let near = usize::from(near);
     if is_at(subjects, near, subject) {
         Some(near)
     } else if is_at(subjects, near + 1, subject) {
@@ -74,10 +74,9 @@ fn place_near(subjects: &[Process], near: usize, subject: &Process) -> Option<us
 /// The place of a subject, which is added unless it stands at this place or the next one.
 fn place_for(
     subjects: &mut Vec<Process>,
-    near: usize,
+    near: u16,
     subject: &Process,
 ) -> Result<usize, AllocError>
-    requires { near < 65536 }
     ensures place { IfOk result (λ place. slice_get subjects.new.items place ≡ Some subject.now) }
     ensures grows { Grows subjects.old.items subjects.new.items }
 {
@@ -105,11 +104,9 @@ impl AlertList {
     }
 
     /// The place of the last alert's subject.
-    fn last_place(&self) -> usize
-        ensures { result < 65536 }
-    {
+    fn last_place(&self) -> u16 {
         match self.items.last() {
-            Some(item) => usize::from(item.place),
+            Some(item) => item.place,
             None => 0,
         }
     }
