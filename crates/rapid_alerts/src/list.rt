@@ -72,11 +72,7 @@ fn place_near(subjects: &[Process], near: u16, subject: &Process) -> Option<usiz
 }
 
 /// The place of a subject, which is added unless it stands at this place or the next one.
-fn place_for(
-    subjects: &mut Vec<Process>,
-    near: u16,
-    subject: &Process,
-) -> Result<usize, AllocError>
+fn place_for(subjects: &mut Vec<Process>, near: u16, subject: &Process) -> Result<usize, AllocError>
     ensures place { IfOk result (λ place. slice_get subjects.new.items place ≡ Some subject.now) }
     ensures grows { Grows subjects.old.items subjects.new.items }
 {
@@ -191,7 +187,12 @@ impl AlertList {
     }
 
     /// This many alerts from a place on, in a list of their own.
-    pub(crate) fn part(&self, alloc: Global, from: usize, count: usize) -> Result<AlertList, AllocError>
+    pub(crate) fn part(
+        &self,
+        alloc: Global,
+        from: usize,
+        count: usize,
+    ) -> Result<AlertList, AllocError>
         requires { from + count ≤ length self.now.items }
         ensures { IfOk result (λ part. part ≡ record self.now { items = take count (drop from self.now.items) }) }
     {

@@ -22,6 +22,7 @@ pub trait InTurn {
 }
 
 /// Alerts of any observers and configurations, one by one.
+#[derive(Clone, Copy)]
 pub struct EachAlert<'a> {
     pub alerts: &'a [Alert],
 }

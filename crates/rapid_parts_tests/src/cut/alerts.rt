@@ -4,7 +4,7 @@ ghost use Rattle.std.specs.Prelude.{◌≡◌};
 
 use crate::cut::tables::{Start, table};
 use crate::numbered::process;
-use rapid_alerts::{Alert, Batch, BatchError, Kind, Outbox, RaiseError, Raising};
+use rapid_alerts::{Alert, AlertList, Batch, BatchError, Kind, Outbox, RaiseError, Raising};
 use rapid_config::{ConfigId, Params};
 use rapid_rings::Table;
 use std::alloc::{AllocError, Global};
@@ -260,6 +260,58 @@ fn refusal_of_none(alloc: Global) -> Option<BatchError> {
 fn a_batch_is_refused_by_the_first_reason(rt: HostRuntime) -> Result<(), Fail> {
     assert!(rt; refusal_of_none(rt.alloc()) == Some(BatchError::EmptyBatch));
     are_refused(rt.alloc(), &REFUSALS)
+}
+
+/// The alerts of process 1 that remove these processes, in a list.
+fn list_on(alloc: Global, subjects: &[u16]) -> Result<AlertList, AllocError> {
+    let mut list = AlertList::new(alloc, process(1), ConfigId::zero());
+    for subject in subjects {
+        list.push(&process(*subject), 0, Kind::Remove)?;
+    }
+    Ok(list)
+}
+
+/// The alert of a list at a place, if there is one.
+fn listed(list: &AlertList, at: usize) -> Option<Alert> {
+    if at < list.len() {
+        Some(list.alert(at))
+    } else {
+        None
+    }
+}
+
+/// Subjects that stand again: next to each other, and apart.
+const SUBJECTS: [u16; 8] = [5, 5, 6, 7, 5, 6, 5, 7];
+
+#[test]
+fn a_list_has_the_alerts_that_were_pushed(rt: HostRuntime) -> Result<(), Fail> {
+    let list = list_on(rt.alloc(), &SUBJECTS)?;
+    assert!(rt; list.len() == 8);
+    for (at, subject) in SUBJECTS.iter().enumerate() {
+        let expected = alert(Kind::Remove, 0, 1, *subject);
+        assert!(rt; listed(&list, at) == Some(expected), "at {at}");
+    }
+    Ok(())
+}
+
+#[test]
+fn lists_of_the_same_alerts_say_the_same(rt: HostRuntime) -> Result<(), Fail> {
+    let list = list_on(rt.alloc(), &SUBJECTS)?;
+    assert!(rt; list.says_same(&list_on(rt.alloc(), &SUBJECTS)?));
+    assert!(rt; !list.says_same(&list_on(rt.alloc(), &[5, 5, 6, 7, 5, 6, 5])?));
+    assert!(rt; !list.says_same(&list_on(rt.alloc(), &[5, 5, 6, 7, 5, 6, 5, 8])?));
+    Ok(())
+}
+
+#[test]
+fn a_list_is_a_batch_if_its_alerts_are(rt: HostRuntime) -> Result<(), Fail> {
+    let batch = Batch::of_list(rt.alloc(), list_on(rt.alloc(), &SUBJECTS)?)?;
+    assert!(rt; batch.alerts().len() == 8);
+    let none = Batch::of_list(rt.alloc(), list_on(rt.alloc(), &[])?);
+    assert!(rt; none.err() == Some(BatchError::EmptyBatch));
+    let many = Batch::of_list(rt.alloc(), list_on(rt.alloc(), &[5; 2049])?);
+    assert!(rt; many.err() == Some(BatchError::TooManyAlerts));
+    Ok(())
 }
 
 const RAISING: [(RaiseError, u8); 5] = [

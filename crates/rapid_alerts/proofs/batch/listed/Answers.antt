@@ -6,8 +6,8 @@ use Rattle.rapid_alerts.proofs.batch.listed.Goals as goal
 
 pub push_all-requires : goal.push_all-requires
 push_all-requires c k d m =
-    let h = alike_first c.args.alerts.now c.index-first.result.now c.requires k d m in
-    let first = sym c.index-first.ensures in
+    let h = alike_first c.args.alerts.now c.index-alerts-0.result c.requires k d m in
+    let first = sym c.index-alerts-0.ensures in
     let list = sym c.new-list.ensures in
     (h.0 ∙ ap (λ (x : Alert). x.observer) first ∙ ap (λ (l : ListedAlerts). l.observer) list, h.1 ∙ ap (λ (x : Alert). x.config) first ∙ ap (λ (l : ListedAlerts). l.config) list)
 

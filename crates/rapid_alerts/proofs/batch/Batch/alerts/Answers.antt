@@ -1,4 +1,4 @@
-use Rattle.std.proofs.Common.{◌≡◌, ◌≤◌, length, sym, subst}
+use Rattle.std.proofs.Common.{◌≤◌, length, sym, subst}
 use Rattle.std.specs.Arc.{arc_value}
 use Rattle.rapid_alerts.specs.Alerts.{ListedAlerts, alerts_in}
 use Rattle.rapid_alerts.proofs.Batches.{batch_some, batch_few}

@@ -1,4 +1,4 @@
-use Rattle.std.proofs.Common.{◌≡◌, [], ◌∷◌, ◌++◌, ap, sym, ◌∙◌}
+use Rattle.std.proofs.Common.{[], ◌∷◌, ◌++◌, ap, sym, ◌∙◌}
 use Rattle.rapid_model.specs.Message.{AlertItem}
 use Rattle.rapid_alerts.specs.Alerts.{ListedAlerts, kind_of}
 use Rattle.rapid_alerts.proofs.Listing.{listed_is, stretch_more}

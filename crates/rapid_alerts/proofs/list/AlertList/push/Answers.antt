@@ -1,4 +1,4 @@
-use Rattle.std.proofs.Common.{◌≡◌, [], ◌∷◌, ◌++◌, List, map, ap, sym, subst, ◌∙◌}
+use Rattle.std.proofs.Common.{[], ◌∷◌, ◌++◌, map, ap, sym, subst, ◌∙◌}
 use Rattle.rapid_model.specs.Message.{AlertItem}
 use Rattle.rapid_alerts.specs.Alerts.{ArePlaced, ListedAlerts, item_in, kind_of}
 use Rattle.rapid_alerts.specs.declared.list.Item.{Item}

@@ -1,4 +1,4 @@
-use Rattle.std.proofs.Common.{◌≡◌, not, refl, ap, sym, ◌∙◌}
+use Rattle.std.proofs.Common.{not, refl, ap, sym, ◌∙◌}
 use Rattle.rapid_alerts.specs.Alerts.{alert_of, alerts_in}
 use Rattle.rapid_alerts.specs.contracts.alert.KindPartialEq.TheImpl.{ghosts}
 use Rattle.rapid_alerts.proofs.Listing.{fronts_more, held, parts_back, same_at, same_parts}

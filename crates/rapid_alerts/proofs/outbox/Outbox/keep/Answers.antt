@@ -1,4 +1,4 @@
-use Rattle.std.proofs.Common.{◌≡◌, [], ◌∷◌, ◌++◌, List, ap, sym, ◌∙◌}
+use Rattle.std.proofs.Common.{[], ◌∷◌, ◌++◌, List, ap, sym, ◌∙◌}
 use Rattle.rapid_model.specs.Alert.{Alert}
 use Rattle.rapid_model.specs.Outbox.{Outbox}
 use Rattle.rapid_alerts.specs.Alerts.{ListedAlerts, alert_of, alerts_in}
