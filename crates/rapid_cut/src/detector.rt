@@ -8,7 +8,7 @@ ghost use Rattle.rapid_model.specs.Process.{Process as Bytes, is_in, process_cmp
 ghost use Rattle.rapid_model.specs.Ring.{AreObservers};
 ghost use Rattle.rapid_model.specs.Detector as detector;
 ghost use Rattle.rapid_model.specs.Detector.{empty_detector, after_batch, batch_cut};
-ghost use Rattle.rapid_alerts.specs.Alerts.{alert_of};
+ghost use Rattle.rapid_alerts.specs.Alerts.{alert_of, alerts_in};
 ghost use Rattle.rapid_cut.specs.Closing.{IsBetween, HaveCome, active as active_of};
 ghost use Rattle.rapid_cut.specs.Growing.{before};
 ghost use Rattle.rapid_cut.specs.Limits.{IsDetecting, IsKept, IsWithinLimits};
@@ -16,9 +16,10 @@ ghost use Rattle.rapid_cut.specs.Limits.{IsDetecting, IsKept, IsWithinLimits};
 use crate::ascending::ascending;
 use crate::closure::{active_with, close_grown, tally};
 use crate::growing::GrowingReports;
+use crate::in_turn::{EachAlert, InTurn};
 use crate::reports::KnownReports;
 use crate::taken::{Taken, take_all};
-use rapid_alerts::Alert;
+use rapid_alerts::{Alert, AlertList};
 use rapid_config::{ConfigError, Cut};
 use rapid_endpoint::Process;
 use rapid_rings::ObserverTable;
@@ -159,22 +160,22 @@ fn settle<T: ObserverTable>(
 }
 
 /// Takes a batch of alerts: the reports, those that have at least L, and the cut.
-fn take_batch<T: ObserverTable>(
+fn take_batch<T: ObserverTable, A: InTurn>(
     alloc: Global,
     table: &T,
     known: &mut GrowingReports,
     active: &mut Vec<Process>,
     joiners: usize,
-    alerts: &[Alert],
+    alerts: &A,
 ) -> Result<Advance, AllocError>
     requires detecting { IsDetecting (T.observers table.now) known.old.reports.direct known.old.reports.all }
     requires active { active.old.items ≡ active_of (T.observers table.now) known.old.reports.direct }
     requires joiners { joiners ≡ length (detector.joiners (T.observers table.now) known.old.reports.direct) }
-    ensures direct { OnOk result (known.new.reports.direct ≡ detector.with_alerts known.old.reports.direct (detector.taken (T.observers table.now) known.old.reports.direct (map alert_of alerts.now))) }
+    ensures direct { OnOk result (known.new.reports.direct ≡ detector.with_alerts known.old.reports.direct (detector.taken (T.observers table.now) known.old.reports.direct (A.alerts alerts.now))) }
     ensures known { IfOk result (λ advance. IsKept (T.observers table.now) known.new.reports.direct known.new.reports.all active.new.items advance.joiners (is_some advance.cut)) }
     ensures cut { IfOk result (λ advance. advance.cut ≡ model.cut_of (T.observers table.now) known.new.reports.direct) }
-    ensures count { IfOk result (λ advance. advance.count ≡ length (detector.taken (T.observers table.now) known.old.reports.direct (map alert_of alerts.now))) }
-    ensures bound { IfOk result (λ advance. advance.count ≤ length alerts.now) }
+    ensures count { IfOk result (λ advance. advance.count ≡ length (detector.taken (T.observers table.now) known.old.reports.direct (A.alerts alerts.now))) }
+    ensures bound { IfOk result (λ advance. advance.count ≤ length (A.alerts alerts.now)) }
     ensures active { OnErr result (active.new.items ≡ active.old.items) }
     ensures before { before known.new ≡ before known.old }
 {
@@ -246,10 +247,30 @@ impl<T: ObserverTable> Detector<T> {
     /// Takes a batch of alerts; the cut of all that were taken, at the first batch that has one.
     /// After that the detector is closed: it answers `None` and takes nothing. If out of memory the
     /// detector is as it was.
-    #[tactic(auto, unfolding(rapid_model::specs::Detector::after_batch, rapid_model::specs::Detector::batch_cut))]
     pub fn batch(&mut self, alerts: &[Alert]) -> Result<Option<Cut>, AllocError>
         ensures taken { OnOk result (self.new.detector ≡ after_batch (T.observers self.old.table) self.old.detector (map alert_of alerts.now)) }
         ensures cut { IfOk result (λ cut. cut ≡ batch_cut (T.observers self.old.table) self.old.detector (map alert_of alerts.now)) }
+        ensures table { self.new.table ≡ self.old.table }
+        ensures unchanged { OnErr result (self.new ≡ self.old) }
+    {
+        self.take(&EachAlert { alerts })
+    }
+
+    /// Takes the alerts of a list as [`Detector::batch`] takes a batch.
+    pub fn batch_of(&mut self, alerts: &AlertList) -> Result<Option<Cut>, AllocError>
+        ensures taken { OnOk result (self.new.detector ≡ after_batch (T.observers self.old.table) self.old.detector (alerts_in alerts.now)) }
+        ensures cut { IfOk result (λ cut. cut ≡ batch_cut (T.observers self.old.table) self.old.detector (alerts_in alerts.now)) }
+        ensures table { self.new.table ≡ self.old.table }
+        ensures unchanged { OnErr result (self.new ≡ self.old) }
+    {
+        self.take(alerts)
+    }
+
+    /// Takes alerts in turn, as one batch.
+    #[tactic(auto, unfolding(rapid_model::specs::Detector::after_batch, rapid_model::specs::Detector::batch_cut))]
+    fn take<A: InTurn>(&mut self, alerts: &A) -> Result<Option<Cut>, AllocError>
+        ensures taken { OnOk result (self.new.detector ≡ after_batch (T.observers self.old.table) self.old.detector (A.alerts alerts.now)) }
+        ensures cut { IfOk result (λ cut. cut ≡ batch_cut (T.observers self.old.table) self.old.detector (A.alerts alerts.now)) }
         ensures table { self.new.table ≡ self.old.table }
         ensures unchanged { OnErr result (self.new ≡ self.old) }
     {
@@ -269,7 +290,7 @@ impl<T: ObserverTable> Detector<T> {
             Ok(advance) => {
                 self.known.keep();
                 self.joiners = advance.joiners;
-                self.skipped = alerts.len() - advance.count;
+                self.skipped = alerts.count() - advance.count;
                 self.closed = advance.cut.is_some();
                 Ok(advance.cut)
             }

@@ -8,6 +8,7 @@ mod ascending;
 mod closure;
 mod detector;
 mod growing;
+mod in_turn;
 mod mask;
 mod reports;
 mod subject_key;

@@ -1,6 +1,6 @@
 // The alerts that are taken.
 
-ghost use Rattle.std.specs.Prelude.{◌≡◌, ◌≤◌, ◌<◌, ℕ, true, not, ◌&&◌, ◌||◌, ◌∷◌, [], ◌++◌, map, length, count_by, nat_le, IfOk, OnOk, if◌then◌else◌};
+ghost use Rattle.std.specs.Prelude.{◌≡◌, ◌≤◌, ◌<◌, ℕ, true, not, ◌&&◌, ◌||◌, ◌∷◌, [], ◌++◌, length, count_by, nat_le, IfOk, OnOk, if◌then◌else◌};
 ghost use Rattle.std.specs.FinSet as set;
 ghost use Rattle.rapid_model.specs.Alert as model;
 ghost use Rattle.rapid_model.specs.Process.{is_in};
@@ -14,6 +14,7 @@ ghost use Rattle.rapid_cut.specs.Masks.{has_ring};
 
 use crate::closure::is_low;
 use crate::growing::GrowingReports;
+use crate::in_turn::InTurn;
 use crate::mask::{Masks, bit, has_any, has_bit, with};
 use crate::reports::KnownReports;
 use rapid_alerts::{Alert, Kind};
@@ -196,21 +197,21 @@ pub struct Taken {
 }
 
 /// Takes the alerts of a batch after these reports.
-pub fn take_all<T: ObserverTable>(
+pub fn take_all<T: ObserverTable, A: InTurn>(
     alloc: Global,
     table: &T,
     known: &mut GrowingReports,
     joiners: usize,
-    alerts: &[Alert],
+    alerts: &A,
 ) -> Result<Taken, AllocError>
     requires joiners { joiners ≡ length (detector.joiners (T.observers table.now) known.old.reports.direct) }
     requires limits { IsWithinLimits (T.observers table.now) known.old.reports.direct }
     requires known { Includes known.old.reports.all known.old.reports.direct }
-    ensures direct { OnOk result (known.new.reports.direct ≡ detector.with_alerts known.old.reports.direct (detector.taken (T.observers table.now) known.old.reports.direct (map alert_of alerts.now))) }
-    ensures all { OnOk result (known.new.reports.all ≡ detector.with_alerts known.old.reports.all (detector.taken (T.observers table.now) known.old.reports.direct (map alert_of alerts.now))) }
+    ensures direct { OnOk result (known.new.reports.direct ≡ detector.with_alerts known.old.reports.direct (detector.taken (T.observers table.now) known.old.reports.direct (A.alerts alerts.now))) }
+    ensures all { OnOk result (known.new.reports.all ≡ detector.with_alerts known.old.reports.all (detector.taken (T.observers table.now) known.old.reports.direct (A.alerts alerts.now))) }
     ensures joiners { IfOk result (λ taken. taken.joiners ≡ length (detector.joiners (T.observers table.now) known.new.reports.direct)) }
-    ensures count { IfOk result (λ taken. taken.count ≡ length (detector.taken (T.observers table.now) known.old.reports.direct (map alert_of alerts.now))) }
-    ensures bound { IfOk result (λ taken. taken.count ≤ length alerts.now) }
+    ensures count { IfOk result (λ taken. taken.count ≡ length (detector.taken (T.observers table.now) known.old.reports.direct (A.alerts alerts.now))) }
+    ensures bound { IfOk result (λ taken. taken.count ≤ length (A.alerts alerts.now)) }
     ensures limits { OnOk result (IsWithinLimits (T.observers table.now) known.new.reports.direct) }
     ensures grown { IfOk result (λ taken. HaveGrown (T.observers table.now) known.old.reports.direct known.new.reports.direct taken.grown.items) }
     ensures before { before known.new ≡ before known.old }
@@ -218,8 +219,9 @@ pub fn take_all<T: ObserverTable>(
     let mut joiners = joiners;
     let mut count = 0;
     let mut grown = Vec::new(alloc);
-    for alert in alerts {
-        if take(table, known, &mut joiners, &mut grown, alert)? {
+    for place in 0..alerts.count() {
+        let alert = alerts.at(place);
+        if take(table, known, &mut joiners, &mut grown, &alert)? {
             count += 1;
         }
     }
