@@ -195,7 +195,7 @@ fn take<T: ObserverTable>(
 
 /// What is known of the alerts that are taken of a batch.
 #[derive(Debug, Drop)]
-pub struct Taken {
+pub struct TakenAlerts {
     /// How many joiners are reported on.
     pub joiners: usize,
     /// How many alerts are taken.
@@ -212,7 +212,7 @@ pub fn take_all<T: ObserverTable>(
     known: &mut GrowingReports,
     joiners: usize,
     alerts: &[Alert],
-) -> Result<Taken, AllocError>
+) -> Result<TakenAlerts, AllocError>
     requires joiners { joiners ≡ length (detector.joiners (T.observers table.now) known.old.reports.direct) }
     requires limits { IsWithinLimits (T.observers table.now) known.old.reports.direct }
     requires kept { AreKept (T.observers table.now) kept.old.places.entries kept.old.observers.items }
@@ -235,7 +235,7 @@ pub fn take_all<T: ObserverTable>(
             count += 1;
         }
     }
-    Ok(Taken {
+    Ok(TakenAlerts {
         joiners,
         count,
         grown,

@@ -15,7 +15,7 @@ ghost use Rattle.rapid_world.specs.Windows.{packets_in};
 use crate::mail::Mail;
 use crate::peer::Peer;
 use crate::sending::Sending;
-use crate::taken::{Taken, Told};
+use crate::taken::{StepTaken, Told};
 use rapid_config::ConfigId;
 use rapid_endpoint::Process;
 use rapid_node::{Event, Views};
@@ -52,7 +52,7 @@ fn speak(
 {
     mail.reserve()?;
     let first = mail.sent();
-    let Taken { told, sending } = peer.take(alloc, views, event, first)?;
+    let StepTaken { told, sending } = peer.take(alloc, views, event, first)?;
     post(mail, sending);
     Ok(told)
 }

@@ -31,12 +31,12 @@ use std::marker::Model;
 use std::ops::Bound;
 
 /// How many views nodes share at a time.
-const MOST_VIEWS: usize = 8;
+const SHARED_VIEWS: usize = 8;
 
 /// All that ever started, in order. Each is found by its identifier and, while it runs, by its
 /// endpoint. Their nodes share the views that they enter.
 #[derive(Drop)]
-pub(crate) struct Peers {
+pub(crate) struct Nodes {
     peers: Vec<Peer>,
     by_id: PlacesById,
     // of those at one endpoint the last that started
@@ -45,7 +45,7 @@ pub(crate) struct Peers {
     alloc: Global,
 }
 
-impl Model for Peers {
+impl Model for Nodes {
     ghost use Rattle.std.specs.Prelude.{List};
     ghost use Rattle.std.specs.Coded.{coded_list};
     ghost use Rattle.rapid_model.specs.World.{Peer as ModelPeer};
@@ -61,17 +61,17 @@ impl Model for Peers {
     ghost invariant = { λ p. AreFound p.by_id p.by_endpoint p.peers.items };
 }
 
-impl Peers {
+impl Nodes {
     /// No peer.
     #[tactic(auto, using(crate::proofs::Finding::none_found))]
-    pub(crate) fn new(alloc: Global) -> Peers
+    pub(crate) fn new(alloc: Global) -> Nodes
         ensures { result ≡ [] }
     {
-        Peers {
+        Nodes {
             peers: Vec::new(alloc),
             by_id: PlacesById::new(alloc),
             by_endpoint: PlacesByEndpoint::new(alloc),
-            views: Views::new(alloc, MOST_VIEWS),
+            views: Views::new(alloc, SHARED_VIEWS),
             alloc,
         }
     }

@@ -22,7 +22,7 @@ ghost use Rattle.rapid_world.specs.Worlds.{IsRunOf};
 use crate::mail::{Mail, push_within};
 use crate::outcome::{has_outcome, is_marked};
 use crate::peer::Peer;
-use crate::peers::Peers;
+use crate::peers::Nodes;
 use crate::report::Report;
 use crate::{WorldError, WorldEvent};
 use rapid_config::{ConfigId, Configuration};
@@ -40,7 +40,7 @@ pub struct World {
     founding: Configuration,
     // all events that it accepted, with their marks
     events: Vec<(WorldEvent, bool)>,
-    peers: Peers,
+    peers: Nodes,
     mail: Mail,
     alloc: Global,
 }
@@ -67,7 +67,7 @@ impl World {
     pub const MOST_EVENTS: usize = 1_000_000;
 
     /// The world of these parts.
-    pub(crate) fn of(alloc: Global, founding: Configuration, peers: Peers) -> World
+    pub(crate) fn of(alloc: Global, founding: Configuration, peers: Nodes) -> World
         requires { IsRunOf (new_world founding) peers [] }
         ensures { result ≡ new_world founding }
     {
@@ -94,7 +94,7 @@ impl World {
     }
 
     /// All that ever started, in order.
-    pub(crate) fn peers(&self) -> &Peers
+    pub(crate) fn peers(&self) -> &Nodes
         ensures { result.now ≡ (world_of self.now).peers }
     {
         &self.peers

@@ -11,7 +11,7 @@ use Rattle.rapid_model.specs.WorldStep.{edge_on}
 use Rattle.rapid_world.specs.Found.{AreFound}
 use Rattle.rapid_world.specs.Handed.{told, KeepsAt}
 use Rattle.rapid_world.proofs.Finding.{read_at, at_inside, put_back, told_found}
-use Rattle.rapid_world.proofs.peers.Peers.probe.Goals as goal
+use Rattle.rapid_world.proofs.peers.Nodes.probe.Goals as goal
 
 pub index_mut-requires : goal.index_mut-requires
 index_mut-requires c =
