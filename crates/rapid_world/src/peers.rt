@@ -194,20 +194,19 @@ impl Nodes {
         Ok(told)
     }
 
-    /// The one at a place has a further result of a probe of its edge to a process; if the edge is
-    /// down, its node is told.
+    /// The one at a place has a further result of a probe of whom it observes on a ring, in this
+    /// configuration. If the edge is down, its node is told.
     pub(crate) fn probe(
         &mut self,
         place: usize,
         ring: u8,
         ok: bool,
-        config: ConfigId,
-        subject: Process,
+        observed: (ConfigId, Process),
     ) -> Result<Told, AllocError>
-        requires { ProbesAt self.old place ring ok (EdgeDown config ring subject) }
-        ensures peers { (p : ModelPeer) → slice_get self.old place ≡ Some p → IfOk result (λ news. self.new ≡ slice_set self.old place (told p ring ok (EdgeDown config ring subject) news.halts).peer) }
-        ensures packets { (p : ModelPeer) → slice_get self.old place ≡ Some p → IfOk result (λ news. (told p ring ok (EdgeDown config ring subject) news.halts).packets ≡ []) }
-        ensures reports { (p : ModelPeer) → slice_get self.old place ≡ Some p → IfOk result (λ news. option_to_list (option_map report_of news.report) ≡ (told p ring ok (EdgeDown config ring subject) news.halts).reports) }
+        requires { ProbesAt self.old place ring ok (EdgeDown observed.0 ring observed.1) }
+        ensures peers { (p : ModelPeer) → slice_get self.old place ≡ Some p → IfOk result (λ news. self.new ≡ slice_set self.old place (told p ring ok (EdgeDown observed.0 ring observed.1) news.halts).peer) }
+        ensures packets { (p : ModelPeer) → slice_get self.old place ≡ Some p → IfOk result (λ news. (told p ring ok (EdgeDown observed.0 ring observed.1) news.halts).packets ≡ []) }
+        ensures reports { (p : ModelPeer) → slice_get self.old place ≡ Some p → IfOk result (λ news. option_to_list (option_map report_of news.report) ≡ (told p ring ok (EdgeDown observed.0 ring observed.1) news.halts).reports) }
         ensures quiet { (p : ModelPeer) → slice_get self.old place ≡ Some p → IfOk result (λ news. (probed (edge_on p.edges ring) ok).is_down ≡ false → news.halts ≡ false) }
         ensures unchanged { OnErr result (self.new ≡ self.old) }
     {
@@ -217,8 +216,7 @@ impl Nodes {
             &mut self.peers[place],
             ring,
             ok,
-            config,
-            subject,
+            observed,
         )?;
         Ok(told)
     }

@@ -197,24 +197,23 @@ impl World {
         Ok(Vec::new(self.alloc))
     }
 
-    /// The node at a place has a result of a probe of its edge to a process by this event, which is
-    /// stored with its mark.
+    /// The node at a place has a result of a probe of whom it observes on a ring by this event, which
+    /// is stored with its mark.
     pub(crate) fn probe_at(
         &mut self,
         event: WorldEvent,
         place: usize,
         ring: u8,
         ok: bool,
-        config: ConfigId,
-        subject: Process,
+        observed: (ConfigId, Process),
     ) -> Result<Vec<Report>, AllocError>
-        requires { (p : ModelPeer) × Probes self.old (event_of event) place p ring ok (EdgeDown config ring subject) }
+        requires { (p : ModelPeer) × Probes self.old (event_of event) place p ring ok (EdgeDown observed.0 ring observed.1) }
         ensures stored { IfOk result (λ reports. StoresEvent self.old self.new (event_of event) (map report_of reports.items)) }
         ensures unchanged { OnErr result (self.new ≡ self.old) }
     {
         self.events.reserve(1)?;
         let reports = Vec::with_capacity(self.alloc, 1)?;
-        let told = self.peers.probe(place, ring, ok, config, subject)?;
+        let told = self.peers.probe(place, ring, ok, observed)?;
         push_within(&mut self.events, (event, told.halts));
         Ok(with_report(reports, told.report))
     }
