@@ -18,7 +18,7 @@ use crate::closure::{active_with, close_grown, tally};
 use crate::growing::GrowingReports;
 use crate::in_turn::{EachAlert, InTurn};
 use crate::reports::KnownReports;
-use crate::taken::{Taken, take_all};
+use crate::taken::{TakenAlerts, take_all};
 use rapid_alerts::{Alert, AlertList};
 use rapid_config::{ConfigError, Cut};
 use rapid_endpoint::Process;
@@ -179,7 +179,7 @@ fn take_batch<T: ObserverTable, A: InTurn>(
     ensures active { OnErr result (active.new.items ≡ active.old.items) }
     ensures before { before known.new ≡ before known.old }
 {
-    let Taken {
+    let TakenAlerts {
         joiners,
         count,
         grown,

@@ -187,7 +187,7 @@ fn take<T: ObserverTable>(
 
 /// What is known of the alerts that are taken of a batch.
 #[derive(Debug, Drop)]
-pub struct Taken {
+pub struct TakenAlerts {
     /// How many joiners are reported on.
     pub joiners: usize,
     /// How many alerts are taken.
@@ -203,7 +203,7 @@ pub fn take_all<T: ObserverTable, A: InTurn>(
     known: &mut GrowingReports,
     joiners: usize,
     alerts: &A,
-) -> Result<Taken, AllocError>
+) -> Result<TakenAlerts, AllocError>
     requires joiners { joiners ≡ length (detector.joiners (T.observers table.now) known.old.reports.direct) }
     requires limits { IsWithinLimits (T.observers table.now) known.old.reports.direct }
     requires known { Includes known.old.reports.all known.old.reports.direct }
@@ -225,7 +225,7 @@ pub fn take_all<T: ObserverTable, A: InTurn>(
             count += 1;
         }
     }
-    Ok(Taken {
+    Ok(TakenAlerts {
         joiners,
         count,
         grown,

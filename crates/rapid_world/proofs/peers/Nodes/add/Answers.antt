@@ -2,7 +2,7 @@ use Rattle.std.proofs.Common.{ap, ◌∙◌}
 use Rattle.rapid_model.specs.Node.{Node}
 use Rattle.rapid_model.specs.Process.{identifier, endpoint}
 use Rattle.rapid_world.proofs.Finding.{indexed_more, added_more}
-use Rattle.rapid_world.proofs.peers.Peers.add.Goals as goal
+use Rattle.rapid_world.proofs.peers.Nodes.add.Goals as goal
 
 pub invariant_of-self-in_err-insert-2 : goal.invariant_of-self-in_err-insert-2
 invariant_of-self-in_err-insert-2 c =

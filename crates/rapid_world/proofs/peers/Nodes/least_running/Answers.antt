@@ -4,7 +4,7 @@ use Rattle.std.specs.List.{find}
 use Rattle.rapid_model.specs.World.{Peer}
 use Rattle.rapid_world.specs.Found.{AreFound, runs}
 use Rattle.rapid_world.proofs.Next.{least_runs, passed, stopped, ended}
-use Rattle.rapid_world.proofs.peers.Peers.least_running.Goals as goal
+use Rattle.rapid_world.proofs.peers.Nodes.least_running.Goals as goal
 
 pub loop-id-preserved : goal.loop-id-preserved
 loop-id-preserved c =

@@ -3,7 +3,7 @@ use Rattle.std.specs.Prelude.{slice_set}
 use Rattle.rapid_model.specs.World.{Peer}
 use Rattle.rapid_world.proofs.Cases.{stands_read}
 use Rattle.rapid_world.proofs.Finding.{read_at, crashed_found}
-use Rattle.rapid_world.proofs.peers.Peers.crash.Goals as goal
+use Rattle.rapid_world.proofs.peers.Nodes.crash.Goals as goal
 
 pub index_mut-requires : goal.index_mut-requires
 index_mut-requires c =

@@ -9,7 +9,7 @@ use Rattle.rapid_world.specs.Found.{AreFound}
 use Rattle.rapid_world.specs.Framed.{framed_packet, HasFrame}
 use Rattle.rapid_world.specs.Handed.{handed, KeepsAt}
 use Rattle.rapid_world.proofs.Finding.{read_at, at_inside, put_back, handed_found}
-use Rattle.rapid_world.proofs.peers.Peers.hand.Goals as goal
+use Rattle.rapid_world.proofs.peers.Nodes.hand.Goals as goal
 
 pub index_mut-requires : goal.index_mut-requires
 index_mut-requires c =

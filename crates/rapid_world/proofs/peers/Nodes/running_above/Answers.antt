@@ -6,7 +6,7 @@ use Rattle.rapid_model.specs.Process.{bytes_cmp}
 use Rattle.rapid_model.specs.World.{Peer}
 use Rattle.rapid_world.specs.Found.{AreFound, runs}
 use Rattle.rapid_world.proofs.Next.{above_runs, passed, stopped, ended}
-use Rattle.rapid_world.proofs.peers.Peers.running_above.Goals as goal
+use Rattle.rapid_world.proofs.peers.Nodes.running_above.Goals as goal
 
 pub loop-id-preserved : goal.loop-id-preserved
 loop-id-preserved c =

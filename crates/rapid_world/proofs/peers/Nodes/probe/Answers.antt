@@ -11,7 +11,7 @@ use Rattle.rapid_model.specs.WorldStep.{edge_on}
 use Rattle.rapid_world.specs.Found.{AreFound}
 use Rattle.rapid_world.specs.Handed.{told, KeepsAt}
 use Rattle.rapid_world.proofs.Finding.{read_at, at_inside, put_back, told_found}
-use Rattle.rapid_world.proofs.peers.Peers.probe.Goals as goal
+use Rattle.rapid_world.proofs.peers.Nodes.probe.Goals as goal
 
 pub index_mut-requires : goal.index_mut-requires
 index_mut-requires c =
@@ -36,29 +36,29 @@ probe-requires-clause-edge c =
 pub probe-requires-clause-keeps : goal.probe-requires-clause-keeps
 probe-requires-clause-keeps c =
     let is = read_at _ _ _ _ _ c.self.view_is c.requires.at c.index_mut.ensures.value in
-    subst (λ (p : Peer). (probed (edge_on p.edges c.args.ring) c.args.ok).is_down ≡ true → KeepsAt p.node (EdgeDown c.args.config c.args.ring c.args.subject)) (sym is) c.requires.keeps
+    subst (λ (p : Peer). (probed (edge_on p.edges c.args.ring) c.args.ok).is_down ≡ true → KeepsAt p.node (EdgeDown c.args.observed.0 c.args.ring c.args.observed.1)) (sym is) c.requires.keeps
 
 pub invariant_of-self-2 : goal.invariant_of-self-2
 invariant_of-self-2 c =
     let is = read_at _ _ _ _ _ c.self.view_is c.requires.at c.index_mut.ensures.value in
-    told_found _ _ _ _ c.requires.peer _ c.args.ring c.args.ok (EdgeDown c.args.config c.args.ring c.args.subject) c.in_ok-told.told.halts c.self.invariant (at_inside _ _ _ _ c.self.view_is c.requires.at) c.requires.up c.requires.keeps
-    (c.in_ok-told.ensures.peer ∙ ap (λ (p : Peer). (told p c.args.ring c.args.ok (EdgeDown c.args.config c.args.ring c.args.subject) c.in_ok-told.told.halts).peer) is)
+    told_found _ _ _ _ c.requires.peer _ c.args.ring c.args.ok (EdgeDown c.args.observed.0 c.args.ring c.args.observed.1) c.in_ok-told.told.halts c.self.invariant (at_inside _ _ _ _ c.self.view_is c.requires.at) c.requires.up c.requires.keeps
+    (c.in_ok-told.ensures.peer ∙ ap (λ (p : Peer). (told p c.args.ring c.args.ok (EdgeDown c.args.observed.0 c.args.ring c.args.observed.1) c.in_ok-told.told.halts).peer) is)
 
 pub returns-clause-peers : goal.returns-clause-peers
 returns-clause-peers c = λ p at.
     let is = read_at _ _ _ _ _ c.self.view_is at c.index_mut.ensures.value in
     ap (λ (l : List Peer). slice_set l c.args.place c.probe.new.peer) c.self.view_is
-    ∙ ap (slice_set c.args.self.now c.args.place) (c.in_ok-told.ensures.peer ∙ ap (λ (q : Peer). (told q c.args.ring c.args.ok (EdgeDown c.args.config c.args.ring c.args.subject) c.in_ok-told.told.halts).peer) is)
+    ∙ ap (slice_set c.args.self.now c.args.place) (c.in_ok-told.ensures.peer ∙ ap (λ (q : Peer). (told q c.args.ring c.args.ok (EdgeDown c.args.observed.0 c.args.ring c.args.observed.1) c.in_ok-told.told.halts).peer) is)
 
 pub returns-clause-packets : goal.returns-clause-packets
 returns-clause-packets c = λ p at.
     let is = read_at _ _ _ _ _ c.self.view_is at c.index_mut.ensures.value in
-    sym (ap (λ (q : Peer). (told q c.args.ring c.args.ok (EdgeDown c.args.config c.args.ring c.args.subject) c.in_ok-told.told.halts).packets) is) ∙ c.in_ok-told.ensures.packets
+    sym (ap (λ (q : Peer). (told q c.args.ring c.args.ok (EdgeDown c.args.observed.0 c.args.ring c.args.observed.1) c.in_ok-told.told.halts).packets) is) ∙ c.in_ok-told.ensures.packets
 
 pub returns-clause-reports : goal.returns-clause-reports
 returns-clause-reports c = λ p at.
     let is = read_at _ _ _ _ _ c.self.view_is at c.index_mut.ensures.value in
-    c.in_ok-told.ensures.reports ∙ ap (λ (q : Peer). (told q c.args.ring c.args.ok (EdgeDown c.args.config c.args.ring c.args.subject) c.in_ok-told.told.halts).reports) is
+    c.in_ok-told.ensures.reports ∙ ap (λ (q : Peer). (told q c.args.ring c.args.ok (EdgeDown c.args.observed.0 c.args.ring c.args.observed.1) c.in_ok-told.told.halts).reports) is
 
 pub returns-clause-quiet : goal.returns-clause-quiet
 returns-clause-quiet c = λ p at up.
