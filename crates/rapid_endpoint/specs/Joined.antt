@@ -1,5 +1,5 @@
 -- Byte strings made of two parts: how the parts are got back, and how such strings compare.
-use Rattle.std.proofs.Common.{◌≡◌, ℕ, ◌<◌, ◌+◌, ◌*◌, ◌/◌, ◌%◌, ◌^◌, Bool, true, false, ◌&&◌, nat_eq, length-append, List, [], ◌∷◌, ◌++◌, length, take, drop, refl, ap, subst, sym, ◌∙◌, arith}
+use Rattle.std.proofs.Common.{◌≡◌, ℕ, ◌<◌, ◌+◌, ◌*◌, ◌/◌, ◌%◌, ◌^◌, Bool, true, false, ◌&&◌, nat_eq, length-append, List, [], ◌∷◌, ◌++◌, length, take, drop, append_assoc, refl, ap, subst, sym, ◌∙◌, arith}
 use Rattle.std.specs.declared.cmp.Ordering.{Ordering}
 use Rattle.std.specs.declared.cmp.Ordering.TheVariants.{Less, Equal, Greater}
 use Rattle.std.specs.Ordering.{ordering_then, nat_cmp, is_eq}
@@ -94,10 +94,18 @@ same_endpoints a b p q e f h k =
     ap is_eq (cmp_endpoints a b p q e f h k) ∙ then_is_eq (bytes_cmp a b) (nat_cmp p q)
     ∙ sym (λ i. texts_ties a b i && unsigned_ties p q i)
 
--- The identifier is the first part of a process, and the endpoint is the second.
-pub endpoint_part : (id place : List ℕ) → length id ≡ 16 → length (id ++ place) ≡ 22 → endpoint (id ++ place) ≡ place
-endpoint_part id place e f =
-    ap (take 6) (second_part 16 id place e) ∙ take_all 6 place (omega (arith, length-append id place))
+-- A process is three parts: the identifier, the endpoint, and the tags.
+pub middle_part : (id place tags : List ℕ) → length id ≡ 16 → length place ≡ 6 → take 6 (drop 16 (id ++ (place ++ tags))) ≡ place
+middle_part id place tags e f = ap (take 6) (second_part 16 id (place ++ tags) e) ∙ first_part 6 place tags f
+
+pub last_part : (id place tags : List ℕ) → length id ≡ 16 → length place ≡ 6 → drop 6 (drop 16 (id ++ (place ++ tags))) ≡ tags
+last_part id place tags e f = ap (drop 6) (second_part 16 id (place ++ tags) e) ∙ second_part 6 place tags f
+
+-- The first two parts are the 22 bytes.
+pub key_part : (id place tags : List ℕ) → length id ≡ 16 → length place ≡ 6 → take 22 (id ++ (place ++ tags)) ≡ id ++ place
+key_part id place tags e f =
+    ap (take 22) (sym (append_assoc id place tags))
+    ∙ first_part 22 (id ++ place) tags (omega (arith, e, f, length-append id place))
 
 -- The answer of `a && b`, if a is true.
 pub and_then_second : (a b c : Bool) → a ≡ b → a ≡ true → c ≡ (b && c)

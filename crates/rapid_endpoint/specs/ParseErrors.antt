@@ -2,7 +2,7 @@
 -- The numbers of the errors.
 use Rattle.std.specs.Prelude.{ℕ}
 use Rattle.rapid_endpoint.specs.declared.parse_error.ParseError.{ParseError}
-use Rattle.rapid_endpoint.specs.declared.parse_error.ParseError.TheVariants.{NotFourParts, PartRange, BadPort, BadIdentifier}
+use Rattle.rapid_endpoint.specs.declared.parse_error.ParseError.TheVariants.{NotFourParts, PartRange, BadPort, BadIdentifier, BadTag, TooManyTags, TagsNotSorted}
 use Rattle.rapid_model.specs.EndpointText as text
 
 -- The number of an error.
@@ -11,6 +11,9 @@ code_of NotFourParts = 1
 code_of PartRange = 2
 code_of BadPort = 3
 code_of BadIdentifier = 4
+code_of BadTag = 5
+code_of TooManyTags = 6
+code_of TagsNotSorted = 7
 
 -- The error that says why a text is no endpoint.
 abbrev pub error_of : text.EndpointFault → ParseError

@@ -5,7 +5,7 @@ ghost use Rattle.rapid_endpoint.specs.ParseErrors.{code_of};
 
 use thiserror::Error;
 
-/// Why a text is no endpoint, or no identifier.
+/// Why a text is no endpoint, or no identifier, or why a process cannot have tags.
 #[derive(Clone, Copy, Debug, PartialEq, Eq, Error)]
 pub enum ParseError {
     /// The host has not exactly four parts between dots.
@@ -20,10 +20,20 @@ pub enum ParseError {
     /// The text is no UUID.
     #[error("the identifier is no UUID")]
     BadIdentifier,
+    /// A tag has not 1 to 64 bytes, or one that is not printed, or `,`, `[` or `]`.
+    #[error("a tag has not 1 to 64 printed bytes other than , [ and ]")]
+    BadTag,
+    /// There are more than eight tags.
+    #[error("there are more than 8 tags")]
+    TooManyTags,
+    /// A tag is not above the one before.
+    #[error("the tags do not ascend")]
+    TagsNotSorted,
 }
 
 impl ParseError {
-    /// The number of the error: 1 `NotFourParts`, 2 `PartRange`, 3 `BadPort`, 4 `BadIdentifier`.
+    /// The number of the error: 1 `NotFourParts`, 2 `PartRange`, 3 `BadPort`, 4 `BadIdentifier`,
+    /// 5 `BadTag`, 6 `TooManyTags`, 7 `TagsNotSorted`.
     pub fn code(&self) -> u8
         ensures { result ≡ code_of self.now }
     {
@@ -32,6 +42,9 @@ impl ParseError {
             ParseError::PartRange => 2,
             ParseError::BadPort => 3,
             ParseError::BadIdentifier => 4,
+            ParseError::BadTag => 5,
+            ParseError::TooManyTags => 6,
+            ParseError::TagsNotSorted => 7,
         }
     }
 }

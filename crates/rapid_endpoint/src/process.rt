@@ -1,22 +1,33 @@
 // Processes.
 
-ghost use Rattle.std.specs.Prelude.{◌≡◌, ◌<◌, ◌↔◌, ◌++◌, length, take, drop, IfSome, IsNone};
+ghost use Rattle.std.specs.Prelude.{◌≡◌, ◌<◌, ◌+◌, ℕ, List, [], ◌++◌, length, take, drop, Some, None, IfSome, IsNone, IfOk, IfErr, OnOk, ◌↔◌};
 ghost use Rattle.std.specs.Ordering.{as_partial_cmp};
 ghost use Rattle.std.specs.Cmp.{partial_equiv_from_equiv, partial_order_from_total};
 ghost use Rattle.std.proofs.lemmas.Cmp.{nat_list_cmp_total, eq_by_cmp_equiv};
 ghost use Rattle.std.proofs.Common.{refl};
-ghost use Rattle.rapid_model.specs.Process.{IsProcess, identifier, endpoint, process_cmp, same_bytes, same_identifier, same_endpoint};
+ghost use Rattle.rapid_model.specs.Tags.{AreTags, tags_bytes, tags_in};
+ghost use Rattle.rapid_model.specs.Process.{IsProcess, identifier, endpoint, key_bytes, process_cmp, same_bytes, same_identifier, same_endpoint};
+ghost use Rattle.rapid_model.specs.ReadProcess.{unread, unread_counted, tags_size, process_size, process_in};
+ghost use Rattle.rapid_endpoint.specs.Tagging.{texts_of, tagged_from};
+ghost use Rattle.rapid_endpoint.specs.ReadErrors.{fault_of};
 
-use crate::{Endpoint, ProcessId};
+use crate::reading::read_tags;
+use crate::room::Room;
+use crate::tags::{MOST_TAGS, check_tags};
+use crate::{Endpoint, ParseError, ProcessId, ReadError};
+use std::alloc::{AllocError, Global};
 use std::cmp::Ordering;
 use std::marker::Model;
 
-/// A process: an identifier and an endpoint. Processes are ordered by identifier, then endpoint,
-/// which is the order of their bytes.
+/// A process: an identifier, an endpoint and tags. Processes are ordered by identifier, then
+/// endpoint, then tags, which is the order of their bytes. It is kept in fixed room, so that
+/// copies take no memory.
 #[derive(Clone, Copy, Debug)]
 pub struct Process {
     id: ProcessId,
     endpoint: Endpoint,
+    // The number of the tags, then each with its length in front.
+    tags: Room,
 }
 
 impl Model for Process {
@@ -25,25 +36,93 @@ impl Model for Process {
 
     ghost Value = { ModelProcess };
 
-    ghost view = { λ p. p.id ++ p.endpoint };
+    ghost view = { λ p. p.id ++ p.endpoint ++ p.tags };
 
-    ghost invariant = { λ p. (length p.id ≡ 16) × IsProcess (p.id ++ p.endpoint) };
+    ghost invariant = { λ p. (length p.id ≡ 16) × (length p.endpoint ≡ 6) × IsProcess (p.id ++ p.endpoint ++ p.tags) };
 
-    ghost inverse = { λ p. record { id = take 16 p; endpoint = drop 16 p } };
+    ghost inverse = { λ p. record { id = take 16 p; endpoint = take 6 (drop 16 p); tags = drop 6 (drop 16 p) } };
 
-    ghost use Rattle.rapid_endpoint.specs.Joined.{first_part, second_part};
+    ghost use Rattle.rapid_endpoint.specs.Joined.{first_part, middle_part, last_part};
 
-    ghost inverse_ok = { λ p h. λ i. record { id = first_part 16 p.id p.endpoint h.0 i; endpoint = second_part 16 p.id p.endpoint h.0 i } };
+    ghost inverse_ok = { λ p h. λ i. record {
+      id = first_part 16 p.id (p.endpoint ++ p.tags) h.0 i;
+      endpoint = middle_part p.id p.endpoint p.tags h.0 h.1 i;
+      tags = last_part p.id p.endpoint p.tags h.0 h.1 i;
+    } };
+}
+
+/// How many bytes an identifier and an endpoint have.
+const KEY_BYTES: usize = 22;
+
+/// The identifier and the endpoint in front of the bytes, and what follows them. None if there are
+/// fewer bytes than these have.
+fn read_key(bytes: &[u8]) -> Option<(ProcessId, Endpoint, &[u8])>
+    ensures short { IsNone result ↔ (length bytes.now < 22) }
+    ensures front { IfSome result (λ r. bytes.now ≡ r.0 ++ r.1 ++ r.2.now) }
+{
+    let (id, rest) = bytes.split_first_chunk::<16>()?;
+    let (address, rest) = rest.split_first_chunk::<4>()?;
+    let (port, rest) = rest.split_first_chunk::<2>()?;
+    let endpoint = Endpoint::new(*address, u16::from_be_bytes(*port));
+    Some((ProcessId::new(*id), endpoint, rest))
+}
+
+/// The tags in front of the bytes, their number before them; or why they are not read.
+fn read_counted(bytes: &[u8]) -> Result<Room, ReadError>
+    ensures read { IfOk result (λ room. unread_counted bytes.now ≡ None) }
+    ensures front { IfOk result (λ room. room ≡ take (tags_size bytes.now) bytes.now) }
+    ensures refused { IfErr result (λ e. unread_counted bytes.now ≡ Some (fault_of e)) }
+{
+    let Some((count, rest)) = bytes.split_first() else {
+        return Err(ReadError::Truncated);
+    };
+    if usize::from(*count) > MOST_TAGS {
+        return Err(ReadError::BadTags);
+    }
+    let size = read_tags(*count, rest)?;
+    let mut room = Room::new();
+    room.append(&bytes[..size + 1]);
+    Ok(room)
+}
+
+/// The tags of a process, spelt: their number, then each with its length in front.
+fn spelt(tags: &[&[u8]]) -> Room
+    requires { AreTags (texts_of tags.now) }
+    ensures { result ≡ tags_bytes (texts_of tags.now) }
+{
+    let mut room = Room::new();
+    room.append(&[tags.len() as u8]);
+    for tag in tags {
+        room.append(&[tag.len() as u8]);
+        room.append(tag);
+    }
+    room
 }
 
 impl Process {
-    /// The process of this identifier and endpoint.
+    /// The process of this identifier and endpoint, without tags.
     pub fn new(id: ProcessId, endpoint: Endpoint) -> Process
-        ensures { result ≡ id ++ endpoint }
+        ensures { result ≡ id ++ endpoint ++ tags_bytes [] }
     {
         id.tell();
         endpoint.tell();
-        Process { id, endpoint }
+        let tags = spelt(&[]);
+        Process { id, endpoint, tags }
+    }
+
+    /// The process of this identifier and endpoint with these tags, by which it says what it is:
+    /// at most eight, ascending by their bytes. A tag has 1 to 64 bytes, each printed, and none of
+    /// `,`, `[` and `]`.
+    ///
+    /// Errors, the first that holds: `TooManyTags`, `BadTag`, `TagsNotSorted`.
+    pub fn tagged(id: ProcessId, endpoint: Endpoint, tags: &[&[u8]]) -> Result<Process, ParseError>
+        ensures { result ≡ tagged_from id endpoint (texts_of tags.now) }
+    {
+        check_tags(tags)?;
+        id.tell();
+        endpoint.tell();
+        let tags = spelt(tags);
+        Ok(Process { id, endpoint, tags })
     }
 
     /// The identifier.
@@ -60,10 +139,10 @@ impl Process {
         self.endpoint
     }
 
-    /// The sixteen bytes of the identifier, then the six of the endpoint.
-    pub fn to_bytes(&self) -> [u8; 22]
-        ensures value { result ≡ self.now }
-        ensures process { IsProcess self.now }
+    /// The sixteen bytes of the identifier, then the six of the endpoint. The place of a process on
+    /// a ring rests on these, and they are the same for all tags.
+    pub fn key_bytes(&self) -> [u8; 22]
+        ensures { result ≡ key_bytes self.now }
     {
         let mut bytes = [0; 22];
         bytes[..16].copy_from_slice(&self.id.bytes());
@@ -71,21 +150,55 @@ impl Process {
         bytes
     }
 
-    /// The process in front of the bytes, and how many bytes it takes. None if there are fewer
-    /// bytes than a process has.
-    pub fn read(bytes: &[u8]) -> Option<(Process, usize)>
-        ensures short { IsNone result ↔ (length bytes.now < 22) }
-        ensures front { IfSome result (λ r. (r.0 ≡ take 22 bytes.now) × (r.1 ≡ 22)) }
-        ensures taken { IfSome result (λ r. bytes.now ≡ r.0 ++ drop r.1 bytes.now) }
-        ensures process { IfSome result (λ r. IsProcess r.0) }
+    /// How many bytes the process has.
+    pub fn size(&self) -> usize
+        ensures { result ≡ length self.now }
     {
-        let (id, rest) = bytes.split_first_chunk::<16>()?;
-        let (address, rest) = rest.split_first_chunk::<4>()?;
-        let (port, _) = rest.split_first_chunk::<2>()?;
-        let endpoint = Endpoint::new(*address, u16::from_be_bytes(*port));
-        let process = Process::new(ProcessId::new(*id), endpoint);
+        KEY_BYTES + self.tags.as_slice().len()
+    }
+
+    /// Appends the bytes of the process.
+    ///
+    /// Errors: no memory; then the bytes that were there are still the first.
+    pub fn append_to(&self, out: &mut Vec<u8>) -> Result<(), AllocError>
+        ensures appended { OnOk result (out.new.items ≡ out.old.items ++ self.now) }
+        ensures begins { (rest : List ℕ) × (out.new.items ≡ out.old.items ++ rest) }
+    {
+        out.extend_from_slice(&self.key_bytes())?;
+        out.extend_from_slice(self.tags.as_slice())
+    }
+
+    /// The bytes of the process: identifier, endpoint, the number of tags, and each tag with its
+    /// length in front.
+    pub fn to_bytes(&self, alloc: Global) -> Result<Vec<u8>, AllocError>
+        ensures { IfOk result (λ bytes. bytes.items ≡ self.now) }
+    {
+        let mut bytes = Vec::with_capacity(alloc, self.size())?;
+        self.append_to(&mut bytes)?;
+        Ok(bytes)
+    }
+
+    /// The process in front of the bytes, and how many bytes it takes.
+    ///
+    /// Errors, the first that is met from left to right: `Truncated` if the bytes end before the
+    /// process does, `BadTags` if there are more than eight tags, or one is no tag or not above the
+    /// one before.
+    pub fn read(bytes: &[u8]) -> Result<(Process, usize), ReadError>
+        ensures read { IfOk result (λ r. unread bytes.now ≡ None) }
+        ensures front { IfOk result (λ r. (r.0 ≡ process_in bytes.now) × (r.1 ≡ process_size bytes.now)) }
+        ensures taken { IfOk result (λ r. bytes.now ≡ r.0 ++ drop r.1 bytes.now) }
+        ensures process { IfOk result (λ r. IsProcess r.0) }
+        ensures refused { IfErr result (λ e. unread bytes.now ≡ Some (fault_of e)) }
+    {
+        let (id, endpoint, rest) = match read_key(bytes) {
+            Some(read) => read,
+            None => return Err(ReadError::Truncated),
+        };
+        let tags = read_counted(rest)?;
+        let process = Process { id, endpoint, tags };
         process.tell();
-        Some((process, 22))
+        let used = process.size();
+        Ok((process, used))
     }
 
     /// The value is a process. It does nothing: what it ensures is for proofs.
@@ -118,7 +231,7 @@ impl PartialEq for Process {
 
     #[inline(always)]
     fn eq(&self, other: &Process) -> bool {
-        self.id == other.id && self.endpoint == other.endpoint
+        self.id == other.id && self.endpoint == other.endpoint && self.tags == other.tags
     }
 }
 
@@ -150,6 +263,9 @@ impl Ord for Process {
         if self.id != other.id {
             return self.id.cmp(&other.id);
         }
-        self.endpoint.cmp(&other.endpoint)
+        if self.endpoint != other.endpoint {
+            return self.endpoint.cmp(&other.endpoint);
+        }
+        self.tags.cmp(&other.tags)
     }
 }

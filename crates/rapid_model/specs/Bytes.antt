@@ -9,6 +9,10 @@ Identifier = List ℕ
 abbrev pub Endpoint : Type 0
 Endpoint = List ℕ
 
+-- A tag of a process: a word that it says of itself.
+abbrev pub Tag : Type 0
+Tag = List ℕ
+
 -- The identifier of a configuration: the 32 bytes of a hash.
 abbrev pub ConfigurationId : Type 0
 ConfigurationId = List ℕ

@@ -6,6 +6,14 @@ use Rattle.std.specs.Prelude.{ℕ}
 abbrev pub most_members : ℕ
 most_members = 1024
 
+-- How many tags a process has at most, so that it fits a room of fixed size.
+abbrev pub most_tags : ℕ
+most_tags = 8
+
+-- How many bytes a tag has at most.
+abbrev pub longest_tag : ℕ
+longest_tag = 64
+
 -- How many joiners wait at a host, are known to an outbox or are taken by a detector at most.
 abbrev pub most_joiners : ℕ
 most_joiners = 512
@@ -40,7 +48,7 @@ most_entries = 65536
 
 -- How many bytes a frame has at most, after those of its length.
 abbrev pub longest_frame : ℕ
-longest_frame = 65536
+longest_frame = 2097152
 
 -- How many bytes a line of an input has at most.
 abbrev pub longest_line : ℕ

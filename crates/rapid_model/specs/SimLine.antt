@@ -1,7 +1,8 @@
 -- The commands of `sim`, and the lines that spell them.
 use Rattle.std.specs.Prelude.{ℕ, ◌-◌, ◌^◌, Bool, true, false, ◌==◌, List, [], ◌∷◌, ◌++◌, bytes_eq, codes, if◌then◌else◌, Option, Some, None, is_some}
 use Rattle.std.specs.Option.{option_and_then, option_map}
-use Rattle.rapid_model.specs.Bytes.{Identifier, Endpoint, Word}
+use Rattle.rapid_model.specs.Bytes.{Identifier, Endpoint, Tag, Word}
+use Rattle.rapid_model.specs.Tags.{TagsFault, tags_fault, tags_bytes}
 use Rattle.rapid_model.specs.Process.{Process}
 use Rattle.rapid_model.specs.Configuration.{Params}
 use Rattle.rapid_model.specs.Reading.{members_fault}
@@ -18,6 +19,8 @@ pub data SimLine : Type 0 where
   Found : List Process → SimLine
   -- an event, repeated
   Events : WorldEvent → ℕ → SimLine
+  -- a start with tags that are refused
+  Mistagged : TagsFault → SimLine
   Lose : Identifier → SimLine
   Deliver : ℕ → SimLine
   Drop : ℕ → SimLine
@@ -79,14 +82,19 @@ abbrev pub found_in : List Word → Option SimLine
 found_in [] = None
 found_in (w ∷ ws) = option_and_then founding_by (all_named (w ∷ ws))
 
--- A process starts at an endpoint, and asks at another.
-abbrev pub start : Option Identifier → Option Endpoint → Option Endpoint → Option SimLine
-start (Some id) (Some place) (Some seed) = Some (Events (world.Start (id ++ place) seed) 1)
-start _ _ _ = None
+-- A process starts, unless its tags are refused.
+abbrev pub start_unless : Option TagsFault → Process → Endpoint → SimLine
+start_unless None p seed = Events (world.Start p seed) 1
+start_unless (Some fault) p seed = Mistagged fault
 
--- The number of a process, its port and the port of its seed.
+-- A process with these tags starts at an endpoint, and asks at another.
+abbrev pub start : Option Identifier → Option Endpoint → Option Endpoint → List Tag → Option SimLine
+start (Some id) (Some place) (Some seed) ts = Some (start_unless (tags_fault ts) (id ++ place ++ tags_bytes ts) seed)
+start _ _ _ _ = None
+
+-- The number of a process, its port, the port of its seed, and its tags.
 abbrev pub start_in : List Word → Option SimLine
-start_in (n ∷ port ∷ seed ∷ []) = start (identifier_named n) (endpoint_named port) (endpoint_named seed)
+start_in (n ∷ port ∷ seed ∷ ts) = start (identifier_named n) (endpoint_named port) (endpoint_named seed) ts
 start_in _ = None
 
 -- A node probes on a ring, with a result, a number of times.

@@ -1,10 +1,11 @@
 -- What `sim` prints: the state of a run, which lines are refused, and the output of an input.
-use Rattle.std.specs.Prelude.{ℕ, zero, suc, Bool, false, not, List, [], ◌∷◌, ◌++◌, length, filter, flat_map, replicate, codes, decimal, nat_lt, if◌then◌else◌, Option, Some, None, is_some}
+use Rattle.std.specs.Prelude.{ℕ, zero, suc, Bool, false, not, List, [], ◌∷◌, ◌++◌, length, filter, flat_map, replicate, codes, decimal, nat_lt, if◌then◌else◌, Option, Some, None}
 use Rattle.std.specs.List.{find, list_any, range_with_len}
 use Rattle.std.specs.FinSet as set
 use Rattle.std.specs.Ordering.{nat_cmp}
 use Rattle.rapid_model.specs.Bytes.{Identifier, Line, Word, Text}
-use Rattle.rapid_model.specs.Process.{Process, identifier, same_bytes}
+use Rattle.rapid_model.specs.Tags.{TagsFault, BadTag, TooManyTags, TagsNotSorted, bracketed}
+use Rattle.rapid_model.specs.Process.{Process, identifier, tags, same_bytes}
 use Rattle.rapid_model.specs.Configuration.{Params, Configuration, founding}
 use Rattle.rapid_model.specs.Reading.{are_params}
 use Rattle.rapid_model.specs.World as world
@@ -15,7 +16,7 @@ use Rattle.rapid_model.specs.Run.{WorldReport, ReportInstalled, ReportHalted, fo
 use Rattle.rapid_model.specs.StoredWorld.{StoredWorld, new_world, world_of, event_refusal, with_event, unmarked}
 use Rattle.rapid_model.specs.Lines.{line_feed, space, lines, line_words}
 use Rattle.rapid_model.specs.Numbered.{number_under}
-use Rattle.rapid_model.specs.SimLine.{SimLine, Parameters, Found, Events, Lose, Deliver, Drop, Flow, Packets, command_named}
+use Rattle.rapid_model.specs.SimLine.{SimLine, Parameters, Found, Events, Mistagged, Lose, Deliver, Drop, Flow, Packets, command_named}
 
 -- What a run keeps once its founders were taken.
 pub record Simulation : Type 0 where
@@ -37,6 +38,8 @@ pub data SimRefusal : Type 0 where
   BadLine : SimRefusal
   NoParams : SimRefusal
   BadParams : SimRefusal
+  -- the tags of a process are refused
+  ByTags : TagsFault → SimRefusal
   -- the world refuses an event
   ByWorld : WorldRefusal → SimRefusal
 
@@ -88,6 +91,7 @@ prepared_refusal _ = Some NoParams
 abbrev pub underway_refusal : Simulation → SimLine → Option SimRefusal
 underway_refusal s (Parameters params) = Some BadLine
 underway_refusal s (Found founders) = Some BadLine
+underway_refusal s (Mistagged fault) = Some (ByTags fault)
 underway_refusal s (Drop k) = if nat_lt (packets_sent s) k then Some BadLine else None
 underway_refusal s _ = None
 
@@ -161,20 +165,31 @@ world_refusal_name faults.NoSuchPacket = codes "NoSuchPacket"
 world_refusal_name faults.NotObserved = codes "NotObserved"
 world_refusal_name faults.EventsFull = codes "EventsFull"
 
+-- The name of a refusal of tags.
+abbrev pub tags_fault_name : TagsFault → Text
+tags_fault_name BadTag = codes "BadTag"
+tags_fault_name TooManyTags = codes "TooManyTags"
+tags_fault_name TagsNotSorted = codes "TagsNotSorted"
+
 -- The name of a refusal.
 abbrev pub refusal_name : SimRefusal → Text
 refusal_name BadLine = codes "BadLine"
 refusal_name NoParams = codes "NoParams"
 refusal_name BadParams = codes "BadParams"
+refusal_name (ByTags fault) = tags_fault_name fault
 refusal_name (ByWorld r) = world_refusal_name r
 
 -- The line that a refusal prints.
 abbrev pub refusal_line : SimRefusal → Text
 refusal_line r = codes "refused " ++ refusal_name r ++ line_feed ∷ []
 
--- The numbers of processes, each after a space.
+-- A process by its number, with its tags.
+abbrev pub process_text : Process → Text
+process_text p = decimal (number_under (identifier p)) ++ bracketed (tags p)
+
+-- Processes by their numbers, each after a space.
 abbrev pub numbers_text : List Process → Text
-numbers_text ps = flat_map (λ p. space ∷ decimal (number_under (identifier p))) ps
+numbers_text ps = flat_map (λ p. space ∷ process_text p) ps
 
 -- A node by its number.
 abbrev pub node_text : Identifier → Text
@@ -252,6 +267,7 @@ abbrev pub do_command : Simulation → SimLine → Said
 do_command s (Parameters params) = silent s
 do_command s (Found founders) = silent s
 do_command s (Events e n) = do_events s (replicate n e)
+do_command s (Mistagged fault) = silent s
 do_command s (Lose id) = do_events s (losing (world_in s) id)
 do_command s (Deliver k) = deliver_then s k silent
 do_command s (Drop k) = silent (settling s k)
