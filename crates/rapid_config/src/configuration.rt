@@ -98,9 +98,10 @@ impl Configuration {
     }
 
     /// The configuration in these bytes. The first that holds: `Truncated` below 4 bytes,
-    /// `BadMagic` if they do not begin with `RPC1`, `Truncated` below 49 bytes, `BadParams`,
-    /// `TooMany` if they announce more than 1,024 members, `Truncated` or `Trailing` if there are
-    /// fewer or more bytes than these members have, `NotSorted` if their identifiers do not
+    /// `BadMagic` if they do not begin with `RPC2`, `Truncated` below 49 bytes, `BadParams`,
+    /// `TooMany` if they announce more than 1,024 members. Then members are read from left to
+    /// right, with the first fault that is met: `Truncated` at the end of the bytes, or `BadTags`.
+    /// Then `Trailing` if bytes are left over, `NotSorted` if the members' identifiers do not
     /// strictly ascend, `EndpointTwice` if two have one endpoint. `OutOfMemory` comes only if none
     /// of those before `NotSorted` holds.
     pub fn from_bytes(alloc: Global, bytes: &[u8]) -> Result<Configuration, ConfigError>

@@ -36,6 +36,10 @@ pub enum ConfigError {
     /// The height has reached its last value.
     #[error("the height has reached its last value")]
     HeightFull,
+    /// A member has tags that are wrong: too many, or one that is no tag or not above the one
+    /// before.
+    #[error("the tags of a process are not in order")]
+    BadTags,
     /// There was no memory.
     #[error("out of memory")]
     OutOfMemory,
@@ -58,6 +62,7 @@ impl ConfigError {
             ConfigError::TooMany => 7,
             ConfigError::EmptyCut => 8,
             ConfigError::HeightFull => 9,
+            ConfigError::BadTags => 10,
             ConfigError::OutOfMemory => 99,
         }
     }

@@ -1,16 +1,18 @@
 // Configurations in bytes.
 
-ghost use Rattle.std.specs.Prelude.{◌≡◌, ◌≢◌, ◌+◌, ◌*◌, ◌≤◌, None, length, take, drop, IfOk, IfErr, OnOk};
+ghost use Rattle.std.specs.Prelude.{◌≡◌, ◌≢◌, ◌+◌, ◌≤◌, Some, None, length, take, drop, IfOk, IfErr, OnOk};
 ghost use Rattle.std.specs.Arc.{arc_slice_items};
 ghost use Rattle.rapid_model.specs.Process.{same_bytes};
 ghost use Rattle.rapid_model.specs.Configuration.{magic, AreMembers};
-ghost use Rattle.rapid_model.specs.Reading.{params_in, count_in, configuration_in, processes_in, members_fault, bytes_fault};
-ghost use Rattle.rapid_config.specs.Faults.{ReportsOfBytes};
+ghost use Rattle.rapid_model.specs.ReadProcess.{ProcessFault, unread, process_in, behind_process, unread_processes, processes_in, processes_size};
+ghost use Rattle.rapid_model.specs.Reading.{params_in, count_in, configuration_in, members_fault, bytes_fault};
+ghost use Rattle.rapid_endpoint.specs.ReadErrors.{fault_of};
+ghost use Rattle.rapid_config.specs.Faults.{ReportsOfBytes, member_error_of};
 
 use crate::members::{MOST_MEMBERS, check_members};
-use crate::spelling::{HEAD_BYTES, MAGIC, MEMBER_BYTES};
+use crate::spelling::{HEAD_BYTES, MAGIC};
 use crate::{ConfigError, Params};
-use rapid_endpoint::Process;
+use rapid_endpoint::{Process, ReadError};
 use std::alloc::{AllocError, Global};
 use std::sync::ArcSlice;
 
@@ -35,13 +37,14 @@ fn has_magic(bytes: &[u8]) -> bool
     first == MAGIC
 }
 
-/// The parameters in the bytes and the number of members that they announce, if the bytes are as
-/// many as they have to be; or why not.
+/// The parameters in the bytes and the number of members that they announce, if just these members
+/// stand behind the head; or why not.
 pub(crate) fn check_head(bytes: &[u8]) -> Result<(Params, usize), ConfigError>
     ensures params { IfOk result (λ r. r.0 ≡ params_in bytes.now) }
     ensures count { IfOk result (λ r. r.1 ≡ count_in bytes.now) }
     ensures few { IfOk result (λ r. r.1 ≤ 1024) }
-    ensures length { IfOk result (λ r. length bytes.now ≡ 49 + 22 * r.1) }
+    ensures head { OnOk result (49 ≤ length bytes.now) }
+    ensures read { IfOk result (λ r. unread_processes r.1 (drop 49 bytes.now) ≡ None) }
     ensures fault { IfOk result (λ r. bytes_fault bytes.now ≡ members_fault (configuration_in bytes.now).members) }
     ensures refused { IfErr result (ReportsOfBytes (bytes_fault bytes.now)) }
     ensures no_memory { IfErr result (λ e. e ≢ ConfigError.OutOfMemory) }
@@ -60,36 +63,70 @@ pub(crate) fn check_head(bytes: &[u8]) -> Result<(Params, usize), ConfigError>
     if count > MOST_MEMBERS {
         return Err(ConfigError::TooMany);
     }
-    let length = HEAD_BYTES + MEMBER_BYTES * count;
-    if bytes.len() < length {
-        return Err(ConfigError::Truncated);
-    }
-    if bytes.len() > length {
+    let members = &bytes[HEAD_BYTES..];
+    let size = check_processes(count, members)?;
+    if size < members.len() {
         return Err(ConfigError::Trailing);
     }
     Ok((params, count))
 }
 
-/// The member from a place on.
-fn member_at(bytes: &[u8], at: usize) -> Process
-    requires { at + 22 ≤ length bytes.now }
-    ensures { result ≡ take 22 (drop at bytes.now) }
+/// The error of a member that is not read.
+fn member_error(error: ReadError) -> ConfigError
+    ensures { result ≡ member_error_of (fault_of error) }
 {
-    let rest = &bytes[at..];
-    match Process::read(rest) {
-        Some((member, _used)) => member,
-        None => unreachable!(),
+    match error {
+        ReadError::Truncated => ConfigError::Truncated,
+        ReadError::BadTags => ConfigError::BadTags,
     }
 }
 
-/// The members in the bytes, one after another.
+/// How many bytes this many processes take in front of the bytes; or why they are not read.
+fn check_processes(count: usize, bytes: &[u8]) -> Result<usize, ConfigError>
+    ensures read { IfOk result (λ size. unread_processes count bytes.now ≡ None) }
+    ensures size { IfOk result (λ size. size ≡ processes_size count bytes.now) }
+    ensures within { IfOk result (λ size. size ≤ length bytes.now) }
+    ensures refused { IfErr result
+        (λ e. (f : ProcessFault) × (unread_processes count bytes.now ≡ Some f) × (e ≡ member_error_of f)) }
+{
+    let mut left = count;
+    let mut rest = bytes;
+    while left > 0 {
+        let used = match Process::check(rest) {
+            Ok(used) => used,
+            Err(error) => return Err(member_error(error)),
+        };
+        rest = &rest[used..];
+        left -= 1;
+    }
+    Ok(bytes.len() - rest.len())
+}
+
+/// The process in front of the bytes, and those behind it.
+fn split_process(bytes: &[u8]) -> (Process, &[u8])
+    requires { unread bytes.now ≡ None }
+    ensures process { result.0 ≡ process_in bytes.now }
+    ensures behind { result.1.now ≡ behind_process bytes.now }
+{
+    match Process::read(bytes) {
+        Ok((process, used)) => (process, &bytes[used..]),
+        Err(_) => unreachable!(),
+    }
+}
+
+/// The members in front of the bytes, one after another.
 fn read_members(alloc: Global, count: usize, bytes: &[u8]) -> Result<Vec<Process>, AllocError>
-    requires { length bytes.now ≡ 22 * count }
+    requires { unread_processes count bytes.now ≡ None }
     ensures { IfOk result (λ members. members.items ≡ processes_in count bytes.now) }
 {
     let mut members = Vec::with_capacity(alloc, count)?;
-    for i in 0..count {
-        members.push(member_at(bytes, MEMBER_BYTES * i))?;
+    let mut left = count;
+    let mut rest = bytes;
+    while left > 0 {
+        let (member, others) = split_process(rest);
+        members.push(member)?;
+        rest = others;
+        left -= 1;
     }
     Ok(members)
 }
@@ -102,7 +139,8 @@ pub(crate) fn members_in(
 ) -> Result<ArcSlice<Process>, ConfigError>
     requires count { count ≡ count_in bytes.now }
     requires few { count ≤ 1024 }
-    requires length { length bytes.now ≡ 49 + 22 * count }
+    requires head { 49 ≤ length bytes.now }
+    requires read { unread_processes count (drop 49 bytes.now) ≡ None }
     ensures members { IfOk result (λ members. arc_slice_items members ≡ (configuration_in bytes.now).members) }
     ensures valid { IfOk result (λ members. AreMembers (arc_slice_items members)) }
     ensures allowed { OnOk result (members_fault (configuration_in bytes.now).members ≡ None) }

@@ -3,14 +3,14 @@
 ghost use Rattle.std.specs.Prelude.{◌≡◌, [], ◌∷◌};
 ghost use Rattle.std.specs.Cmp.{partial_equiv_from_equiv};
 ghost use Rattle.std.proofs.lemmas.Cmp.{nat_list_cmp_total, eq_by_cmp_equiv};
-ghost use Rattle.rapid_model.specs.Process.{same_bytes};
+ghost use Rattle.rapid_model.specs.Process.{key_bytes, same_bytes};
 ghost use Rattle.rapid_cut.specs.Keys.{same_input};
 
 use rapid_endpoint::Process;
 use std::hash::{Hash, Hasher};
 use std::marker::Model;
 
-/// A process, hashed as its bytes.
+/// A process, hashed as its identifier and its endpoint.
 #[derive(Clone, Copy, Debug)]
 pub struct SubjectKey {
     process: Process,
@@ -50,11 +50,11 @@ impl Eq for SubjectKey {
 }
 
 impl Hash for SubjectKey {
-    ghost hash_input = { λ p. p ∷ [] };
+    ghost hash_input = { λ p. key_bytes p ∷ [] };
 
     ghost respects_eq = { same_input };
 
     fn hash<H: Hasher>(&self, state: &mut H) {
-        state.write(&self.process.to_bytes());
+        state.write(&self.process.key_bytes());
     }
 }

@@ -1,3 +1,4 @@
+pub mod Appended
 pub mod Fronts
 pub mod Hosts
 pub mod Numbers

@@ -95,17 +95,52 @@ same_endpoints a b p q e f h k =
     ∙ sym (λ i. texts_ties a b i && unsigned_ties p q i)
 
 -- A process is three parts: the identifier, the endpoint, and the tags.
-pub middle_part : (id place tags : List ℕ) → length id ≡ 16 → length place ≡ 6 → take 6 (drop 16 (id ++ (place ++ tags))) ≡ place
-middle_part id place tags e f = ap (take 6) (second_part 16 id (place ++ tags) e) ∙ first_part 6 place tags f
+pub id_part : (id place tags : List ℕ) → length id ≡ 16 → take 16 ((id ++ place) ++ tags) ≡ id
+id_part id place tags e = ap (take 16) (append_assoc id place tags) ∙ first_part 16 id (place ++ tags) e
 
-pub last_part : (id place tags : List ℕ) → length id ≡ 16 → length place ≡ 6 → drop 6 (drop 16 (id ++ (place ++ tags))) ≡ tags
-last_part id place tags e f = ap (drop 6) (second_part 16 id (place ++ tags) e) ∙ second_part 6 place tags f
+behind_id : (id place tags : List ℕ) → length id ≡ 16 → drop 16 ((id ++ place) ++ tags) ≡ place ++ tags
+behind_id id place tags e = ap (drop 16) (append_assoc id place tags) ∙ second_part 16 id (place ++ tags) e
 
--- The first two parts are the 22 bytes.
-pub key_part : (id place tags : List ℕ) → length id ≡ 16 → length place ≡ 6 → take 22 (id ++ (place ++ tags)) ≡ id ++ place
-key_part id place tags e f =
-    ap (take 22) (sym (append_assoc id place tags))
-    ∙ first_part 22 (id ++ place) tags (omega (arith, e, f, length-append id place))
+pub middle_part : (id place tags : List ℕ) → length id ≡ 16 → length place ≡ 6 → take 6 (drop 16 ((id ++ place) ++ tags)) ≡ place
+middle_part id place tags e f = ap (take 6) (behind_id id place tags e) ∙ first_part 6 place tags f
+
+pub last_part : (id place tags : List ℕ) → length id ≡ 16 → length place ≡ 6 → drop 6 (drop 16 ((id ++ place) ++ tags)) ≡ tags
+last_part id place tags e f = ap (drop 6) (behind_id id place tags e) ∙ second_part 6 place tags f
+
+key_length : (id place : List ℕ) → length id ≡ 16 → length place ≡ 6 → length (id ++ place) ≡ 22
+key_length id place e f = let k = length-append id place in omega (arith, e, f, k)
+
+-- The first two parts are 22 bytes, and the tags stand behind them.
+pub key_part : (id place tags : List ℕ) → length id ≡ 16 → length place ≡ 6 → take 22 ((id ++ place) ++ tags) ≡ id ++ place
+key_part id place tags e f = first_part 22 (id ++ place) tags (key_length id place e f)
+
+pub tags_part : (id place tags : List ℕ) → length id ≡ 16 → length place ≡ 6 → drop 22 ((id ++ place) ++ tags) ≡ tags
+tags_part id place tags e f = second_part 22 (id ++ place) tags (key_length id place e f)
+
+-- Processes compare by their parts, in order.
+pub cmp_parts : (i j p q t u : List ℕ) → length i ≡ length j → length p ≡ length q
+    → bytes_cmp ((i ++ p) ++ t) ((j ++ q) ++ u) ≡ ordering_then (bytes_cmp i j) (ordering_then (bytes_cmp p q) (bytes_cmp t u))
+cmp_parts i j p q t u e f =
+    (λ k. bytes_cmp (append_assoc i p t k) (append_assoc j q u k)) ∙ cmp_joined i j (p ++ t) (q ++ u) e
+    ∙ ap (ordering_then (bytes_cmp i j)) (cmp_joined p q t u f)
+
+-- If the identifiers differ, they decide.
+pub id_decides : (i j p q t u : List ℕ) → length i ≡ length j → length p ≡ length q → same_bytes i j ≡ false
+    → bytes_cmp i j ≡ bytes_cmp ((i ++ p) ++ t) ((j ++ q) ++ u)
+id_decides i j p q t u e f h = not_tied (bytes_cmp i j) _ h ∙ sym (cmp_parts i j p q t u e f)
+
+-- If they are the same, the other parts do.
+pub others_decide : (i j p q t u : List ℕ) → length i ≡ length j → length p ≡ length q → same_bytes i j ≡ true
+    → ordering_then (bytes_cmp p q) (bytes_cmp t u) ≡ bytes_cmp ((i ++ p) ++ t) ((j ++ q) ++ u)
+others_decide i j p q t u e f h = tied (bytes_cmp i j) _ h ∙ sym (cmp_parts i j p q t u e f)
+
+-- Processes are the same if their parts are.
+pub same_parts : (i j p q t u : List ℕ) → length i ≡ length j → length p ≡ length q
+    → same_bytes ((i ++ p) ++ t) ((j ++ q) ++ u) ≡ (same_bytes i j && (same_bytes p q && same_bytes t u))
+same_parts i j p q t u e f =
+    ap is_eq (cmp_parts i j p q t u e f)
+    ∙ then_is_eq (bytes_cmp i j) (ordering_then (bytes_cmp p q) (bytes_cmp t u))
+    ∙ ap (λ b. same_bytes i j && b) (then_is_eq (bytes_cmp p q) (bytes_cmp t u))
 
 -- The answer of `a && b`, if a is true.
 pub and_then_second : (a b c : Bool) → a ≡ b → a ≡ true → c ≡ (b && c)

@@ -17,6 +17,7 @@ mod read_error;
 mod reading;
 mod room;
 mod tags;
+mod tags_of;
 
 pub use endpoint::Endpoint;
 pub use endpoint_text::endpoints_have_one_spelling;
@@ -24,3 +25,4 @@ pub use parse_error::ParseError;
 pub use process::Process;
 pub use process_id::ProcessId;
 pub use read_error::ReadError;
+pub use tags_of::Tags;

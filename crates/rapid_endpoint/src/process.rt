@@ -1,20 +1,20 @@
 // Processes.
 
-ghost use Rattle.std.specs.Prelude.{◌≡◌, ◌<◌, ◌+◌, ℕ, List, [], ◌++◌, length, take, drop, Some, None, IfSome, IsNone, IfOk, IfErr, OnOk, ◌↔◌};
+ghost use Rattle.std.specs.Prelude.{◌≡◌, ◌<◌, ◌≤◌, ◌+◌, ℕ, List, true, [], ◌++◌, length, take, drop, Some, None, IfSome, IsNone, IfOk, IfErr, OnOk, ◌↔◌};
 ghost use Rattle.std.specs.Ordering.{as_partial_cmp};
 ghost use Rattle.std.specs.Cmp.{partial_equiv_from_equiv, partial_order_from_total};
 ghost use Rattle.std.proofs.lemmas.Cmp.{nat_list_cmp_total, eq_by_cmp_equiv};
 ghost use Rattle.std.proofs.Common.{refl};
-ghost use Rattle.rapid_model.specs.Tags.{AreTags, tags_bytes, tags_in};
-ghost use Rattle.rapid_model.specs.Process.{IsProcess, identifier, endpoint, key_bytes, process_cmp, same_bytes, same_identifier, same_endpoint};
-ghost use Rattle.rapid_model.specs.ReadProcess.{unread, unread_counted, tags_size, process_size, process_in};
+ghost use Rattle.rapid_model.specs.Tags.{AreTags, is_tag, tag_bytes, tags_bytes};
+ghost use Rattle.rapid_model.specs.Process.{IsProcess, identifier, endpoint, key_bytes, tags, process_cmp, same_bytes, same_identifier, same_endpoint};
+ghost use Rattle.rapid_model.specs.ReadProcess.{unread, process_size, process_in};
 ghost use Rattle.rapid_endpoint.specs.Tagging.{texts_of, tagged_from};
 ghost use Rattle.rapid_endpoint.specs.ReadErrors.{fault_of};
 
-use crate::reading::read_tags;
+use crate::reading::check_counted;
 use crate::room::Room;
-use crate::tags::{MOST_TAGS, check_tags};
-use crate::{Endpoint, ParseError, ProcessId, ReadError};
+use crate::tags::check_tags;
+use crate::{Endpoint, ParseError, ProcessId, ReadError, Tags, bytes};
 use std::alloc::{AllocError, Global};
 use std::cmp::Ordering;
 use std::marker::Model;
@@ -42,10 +42,10 @@ impl Model for Process {
 
     ghost inverse = { λ p. record { id = take 16 p; endpoint = take 6 (drop 16 p); tags = drop 6 (drop 16 p) } };
 
-    ghost use Rattle.rapid_endpoint.specs.Joined.{first_part, middle_part, last_part};
+    ghost use Rattle.rapid_endpoint.specs.Joined.{id_part, middle_part, last_part};
 
     ghost inverse_ok = { λ p h. λ i. record {
-      id = first_part 16 p.id (p.endpoint ++ p.tags) h.0 i;
+      id = id_part p.id p.endpoint p.tags h.0 i;
       endpoint = middle_part p.id p.endpoint p.tags h.0 h.1 i;
       tags = last_part p.id p.endpoint p.tags h.0 h.1 i;
     } };
@@ -67,22 +67,14 @@ fn read_key(bytes: &[u8]) -> Option<(ProcessId, Endpoint, &[u8])>
     Some((ProcessId::new(*id), endpoint, rest))
 }
 
-/// The tags in front of the bytes, their number before them; or why they are not read.
-fn read_counted(bytes: &[u8]) -> Result<Room, ReadError>
-    ensures read { IfOk result (λ room. unread_counted bytes.now ≡ None) }
-    ensures front { IfOk result (λ room. room ≡ take (tags_size bytes.now) bytes.now) }
-    ensures refused { IfErr result (λ e. unread_counted bytes.now ≡ Some (fault_of e)) }
+/// Appends a tag, with its length in front.
+fn append_tag(room: &mut Room, tag: &[u8])
+    requires tag { is_tag tag.now ≡ true }
+    requires fits { length room.old + 65 ≤ 521 }
+    ensures { room.new ≡ room.old ++ tag_bytes tag.now }
 {
-    let Some((count, rest)) = bytes.split_first() else {
-        return Err(ReadError::Truncated);
-    };
-    if usize::from(*count) > MOST_TAGS {
-        return Err(ReadError::BadTags);
-    }
-    let size = read_tags(*count, rest)?;
-    let mut room = Room::new();
-    room.append(&bytes[..size + 1]);
-    Ok(room)
+    room.append(&[tag.len() as u8]);
+    room.append(tag);
 }
 
 /// The tags of a process, spelt: their number, then each with its length in front.
@@ -92,11 +84,31 @@ fn spelt(tags: &[&[u8]]) -> Room
 {
     let mut room = Room::new();
     room.append(&[tags.len() as u8]);
-    for tag in tags {
-        room.append(&[tag.len() as u8]);
-        room.append(tag);
+    let mut rest = tags;
+    while let [tag, others @ ..] = rest {
+        append_tag(&mut room, tag);
+        rest = others;
     }
     room
+}
+
+/// The process in front of bytes that begin with one of this many bytes.
+fn made(bytes: &[u8], used: usize) -> Process
+    requires read { unread bytes.now ≡ None }
+    requires size { used ≡ process_size bytes.now }
+    ensures { result ≡ process_in bytes.now }
+{
+    match read_key(bytes) {
+        Some((id, endpoint, _)) => {
+            let mut tags = Room::new();
+            tags.append(&bytes[KEY_BYTES..used]);
+            id.tell();
+            endpoint.tell();
+            bytes::tell(bytes);
+            Process { id, endpoint, tags }
+        }
+        None => unreachable!(),
+    }
 }
 
 impl Process {
@@ -150,6 +162,13 @@ impl Process {
         bytes
     }
 
+    /// The tags, ascending.
+    pub fn tags(&self) -> Tags<'_>
+        ensures { result ≡ tags self.now }
+    {
+        Tags::new(self.tags.as_slice())
+    }
+
     /// How many bytes the process has.
     pub fn size(&self) -> usize
         ensures { result ≡ length self.now }
@@ -187,18 +206,30 @@ impl Process {
         ensures read { IfOk result (λ r. unread bytes.now ≡ None) }
         ensures front { IfOk result (λ r. (r.0 ≡ process_in bytes.now) × (r.1 ≡ process_size bytes.now)) }
         ensures taken { IfOk result (λ r. bytes.now ≡ r.0 ++ drop r.1 bytes.now) }
+        ensures within { IfOk result (λ r. r.1 ≤ length bytes.now) }
         ensures process { IfOk result (λ r. IsProcess r.0) }
         ensures refused { IfErr result (λ e. unread bytes.now ≡ Some (fault_of e)) }
     {
-        let (id, endpoint, rest) = match read_key(bytes) {
-            Some(read) => read,
-            None => return Err(ReadError::Truncated),
-        };
-        let tags = read_counted(rest)?;
-        let process = Process { id, endpoint, tags };
+        let used = Process::check(bytes)?;
+        let process = made(bytes, used);
         process.tell();
-        let used = process.size();
         Ok((process, used))
+    }
+
+    /// How many bytes the process in front of the bytes takes. It makes no process.
+    ///
+    /// Errors: those of `read`.
+    pub fn check(bytes: &[u8]) -> Result<usize, ReadError>
+        ensures read { IfOk result (λ n. unread bytes.now ≡ None) }
+        ensures size { IfOk result (λ n. n ≡ process_size bytes.now) }
+        ensures within { IfOk result (λ n. n ≤ length bytes.now) }
+        ensures refused { IfErr result (λ e. unread bytes.now ≡ Some (fault_of e)) }
+    {
+        if bytes.len() < KEY_BYTES {
+            return Err(ReadError::Truncated);
+        }
+        let size = check_counted(&bytes[KEY_BYTES..])?;
+        Ok(KEY_BYTES + size)
     }
 
     /// The value is a process. It does nothing: what it ensures is for proofs.
@@ -231,7 +262,10 @@ impl PartialEq for Process {
 
     #[inline(always)]
     fn eq(&self, other: &Process) -> bool {
-        self.id == other.id && self.endpoint == other.endpoint && self.tags == other.tags
+        if self.id != other.id {
+            return false;
+        }
+        (self.endpoint == other.endpoint) & (self.tags == other.tags)
     }
 }
 
@@ -263,9 +297,8 @@ impl Ord for Process {
         if self.id != other.id {
             return self.id.cmp(&other.id);
         }
-        if self.endpoint != other.endpoint {
-            return self.endpoint.cmp(&other.endpoint);
-        }
-        self.tags.cmp(&other.tags)
+        self.endpoint
+            .cmp(&other.endpoint)
+            .then(self.tags.cmp(&other.tags))
     }
 }

@@ -2,11 +2,11 @@
 
 ghost use Rattle.std.specs.Prelude.{◌≡◌, ℕ, ◌+◌, ◌≤◌, suc, true, [], ◌∷◌, ◌++◌, length, take, Some, None, IfOk, IfErr};
 ghost use Rattle.rapid_model.specs.Tags as model;
-ghost use Rattle.rapid_model.specs.ReadProcess.{unread_tags, spelt_size};
+ghost use Rattle.rapid_model.specs.ReadProcess.{unread_tags, unread_counted, spelt_size, tags_size};
 ghost use Rattle.rapid_endpoint.specs.ReadErrors.{fault_of};
 
 use crate::ReadError;
-use crate::tags::{are_tag_bytes, is_above, is_tag_length};
+use crate::tags::{MOST_TAGS, are_tag_bytes, is_above, is_tag_length};
 
 /// The first bytes: this many, or all if there are fewer.
 fn front(bytes: &[u8], count: usize) -> &[u8]
@@ -26,7 +26,7 @@ fn read_tag<'a>(before: &[u8], bytes: &'a [u8]) -> Result<(&'a [u8], &'a [u8]), 
     ensures above { IfOk result (λ r. model.is_above r.0.now before.now ≡ true) }
     ensures refused { IfErr result (λ e. (n : ℕ) → unread_tags (suc n) before.now bytes.now ≡ Some (fault_of e)) }
 {
-    let Some((first, rest)) = bytes.split_first() else {
+    let [first, rest @ ..] = bytes else {
         return Err(ReadError::Truncated);
     };
     let long = usize::from(*first);
@@ -44,11 +44,11 @@ fn read_tag<'a>(before: &[u8], bytes: &'a [u8]) -> Result<(&'a [u8], &'a [u8]), 
 }
 
 /// How many bytes this many tags take in front of the bytes; or why they are not read.
-pub(crate) fn read_tags(count: u8, bytes: &[u8]) -> Result<usize, ReadError>
+fn read_tags(count: u8, bytes: &[u8]) -> Result<usize, ReadError>
     requires { count ≤ 8 }
     ensures read { IfOk result (λ n. unread_tags count [] bytes.now ≡ None) }
     ensures size { IfOk result (λ n. n ≡ spelt_size count bytes.now) }
-    ensures within { IfOk result (λ n. (n ≤ length bytes.now) × (n ≤ 520)) }
+    ensures within { IfOk result (λ n. n ≤ length bytes.now) }
     ensures refused { IfErr result (λ e. unread_tags count [] bytes.now ≡ Some (fault_of e)) }
 {
     let mut left = count;
@@ -61,4 +61,22 @@ pub(crate) fn read_tags(count: u8, bytes: &[u8]) -> Result<usize, ReadError>
         left -= 1;
     }
     Ok(bytes.len() - rest.len())
+}
+
+/// How many bytes tags take in front of the bytes, with their number before them; or why they are
+/// not read.
+pub(crate) fn check_counted(bytes: &[u8]) -> Result<usize, ReadError>
+    ensures read { IfOk result (λ n. unread_counted bytes.now ≡ None) }
+    ensures size { IfOk result (λ n. n ≡ tags_size bytes.now) }
+    ensures within { IfOk result (λ n. n ≤ length bytes.now) }
+    ensures refused { IfErr result (λ e. unread_counted bytes.now ≡ Some (fault_of e)) }
+{
+    let [count, rest @ ..] = bytes else {
+        return Err(ReadError::Truncated);
+    };
+    if usize::from(*count) > MOST_TAGS {
+        return Err(ReadError::BadTags);
+    }
+    let size = read_tags(*count, rest)?;
+    Ok(1 + size)
 }

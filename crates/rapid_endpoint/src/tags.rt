@@ -1,6 +1,6 @@
 // Which strings of bytes are tags, and which tags a process can have.
 
-ghost use Rattle.std.specs.Prelude.{◌≡◌, map, Some, None, IfErr, IsOk, ◌↔◌};
+ghost use Rattle.std.specs.Prelude.{◌≡◌, [], map, Some, None, IfErr, IsOk, ◌↔◌};
 ghost use Rattle.std.specs.List.{list_all};
 ghost use Rattle.rapid_model.specs.Tags as model;
 ghost use Rattle.rapid_model.specs.Tags.{tags_fault};
@@ -33,12 +33,11 @@ pub(crate) fn is_tag_length(length: usize) -> bool
 pub(crate) fn are_tag_bytes(bytes: &[u8]) -> bool
     ensures { result ≡ list_all model.is_tag_byte bytes.now }
 {
+    let mut all = true;
     for byte in bytes {
-        if !is_tag_byte(*byte) {
-            return false;
-        }
+        all = all & is_tag_byte(*byte);
     }
-    true
+    all
 }
 
 /// Whether the first tag is above the second.
@@ -49,7 +48,7 @@ pub(crate) fn is_above(tag: &[u8], before: &[u8]) -> bool
 }
 
 /// Whether these bytes are a tag.
-fn is_tag(bytes: &[u8]) -> bool
+pub(crate) fn is_tag(bytes: &[u8]) -> bool
     ensures { result ≡ model.is_tag bytes.now }
 {
     is_tag_length(bytes.len()) && are_tag_bytes(bytes)
@@ -59,10 +58,12 @@ fn is_tag(bytes: &[u8]) -> bool
 fn are_tags(tags: &[&[u8]]) -> bool
     ensures { result ≡ list_all model.is_tag (texts_of tags.now) }
 {
-    for tag in tags {
+    let mut rest = tags;
+    while let [tag, others @ ..] = rest {
         if !is_tag(tag) {
             return false;
         }
+        rest = others;
     }
     true
 }
@@ -72,11 +73,13 @@ fn do_ascend(tags: &[&[u8]]) -> bool
     ensures { result ≡ model.tags_ascend [] (texts_of tags.now) }
 {
     let mut before: &[u8] = &[];
-    for tag in tags {
+    let mut rest = tags;
+    while let [tag, others @ ..] = rest {
         if !is_above(tag, before) {
             return false;
         }
         before = tag;
+        rest = others;
     }
     true
 }

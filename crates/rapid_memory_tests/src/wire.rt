@@ -6,16 +6,16 @@ use std::alloc::{AllocError, Global};
 use std::test::Fail;
 
 /// The processes with the numbers 1, 2 and 3: the identifier n, and the endpoint 127.0.0.1:n.
-const ONE: [u8; 22] = [
-    0, 0, 0, 0, 0, 0, 0, 0, 0, 0, 0, 0, 0, 0, 0, 1, 0x7f, 0, 0, 1, 0, 1,
+const ONE: [u8; 23] = [
+    0, 0, 0, 0, 0, 0, 0, 0, 0, 0, 0, 0, 0, 0, 0, 1, 0x7f, 0, 0, 1, 0, 1, 0,
 ];
 
-const TWO: [u8; 22] = [
-    0, 0, 0, 0, 0, 0, 0, 0, 0, 0, 0, 0, 0, 0, 0, 2, 0x7f, 0, 0, 1, 0, 2,
+const TWO: [u8; 23] = [
+    0, 0, 0, 0, 0, 0, 0, 0, 0, 0, 0, 0, 0, 0, 0, 2, 0x7f, 0, 0, 1, 0, 2, 0,
 ];
 
-const THREE: [u8; 22] = [
-    0, 0, 0, 0, 0, 0, 0, 0, 0, 0, 0, 0, 0, 0, 0, 3, 0x7f, 0, 0, 1, 0, 3,
+const THREE: [u8; 23] = [
+    0, 0, 0, 0, 0, 0, 0, 0, 0, 0, 0, 0, 0, 0, 0, 3, 0x7f, 0, 0, 1, 0, 3, 0,
 ];
 
 /// The identifier of a configuration.
@@ -24,7 +24,7 @@ const ID: [u8; 32] = [7; 32];
 /// The bytes of a configuration in front of its members, with the parameters 3, 3 and 1, at height
 /// 0.
 const HEAD: [u8; 47] = [
-    0x52, 0x50, 0x43, 0x31, 0, 0, 0, 0, 0, 0, 0, 0, 0, 0, 0, 0, 0, 0, 0, 0, 0, 0, 0, 0, 0, 0, 0, 0,
+    0x52, 0x50, 0x43, 0x32, 0, 0, 0, 0, 0, 0, 0, 0, 0, 0, 0, 0, 0, 0, 0, 0, 0, 0, 0, 0, 0, 0, 0, 0,
     0, 0, 0, 0, 0, 0, 0, 0, 0, 0, 0, 0, 0, 0, 0, 0, 3, 3, 1,
 ];
 

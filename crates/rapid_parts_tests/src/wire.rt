@@ -1,5 +1,5 @@
 // Tests of messages and frames.
 
-mod frames;
+pub mod frames;
 mod longest;
 mod refusals;

@@ -1,15 +1,16 @@
 -- Clauses of public calls cite this file.
 -- Runs of three processes: two found a configuration, and a third joins it.
 use Rattle.std.specs.Prelude.{ℕ, false, List, [], ◌∷◌, ◌++◌, replicate}
+use Rattle.rapid_model.specs.Tags.{tags_bytes}
 use Rattle.rapid_model.specs.Process.{Process, identifier, endpoint}
 use Rattle.rapid_model.specs.Configuration.{Configuration, founding}
 use Rattle.rapid_model.specs.Apply.{apply}
 use Rattle.rapid_model.specs.Ballot.{Ballot}
 use Rattle.rapid_model.specs.World.{WorldEvent, Start, Tick, Deliver, MarkedEvent}
 
--- The process of number n below 256.
+-- The process of number n below 256, without tags.
 abbrev pub process : ℕ → Process
-process n = replicate 15 0 ++ n ∷ 127 ∷ 0 ∷ 0 ∷ 1 ∷ 0 ∷ n ∷ []
+process n = replicate 15 0 ++ n ∷ 127 ∷ 0 ∷ 0 ∷ 1 ∷ 0 ∷ n ∷ tags_bytes []
 
 -- The founder that misses the decision.
 abbrev pub other : Process

@@ -12,7 +12,7 @@ use crate::WireFault;
 use crate::encoding::VERSION;
 use crate::kind::FrameKind;
 use crate::kinds::read_body;
-use crate::reading::{PROCESS_BYTES, process_in, read_front};
+use crate::reading::read_process;
 use crate::told::tell_message;
 use rapid_endpoint::Process;
 use rapid_message::{Body, Message};
@@ -39,12 +39,11 @@ fn message_of(sender: Process, body: Body) -> Message
 }
 
 /// The message of a kind whose sender and body are these bytes.
-#[tactic(auto, unfolding(crate::specs::Reading::message_in, crate::specs::Reading::process_at))]
+#[tactic(auto, unfolding(crate::specs::Reading::message_in))]
 fn read_message(alloc: Global, kind: FrameKind, bytes: &[u8]) -> Result<Message, WireFault>
     ensures { Gives (λ m. m) result (message_in (number_of kind) bytes.now) }
 {
-    let (front, rest) = read_front(bytes, PROCESS_BYTES)?;
-    let sender = process_in(front);
+    let (sender, rest) = read_process(bytes)?;
     let body = read_body(alloc, sender, kind, rest)?;
     Ok(message_of(sender, body))
 }

@@ -12,8 +12,8 @@ ghost use Rattle.rapid_wire.specs.Reading.{both, made, all_of, byte_at, process_
 use crate::WireFault;
 use crate::kind::FrameKind;
 use crate::reading::{
-    ID_BYTES, PROCESS_BYTES, classic_of, ended, id_in, process_in, read_answer, read_batch,
-    read_byte, read_cut, read_front, read_numbers, read_report,
+    ID_BYTES, classic_of, ended, id_in, read_answer, read_batch, read_byte, read_cut, read_front,
+    read_numbers, read_process, read_report,
 };
 use rapid_config::{ConfigError, ConfigId, Configuration, Cut};
 use rapid_endpoint::Process;
@@ -94,14 +94,13 @@ fn read_choice(alloc: Global, bytes: &[u8]) -> Result<(ConfigId, Ballot, Cut), W
 }
 
 /// A joiner and what a host answers it.
-#[tactic(auto, unfolding(crate::specs::Reading::process_at))]
 fn read_reply(alloc: Global, bytes: &[u8]) -> Result<Body, WireFault>
     ensures value { Gives body_of result (all_of (made (λ x. model.Reply x.0 x.1) (both process_at answer_at)) bytes.now) }
     ensures said { IfOk result (λ b. (sender : process.Process) → CanSay sender b) }
 {
-    let (front, rest) = read_front(bytes, PROCESS_BYTES)?;
+    let (joiner, rest) = read_process(bytes)?;
     let answer = read_answer(alloc, rest)?;
-    Ok(Body::Reply(process_in(front), answer))
+    Ok(Body::Reply(joiner, answer))
 }
 
 /// An identifier and a ring.

@@ -20,9 +20,6 @@ use rapid_join::{Reply, RingObservers};
 use rapid_paxos::Ballot;
 use std::alloc::{AllocError, Global};
 
-/// How many bytes a process has.
-pub(crate) const PROCESS_BYTES: usize = 22;
-
 /// How many bytes the identifier of a configuration has.
 pub(crate) const ID_BYTES: usize = 32;
 
@@ -68,14 +65,14 @@ fn read_number(bytes: &[u8]) -> Result<(u16, &[u8]), WireFault>
     Ok((number_in(front), rest))
 }
 
-/// The process of these bytes.
-pub(crate) fn process_in(bytes: &[u8]) -> Process
-    requires { length bytes.now ≡ 22 }
-    ensures { result ≡ bytes.now }
+/// A process, and the rest.
+#[tactic(auto, unfolding(crate::specs::Reading::process_at))]
+pub(crate) fn read_process(bytes: &[u8]) -> Result<(Process, &[u8]), WireFault>
+    ensures { Gives (λ x. (x.0, x.1.now)) result (process_at bytes.now) }
 {
     match Process::read(bytes) {
-        Some((process, _)) => process,
-        None => unreachable!(),
+        Ok((process, used)) => Ok((process, &bytes[used..])),
+        Err(_) => Err(WireFault::BadBody),
     }
 }
 
@@ -101,8 +98,8 @@ fn read_processes(
     let mut processes = Vec::new(alloc);
     let mut rest = bytes;
     for _ in 0..count {
-        let (front, after) = read_front(rest, PROCESS_BYTES)?;
-        processes.push(process_in(front))?;
+        let (process, after) = read_process(rest)?;
+        processes.push(process)?;
         rest = after;
     }
     Ok((processes, rest))
@@ -205,15 +202,14 @@ fn read_kind(bytes: &[u8]) -> Result<(Kind, &[u8]), WireFault>
     }
 }
 
-/// The ring, the kind and the bytes of the subject of an alert, and the rest.
-#[tactic(auto, unfolding(crate::specs::Reading::item_at, crate::specs::Reading::process_at))]
-fn read_item(bytes: &[u8]) -> Result<(u8, Kind, &[u8], &[u8]), WireFault>
-    ensures value { Gives (λ x. (record { ring = x.0; kind = kind_of x.1; subject = x.2.now }, x.3.now)) result (item_at bytes.now) }
-    ensures length { IfOk result (λ x. length x.2.now ≡ 22) }
+/// The ring, the kind and the subject of an alert, and the rest.
+#[tactic(auto, unfolding(crate::specs::Reading::item_at))]
+fn read_item(bytes: &[u8]) -> Result<(u8, Kind, Process, &[u8]), WireFault>
+    ensures { Gives (λ x. (record { ring = x.0; kind = kind_of x.1; subject = x.2 }, x.3.now)) result (item_at bytes.now) }
 {
     let (ring, rest) = read_byte(bytes)?;
     let (kind, rest) = read_kind(rest)?;
-    let (subject, rest) = read_front(rest, PROCESS_BYTES)?;
+    let (subject, rest) = read_process(rest)?;
     Ok((ring, kind, subject, rest))
 }
 
@@ -234,7 +230,7 @@ fn read_alerts(
         let (ring, kind, subject, after) = read_item(rest)?;
         let alert = Alert {
             observer,
-            subject: process_in(subject),
+            subject,
             ring,
             kind,
             config,

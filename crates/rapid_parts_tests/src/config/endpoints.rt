@@ -160,7 +160,7 @@ fn ascending() -> Process {
 
 /// Whether a process has these bytes, and so have its parts.
 fn has_parts(made: &Process) -> bool {
-    made.to_bytes() == BYTES && made.id().bytes() == ASCENDING && made.endpoint().port() == 7000
+    made.key_bytes() == BYTES && made.id().bytes() == ASCENDING && made.endpoint().port() == 7000
 }
 
 #[test]
@@ -170,18 +170,6 @@ fn a_process_has_its_parts(rt: HostRuntime) {
     made.tell();
     made.id().tell();
     made.endpoint().tell();
-}
-
-const LONGER: [u8; 24] = [
-    0x00, 0x11, 0x22, 0x33, 0x44, 0x55, 0x66, 0x77, 0x88, 0x99, 0xaa, 0xbb, 0xcc, 0xdd, 0xee, 0xff,
-    0x7f, 0, 0, 1, 0x1b, 0x58, 7, 7,
-];
-
-#[test]
-fn processes_are_read(rt: HostRuntime) {
-    assert!(rt; Process::read(&BYTES) == Some((ascending(), 22)));
-    assert!(rt; Process::read(&LONGER) == Some((ascending(), 22)));
-    assert!(rt; Process::read(&[]).is_none() && Process::read(&BYTES[..21]).is_none());
 }
 
 /// The parts of a process.

@@ -5,10 +5,10 @@ use rapid_config::{ConfigError, Configuration};
 use std::alloc::{AllocError, Global};
 use std::test::Fail;
 
-const ONE: [u8; 71] = [
-    0x52, 0x50, 0x43, 0x31, 0, 0, 0, 0, 0, 0, 0, 0, 0, 0, 0, 0, 0, 0, 0, 0, 0, 0, 0, 0, 0, 0, 0, 0,
+const ONE: [u8; 72] = [
+    0x52, 0x50, 0x43, 0x32, 0, 0, 0, 0, 0, 0, 0, 0, 0, 0, 0, 0, 0, 0, 0, 0, 0, 0, 0, 0, 0, 0, 0, 0,
     0, 0, 0, 0, 0, 0, 0, 0, 0, 0, 0, 0, 0, 0, 0, 0, 3, 3, 1, 0, 1, 0, 0, 0, 0, 0, 0, 0, 0, 0, 0, 0,
-    0, 0, 0, 0, 1, 0x7f, 0, 0, 1, 0, 1,
+    0, 0, 0, 0, 1, 0x7f, 0, 0, 1, 0, 1, 0,
 ];
 
 /// Whether a configuration has these bytes and is read of them.
@@ -40,7 +40,7 @@ fn each_beginning_is_too_short(rt: HostRuntime) {
     }
 }
 
-/// The bytes with some of them changed, cut to a length or filled up with zeros.
+/// The bytes, cut to a length or filled up with zeros, with some of them changed.
 pub fn changed(
     alloc: Global,
     bytes: &[u8],
@@ -48,38 +48,54 @@ pub fn changed(
     length: usize,
 ) -> Result<Vec<u8>, AllocError> {
     let mut copy = Vec::from_slice(alloc, bytes)?;
+    copy.truncate(length);
+    for _ in copy.len()..length {
+        copy.push(0)?;
+    }
     for (at, byte) in changes {
         if *at < copy.len() {
             copy[*at] = *byte;
         }
     }
-    copy.truncate(length);
-    for _ in copy.len()..length {
-        copy.push(0)?;
-    }
     Ok(copy)
 }
 
-/// Bytes that are changed, the length that they are cut to or filled up to with zeros, and why they
+/// Bytes that are changed, once they are cut to a length or filled up to it with zeros, and why they
 /// are refused, if they are.
 type Case<'a> = (&'a [(usize, u8)], usize, Option<ConfigError>);
 
-const REFUSED: [Case; 12] = [
-    (&[], 93, None),
-    (&[], 94, Some(ConfigError::Trailing)),
-    (&[(3, 0x32)], 93, Some(ConfigError::BadMagic)),
-    (&[(46, 4)], 93, Some(ConfigError::BadParams)),
-    (&[(44, 17)], 93, Some(ConfigError::BadParams)),
+const REFUSED: [Case; 22] = [
+    (&[], 95, None),
+    (&[], 96, Some(ConfigError::Trailing)),
+    // the letters of version 1
+    (&[(3, 0x31)], 95, Some(ConfigError::BadMagic)),
+    (&[(46, 4)], 95, Some(ConfigError::BadParams)),
+    (&[(44, 17)], 95, Some(ConfigError::BadParams)),
     // 1,025 members
-    (&[(47, 4), (48, 1)], 93, Some(ConfigError::TooMany)),
-    (&[(48, 3)], 93, Some(ConfigError::Truncated)),
-    (&[(48, 1)], 93, Some(ConfigError::Trailing)),
+    (&[(47, 4), (48, 1)], 95, Some(ConfigError::TooMany)),
+    (&[(48, 3)], 95, Some(ConfigError::Truncated)),
+    (&[(48, 1)], 95, Some(ConfigError::Trailing)),
+    // nine tags
+    (&[(71, 9)], 95, Some(ConfigError::BadTags)),
+    (&[(94, 9)], 95, Some(ConfigError::BadTags)),
+    // a tag that is cut off, and one of no bytes
+    (&[(94, 1)], 95, Some(ConfigError::Truncated)),
+    (&[(94, 1)], 96, Some(ConfigError::BadTags)),
+    // from left to right
+    (&[(48, 3), (94, 9)], 95, Some(ConfigError::BadTags)),
+    (&[(71, 9)], 93, Some(ConfigError::BadTags)),
+    // wrong tags come before what is left over and before the order of the members
+    (&[(94, 9)], 96, Some(ConfigError::BadTags)),
+    (&[(64, 2), (87, 1), (94, 9)], 95, Some(ConfigError::BadTags)),
+    (&[(64, 2), (87, 1)], 96, Some(ConfigError::Trailing)),
     // the members are 2 and 1
-    (&[(64, 2), (86, 1)], 93, Some(ConfigError::NotSorted)),
+    (&[(64, 2), (87, 1)], 95, Some(ConfigError::NotSorted)),
     // both members have the port 1
-    (&[(92, 1)], 93, Some(ConfigError::EndpointTwice)),
+    (&[(93, 1)], 95, Some(ConfigError::EndpointTwice)),
+    // a tag of one byte
+    (&[(94, 1), (95, 1), (96, 0x61)], 97, None),
     // any identifier before and any height are taken, and no members
-    (&[(4, 7), (36, 255)], 93, None),
+    (&[(4, 7), (36, 255)], 95, None),
     (&[(48, 0)], 49, None),
 ];
 

@@ -2,6 +2,7 @@
 
 use crate::numbered::process;
 use rapid_config::ConfigId;
+use rapid_endpoint::{Endpoint, Process, ProcessId};
 use rapid_join::Reply;
 use rapid_message::{Body, Message};
 use rapid_wire::{Feed, WireFault, encode, read_frame};
@@ -9,28 +10,49 @@ use std::alloc::{AllocError, Global};
 use std::test::Fail;
 
 /// The frame in which the process with the number 2 asks to join.
-const PRE_JOIN: [u8; 28] = [
+const PRE_JOIN: [u8; 29] = [
+    0, 0, 0, 0x19, 2, 8, 0, 0, 0, 0, 0, 0, 0, 0, 0, 0, 0, 0, 0, 0, 0, 2, 0x7f, 0, 0, 1, 0, 2, 0,
+];
+
+/// The frame in which it does so with the tag `db`.
+const PRE_JOIN_DB: [u8; 32] = [
+    0, 0, 0, 0x1c, 2, 8, 0, 0, 0, 0, 0, 0, 0, 0, 0, 0, 0, 0, 0, 0, 0, 2, 0x7f, 0, 0, 1, 0, 2, 1, 2,
+    0x64, 0x62,
+];
+
+/// The frame of version 1 in which it did so without tags.
+const OLD_PRE_JOIN: [u8; 28] = [
     0, 0, 0, 0x18, 1, 8, 0, 0, 0, 0, 0, 0, 0, 0, 0, 0, 0, 0, 0, 0, 0, 2, 0x7f, 0, 0, 1, 0, 2,
 ];
 
 /// The processes with the numbers 1, 2 and 3: the identifier n, and the endpoint 127.0.0.1:n.
-const ONE: [u8; 22] = [
-    0, 0, 0, 0, 0, 0, 0, 0, 0, 0, 0, 0, 0, 0, 0, 1, 0x7f, 0, 0, 1, 0, 1,
+const ONE: [u8; 23] = [
+    0, 0, 0, 0, 0, 0, 0, 0, 0, 0, 0, 0, 0, 0, 0, 1, 0x7f, 0, 0, 1, 0, 1, 0,
 ];
 
-const TWO: [u8; 22] = [
-    0, 0, 0, 0, 0, 0, 0, 0, 0, 0, 0, 0, 0, 0, 0, 2, 0x7f, 0, 0, 1, 0, 2,
+const TWO: [u8; 23] = [
+    0, 0, 0, 0, 0, 0, 0, 0, 0, 0, 0, 0, 0, 0, 0, 2, 0x7f, 0, 0, 1, 0, 2, 0,
 ];
 
-const THREE: [u8; 22] = [
-    0, 0, 0, 0, 0, 0, 0, 0, 0, 0, 0, 0, 0, 0, 0, 3, 0x7f, 0, 0, 1, 0, 3,
+const THREE: [u8; 23] = [
+    0, 0, 0, 0, 0, 0, 0, 0, 0, 0, 0, 0, 0, 0, 0, 3, 0x7f, 0, 0, 1, 0, 3, 0,
 ];
 
 /// The frame in which the process with the number 1 tells the process with the number 2 that its
 /// endpoint is in use.
-const IN_USE: [u8; 51] = [
-    0, 0, 0, 0x2f, 1, 9, 0, 0, 0, 0, 0, 0, 0, 0, 0, 0, 0, 0, 0, 0, 0, 1, 0x7f, 0, 0, 1, 0, 1, 0, 0,
-    0, 0, 0, 0, 0, 0, 0, 0, 0, 0, 0, 0, 0, 2, 0x7f, 0, 0, 1, 0, 2, 2,
+const IN_USE: [u8; 53] = [
+    0, 0, 0, 0x31, 2, 9, 0, 0, 0, 0, 0, 0, 0, 0, 0, 0, 0, 0, 0, 0, 0, 1, 0x7f, 0, 0, 1, 0, 1, 0, 0,
+    0, 0, 0, 0, 0, 0, 0, 0, 0, 0, 0, 0, 0, 0, 2, 0x7f, 0, 0, 1, 0, 2, 0, 2,
+];
+
+/// A process with the number 2 and the tags `aa` and `b`.
+const TAGGED: [u8; 28] = [
+    0, 0, 0, 0, 0, 0, 0, 0, 0, 0, 0, 0, 0, 0, 0, 2, 0x7f, 0, 0, 1, 0, 2, 2, 2, 0x61, 0x61, 1, 0x62,
+];
+
+/// What would be that process, if its tags ascended.
+const UNSORTED: [u8; 28] = [
+    0, 0, 0, 0, 0, 0, 0, 0, 0, 0, 0, 0, 0, 0, 0, 2, 0x7f, 0, 0, 1, 0, 2, 2, 1, 0x62, 2, 0x61, 0x61,
 ];
 
 /// The identifier of a configuration.
@@ -39,7 +61,7 @@ const ID: [u8; 32] = [7; 32];
 /// The bytes of a configuration in front of its members, with the parameters 3, 3 and 1, at height
 /// 0.
 const HEAD: [u8; 47] = [
-    0x52, 0x50, 0x43, 0x31, 0, 0, 0, 0, 0, 0, 0, 0, 0, 0, 0, 0, 0, 0, 0, 0, 0, 0, 0, 0, 0, 0, 0, 0,
+    0x52, 0x50, 0x43, 0x32, 0, 0, 0, 0, 0, 0, 0, 0, 0, 0, 0, 0, 0, 0, 0, 0, 0, 0, 0, 0, 0, 0, 0, 0,
     0, 0, 0, 0, 0, 0, 0, 0, 0, 0, 0, 0, 0, 0, 0, 0, 3, 3, 1,
 ];
 
@@ -52,12 +74,12 @@ fn append(bytes: &mut Vec<u8>, pieces: &[&[u8]]) -> Result<(), AllocError> {
 }
 
 /// A kind, and the parts of a body.
-type Parts<'a> = (u8, &'a [&'a [u8]]);
+pub type Parts<'a> = (u8, &'a [&'a [u8]]);
 
 /// The frame of a body from the process with the number 1.
-fn frame(alloc: Global, (kind, parts): &Parts) -> Result<Vec<u8>, Fail> {
+pub fn frame(alloc: Global, (kind, parts): &Parts) -> Result<Vec<u8>, Fail> {
     let mut payload = Vec::new(alloc);
-    append(&mut payload, &[&[1, *kind], &ONE])?;
+    append(&mut payload, &[&[2, *kind], &ONE])?;
     append(&mut payload, parts)?;
     let length = u32::try_from(payload.len())?.to_be_bytes();
     let mut frame = Vec::new(alloc);
@@ -136,7 +158,7 @@ fn goes_out_and_back(alloc: Global, body: &Parts) -> Result<bool, Fail> {
 
 const BALLOT: &[u8] = &[2, 0, 5];
 
-const GOOD: [Parts; 21] = [
+pub const GOOD: [Parts; 26] = [
     (1, &[&ID, &[0, 1], &[3, 1], &TWO]),
     (1, &[&ID, &[0, 2], &[255, 2], &TWO, &[0, 1], &TWO]),
     (2, &[&ID, &[0, 2], &TWO, &THREE]),
@@ -158,6 +180,12 @@ const GOOD: [Parts; 21] = [
     (12, &[&ID]),
     (13, &[&ID]),
     (14, &[&ID, &[255]]),
+    // processes with tags, wherever there are processes
+    (1, &[&ID, &[0, 2], &[3, 1], &TAGGED, &[4, 2], &TWO]),
+    (2, &[&ID, &[0, 2], &TAGGED, &THREE]),
+    (9, &[&TAGGED, &[1], &ID, &[2], &TAGGED, &ONE]),
+    (9, &[&TAGGED, &[2]]),
+    (11, &[&HEAD, &[0, 2], &ONE, &TAGGED]),
 ];
 
 #[test]
@@ -182,7 +210,7 @@ fn is_bad(alloc: Global, body: &Parts) -> Result<bool, Fail> {
     Ok(fault(alloc, &bytes) == Some(WireFault::BadBody))
 }
 
-const BAD: [Parts; 22] = [
+const BAD: [Parts; 28] = [
     (1, &[&ID, &[0, 0]]),
     (1, &[&ID, &[0, 1], &[3, 3], &TWO]),
     (1, &[&ID, &[0, 2], &[3, 1], &TWO]),
@@ -205,6 +233,14 @@ const BAD: [Parts; 22] = [
     (13, &[]),
     (14, &[&ID]),
     (14, &[&ID, &[0, 0]]),
+    // tags that do not ascend
+    (1, &[&ID, &[0, 1], &[3, 1], &UNSORTED]),
+    (2, &[&ID, &[0, 1], &UNSORTED]),
+    (9, &[&UNSORTED, &[2]]),
+    (9, &[&TWO, &[1], &ID, &[1], &UNSORTED]),
+    (11, &[&HEAD, &[0, 1], &UNSORTED]),
+    // tags that are cut off
+    (9, &[&TAGGED[..27]]),
 ];
 
 #[test]
@@ -228,7 +264,7 @@ fn is_fault_at_end(alloc: Global, bytes: &[u8], fault: WireFault) -> bool {
     false
 }
 
-const FAULTS: [(&[u8], WireFault); 9] = [
+const FAULTS: [(&[u8], WireFault); 10] = [
     (&[0, 0, 0, 0], WireFault::BadBody),
     (&[0, 0, 0, 1, 1], WireFault::BadBody),
     (&[0, 0, 0, 2, 2, 8], WireFault::BadVersion),
@@ -294,6 +330,10 @@ fn a_question_to_join_comes_byte_by_byte(rt: HostRuntime) -> Result<(), Fail> {
 fn worked_messages_are_written(rt: HostRuntime) -> Result<(), Fail> {
     let question = Message::new(process(2), Body::PreJoin)?;
     assert!(rt; writes(rt.alloc(), &question, &PRE_JOIN)?);
+    let id = ProcessId::new(2u128.to_be_bytes());
+    let tagged = Process::tagged(id, Endpoint::new([127, 0, 0, 1], 2), &[b"db"])?;
+    let question = Message::new(tagged, Body::PreJoin)?;
+    assert!(rt; writes(rt.alloc(), &question, &PRE_JOIN_DB)?);
     let answer = Message::new(process(1), Body::Reply(process(2), Reply::EndpointInUse))?;
     assert!(rt; writes(rt.alloc(), &answer, &IN_USE)?);
     let leave = Message::new(process(1), Body::Leave(ConfigId::new(ID), 5))?;

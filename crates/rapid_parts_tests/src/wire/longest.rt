@@ -6,16 +6,16 @@ use std::alloc::{AllocError, Global};
 use std::test::Fail;
 
 /// The bytes of the process with this number: its identifier in 16 bytes, and its port of 127.0.0.1.
-fn bytes_of(number: u16) -> [u8; 22] {
+fn bytes_of(number: u16) -> [u8; 23] {
     let [high, low] = number.to_be_bytes();
     [
-        0, 0, 0, 0, 0, 0, 0, 0, 0, 0, 0, 0, 0, 0, high, low, 0x7f, 0, 0, 1, high, low,
+        0, 0, 0, 0, 0, 0, 0, 0, 0, 0, 0, 0, 0, 0, high, low, 0x7f, 0, 0, 1, high, low, 0,
     ]
 }
 
 /// The process with the number 2.
-const TWO: [u8; 22] = [
-    0, 0, 0, 0, 0, 0, 0, 0, 0, 0, 0, 0, 0, 0, 0, 2, 0x7f, 0, 0, 1, 0, 2,
+const TWO: [u8; 23] = [
+    0, 0, 0, 0, 0, 0, 0, 0, 0, 0, 0, 0, 0, 0, 0, 2, 0x7f, 0, 0, 1, 0, 2, 0,
 ];
 
 /// The identifier of a configuration.
@@ -24,7 +24,7 @@ const ID: [u8; 32] = [7; 32];
 /// The bytes of a configuration in front of its members, with the parameters 3, 3 and 1, at height
 /// 0.
 const HEAD: [u8; 47] = [
-    0x52, 0x50, 0x43, 0x31, 0, 0, 0, 0, 0, 0, 0, 0, 0, 0, 0, 0, 0, 0, 0, 0, 0, 0, 0, 0, 0, 0, 0, 0,
+    0x52, 0x50, 0x43, 0x32, 0, 0, 0, 0, 0, 0, 0, 0, 0, 0, 0, 0, 0, 0, 0, 0, 0, 0, 0, 0, 0, 0, 0, 0,
     0, 0, 0, 0, 0, 0, 0, 0, 0, 0, 0, 0, 0, 0, 0, 0, 3, 3, 1,
 ];
 
@@ -85,7 +85,7 @@ fn append_list(bytes: &mut Vec<u8>, before: &[u8], many: u16) -> Result<(), Allo
 /// The frame of a body from the process with the number 1, without its length.
 fn unmeasured(alloc: Global, (kind, head, before, many, _): &Row) -> Result<Vec<u8>, AllocError> {
     let mut bytes = Vec::new(alloc);
-    bytes.extend_from_slice(&[1, *kind])?;
+    bytes.extend_from_slice(&[2, *kind])?;
     bytes.extend_from_slice(&bytes_of(1))?;
     for part in *head {
         bytes.extend_from_slice(part)?;
@@ -136,17 +136,17 @@ fn waits(feed: &mut Feed, piece: &[u8]) -> bool {
     matches!(fed(feed, piece), Ok(None))
 }
 
-/// A length of 65,536 bytes is waited for, to the last of them; one more is a fault by itself.
+/// A length of 2,097,152 bytes is waited for, to the last of them; one more is a fault by itself.
 #[test]
 fn the_longest_frame_is_waited_for(rt: HostRuntime) -> Result<(), Fail> {
     let mut feed = Feed::new(rt.alloc());
-    let rest = vec![in rt.alloc(); 0u8; 65_533]?;
-    assert!(rt; waits(&mut feed, &[0, 1, 0, 0]));
-    assert!(rt; waits(&mut feed, &[1, 8]));
+    let rest = vec![in rt.alloc(); 0u8; 2_097_149]?;
+    assert!(rt; waits(&mut feed, &[0, 0x20, 0, 0]));
+    assert!(rt; waits(&mut feed, &[2, 8]));
     assert!(rt; waits(&mut feed, rest.as_slice()));
     assert!(rt; fed(&mut feed, &[0]).err() == Some(WireFault::BadBody));
     let mut feed = Feed::new(rt.alloc());
-    assert!(rt; waits(&mut feed, &[0, 1, 0]));
+    assert!(rt; waits(&mut feed, &[0, 0x20, 0]));
     assert!(rt; fed(&mut feed, &[1]).err() == Some(WireFault::TooLong));
     Ok(())
 }

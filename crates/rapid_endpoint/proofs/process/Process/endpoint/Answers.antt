@@ -1,8 +1,8 @@
 use Rattle.std.proofs.Common.{sym}
-use Rattle.rapid_endpoint.specs.Joined.{endpoint_part}
+use Rattle.rapid_endpoint.specs.Joined.{middle_part}
 use Rattle.rapid_endpoint.proofs.process.Process.endpoint.Goals as goal
 
 pub returns : goal.returns
 returns c =
     rw (← c.self.view_is)
-    (sym (endpoint_part c.self.inside.id c.self.inside.endpoint c.self.invariant.0 c.self.invariant.1.length))
+    (sym (middle_part c.self.inside.id c.self.inside.endpoint c.self.inside.tags c.self.invariant.0 c.self.invariant.1))

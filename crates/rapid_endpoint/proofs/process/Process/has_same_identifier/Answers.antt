@@ -1,5 +1,5 @@
 use Rattle.std.proofs.Common.{sym, ◌∙◌}
-use Rattle.rapid_endpoint.specs.Joined.{first_part}
+use Rattle.rapid_endpoint.specs.Joined.{id_part}
 use Rattle.rapid_model.specs.Process.{same_bytes}
 use Rattle.rapid_endpoint.proofs.process.Process.has_same_identifier.Goals as goal
 
@@ -8,5 +8,5 @@ returns c =
     rw (← c.self.view_is, ← c.other.view_is)
     (c.eq.ensures
     ∙ sym
-    (λ i. same_bytes (first_part 16 c.self.inside.id c.self.inside.endpoint c.self.invariant.0 i)
-    (first_part 16 c.other.inside.id c.other.inside.endpoint c.other.invariant.0 i)))
+    (λ i. same_bytes (id_part c.self.inside.id c.self.inside.endpoint c.self.inside.tags c.self.invariant.0 i)
+    (id_part c.other.inside.id c.other.inside.endpoint c.other.inside.tags c.other.invariant.0 i)))

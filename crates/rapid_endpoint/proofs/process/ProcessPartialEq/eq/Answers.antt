@@ -1,19 +1,26 @@
-use Rattle.std.proofs.Common.{sym, ◌∙◌}
-use Rattle.rapid_endpoint.specs.Joined.{same_joined, and_then_second, and_else_first}
+use Rattle.std.proofs.Common.{sym, ap, ◌∙◌, ◌&&◌, Bool}
+use Rattle.std.proofs.lemmas.Bool.{not-true, not-false}
+use Rattle.rapid_model.specs.Process.{same_bytes}
+use Rattle.rapid_endpoint.specs.Joined.{same_parts}
 use Rattle.rapid_endpoint.proofs.process.ProcessPartialEq.eq.Goals as goal
 
-pub returns-then-eq : goal.returns-then-eq
-returns-then-eq c =
+pub returns-then-ne : goal.returns-then-ne
+returns-then-ne c =
     rw (← c.self.view_is, ← c.other.view_is)
-    (c.eq-then-eq.ensures ∙ and_then_second c.eq.result _ _ c.eq.ensures c.if-eq.true
-    ∙ sym
-    (same_joined c.self.inside.id c.other.inside.id c.self.inside.endpoint c.other.inside.endpoint
-    (c.self.invariant.0 ∙ sym c.other.invariant.0)))
+    (sym
+    (same_parts c.self.inside.id c.other.inside.id c.self.inside.endpoint c.other.inside.endpoint c.self.inside.tags c.other.inside.tags
+    (c.self.invariant.0 ∙ sym c.other.invariant.0) (c.self.invariant.1 ∙ sym c.other.invariant.1)
+    ∙ ap
+    (λ (b : Bool). b && (same_bytes c.self.inside.endpoint c.other.inside.endpoint && same_bytes c.self.inside.tags c.other.inside.tags))
+    (not-true _ (sym c.ne.ensures ∙ c.if-ne.true))))
 
-pub returns-else-eq : goal.returns-else-eq
-returns-else-eq c =
+pub returns : goal.returns
+returns c =
     rw (← c.self.view_is, ← c.other.view_is)
-    (and_else_first c.eq.result _ _ c.eq.ensures c.if-eq.false
+    ((λ i. c.eq.ensures i && c.eq-2.ensures i)
     ∙ sym
-    (same_joined c.self.inside.id c.other.inside.id c.self.inside.endpoint c.other.inside.endpoint
-    (c.self.invariant.0 ∙ sym c.other.invariant.0)))
+    (same_parts c.self.inside.id c.other.inside.id c.self.inside.endpoint c.other.inside.endpoint c.self.inside.tags c.other.inside.tags
+    (c.self.invariant.0 ∙ sym c.other.invariant.0) (c.self.invariant.1 ∙ sym c.other.invariant.1)
+    ∙ ap
+    (λ (b : Bool). b && (same_bytes c.self.inside.endpoint c.other.inside.endpoint && same_bytes c.self.inside.tags c.other.inside.tags))
+    (not-false _ (sym c.ne.ensures ∙ c.if-ne.false))))

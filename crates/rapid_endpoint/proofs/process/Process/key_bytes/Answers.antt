@@ -1,13 +1,14 @@
-use Rattle.std.proofs.Common.{List, ℕ, [], ◌∷◌, ◌++◌, take, drop, refl, ◌∙◌, ◌≡◌}
-use Rattle.rapid_endpoint.specs.Joined.{written_over}
-use Rattle.rapid_endpoint.proofs.process.Process.to_bytes.Goals as goal
+use Rattle.std.proofs.Common.{List, ℕ, [], ◌∷◌, ◌++◌, take, drop, refl, sym, ap, ◌∙◌, ◌≡◌}
+use Rattle.rapid_endpoint.specs.Joined.{written_over, key_part}
+use Rattle.rapid_endpoint.proofs.process.Process.key_bytes.Goals as goal
 
-pub returns-clause-value : goal.returns-clause-value
-returns-clause-value c =
+pub returns : goal.returns
+returns c =
     let zeros : List ℕ = 0 ∷ 0 ∷ 0 ∷ 0 ∷ 0 ∷ 0 ∷ [] in
     let id : c.copy_from_slice.new.self ≡ c.self.inside.id = c.copy_from_slice.ensures.after ∙ c.bytes.ensures.value in
     let endpoint : c.copy_from_slice-2.new.self ≡ c.self.inside.endpoint =
     c.copy_from_slice-2.ensures.after ∙ c.to_bytes.ensures.value in
     (λ i. take 16 (id i ++ zeros) ++ (endpoint i ++ drop 6 (drop 16 (id i ++ zeros))))
     ∙ written_over c.self.inside.id c.self.inside.endpoint zeros c.bytes.ensures.length c.to_bytes.ensures.length refl
-    ∙ c.self.view_is
+    ∙ sym (key_part c.self.inside.id c.self.inside.endpoint c.self.inside.tags c.self.invariant.0 c.self.invariant.1)
+    ∙ ap (take 22) c.self.view_is
