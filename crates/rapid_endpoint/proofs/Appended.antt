@@ -27,7 +27,7 @@ appended start n bytes new more e s fits long h =
     ap (take (start + length more)) whole ∙ first_part (start + length more) (f ++ more) (replicate left 0) m in
     record {
       long = ap (λ (xs : List ℕ). length xs) whole
-          ∙ (let g = length-append (f ++ more) (replicate left 0) in let z = length-replicate left 0 in omega (arith, g, z, m, fits));
+          ∙ (let g = length-append (f ++ more) (replicate left 0) in let z = length-replicate {A = ℕ} left 0 in omega (arith, g, z, m, fits));
       front = front;
       zeros = whole ∙ ap (λ (k : ℕ). (f ++ more) ++ replicate (521 - k) 0) (sym m) ∙ sym (ap padded front);
     }

@@ -1,6 +1,6 @@
 // Processes.
 
-ghost use Rattle.std.specs.Prelude.{◌≡◌, ◌<◌, ◌≤◌, ◌+◌, ℕ, List, true, [], ◌++◌, length, take, drop, Some, None, IfSome, IsNone, IfOk, IfErr, OnOk, ◌↔◌};
+ghost use Rattle.std.specs.Prelude.{◌≡◌, ◌<◌, ◌≤◌, ◌+◌, ℕ, List, true, [], ◌++◌, length, take, drop, All, Some, None, IfOk, IfErr, OnOk};
 ghost use Rattle.std.specs.Ordering.{as_partial_cmp};
 ghost use Rattle.std.specs.Cmp.{partial_equiv_from_equiv, partial_order_from_total};
 ghost use Rattle.std.proofs.lemmas.Cmp.{nat_list_cmp_total, eq_by_cmp_equiv};
@@ -54,17 +54,32 @@ impl Model for Process {
 /// How many bytes an identifier and an endpoint have.
 const KEY_BYTES: usize = 22;
 
-/// The identifier and the endpoint in front of the bytes, and what follows them. None if there are
-/// fewer bytes than these have.
-fn read_key(bytes: &[u8]) -> Option<(ProcessId, Endpoint, &[u8])>
-    ensures short { IsNone result ↔ (length bytes.now < 22) }
-    ensures front { IfSome result (λ r. bytes.now ≡ r.0 ++ r.1 ++ r.2.now) }
+/// Some bytes from a place on.
+fn chunk_at<const N: usize>(bytes: &[u8], at: usize) -> [u8; N]
+    requires { at + N ≤ length bytes.now }
+    ensures { result ≡ take N (drop at bytes.now) }
 {
-    let (id, rest) = bytes.split_first_chunk::<16>()?;
-    let (address, rest) = rest.split_first_chunk::<4>()?;
-    let (port, rest) = rest.split_first_chunk::<2>()?;
-    let endpoint = Endpoint::new(*address, u16::from_be_bytes(*port));
-    Some((ProcessId::new(*id), endpoint, rest))
+    let rest = &bytes[at..];
+    match rest.first_chunk::<N>() {
+        Some(chunk) => *chunk,
+        None => unreachable!(),
+    }
+}
+
+/// The identifier and the endpoint in front of the bytes.
+fn key_in(bytes: &[u8]) -> (ProcessId, Endpoint)
+    requires { 22 ≤ length bytes.now }
+    ensures key { result.0 ++ result.1 ≡ take 22 bytes.now }
+    ensures id { length result.0 ≡ 16 }
+    ensures endpoint { length result.1 ≡ 6 }
+{
+    let address = chunk_at(bytes, 16);
+    let port = u16::from_be_bytes(chunk_at(bytes, 20));
+    let id = ProcessId::new(chunk_at(bytes, 0));
+    let endpoint = Endpoint::new(address, port);
+    id.tell();
+    endpoint.tell();
+    (id, endpoint)
 }
 
 /// Appends a tag, with its length in front.
@@ -80,7 +95,8 @@ fn append_tag(room: &mut Room, tag: &[u8])
 /// The tags of a process, spelt: their number, then each with its length in front.
 fn spelt(tags: &[&[u8]]) -> Room
     requires { AreTags (texts_of tags.now) }
-    ensures { result ≡ tags_bytes (texts_of tags.now) }
+    ensures value { result ≡ tags_bytes (texts_of tags.now) }
+    ensures bytes { All (λ b. b < 256) result }
 {
     let mut room = Room::new();
     room.append(&[tags.len() as u8]);
@@ -89,6 +105,7 @@ fn spelt(tags: &[&[u8]]) -> Room
         append_tag(&mut room, tag);
         rest = others;
     }
+    bytes::tell(room.as_slice());
     room
 }
 
@@ -96,19 +113,15 @@ fn spelt(tags: &[&[u8]]) -> Room
 fn made(bytes: &[u8], used: usize) -> Process
     requires read { unread bytes.now ≡ None }
     requires size { used ≡ process_size bytes.now }
+    requires within { (23 ≤ used) × (used ≤ length bytes.now) }
+    requires few { used ≤ 543 }
     ensures { result ≡ process_in bytes.now }
 {
-    match read_key(bytes) {
-        Some((id, endpoint, _)) => {
-            let mut tags = Room::new();
-            tags.append(&bytes[KEY_BYTES..used]);
-            id.tell();
-            endpoint.tell();
-            bytes::tell(bytes);
-            Process { id, endpoint, tags }
-        }
-        None => unreachable!(),
-    }
+    bytes::tell(bytes);
+    let (id, endpoint) = key_in(bytes);
+    let mut tags = Room::new();
+    tags.append(&bytes[KEY_BYTES..used]);
+    Process { id, endpoint, tags }
 }
 
 impl Process {
@@ -216,13 +229,14 @@ impl Process {
         Ok((process, used))
     }
 
-    /// How many bytes the process in front of the bytes takes. It makes no process.
+    /// How many bytes the process in front of the bytes takes, from 23 to 543. It makes no process.
     ///
     /// Errors: those of `read`.
     pub fn check(bytes: &[u8]) -> Result<usize, ReadError>
         ensures read { IfOk result (λ n. unread bytes.now ≡ None) }
         ensures size { IfOk result (λ n. n ≡ process_size bytes.now) }
-        ensures within { IfOk result (λ n. n ≤ length bytes.now) }
+        ensures within { IfOk result (λ n. (23 ≤ n) × (n ≤ length bytes.now)) }
+        ensures few { IfOk result (λ n. n ≤ 543) }
         ensures refused { IfErr result (λ e. unread bytes.now ≡ Some (fault_of e)) }
     {
         if bytes.len() < KEY_BYTES {

@@ -1,6 +1,6 @@
 // Tags in bytes, read from left to right.
 
-ghost use Rattle.std.specs.Prelude.{◌≡◌, ℕ, ◌+◌, ◌≤◌, suc, true, [], ◌∷◌, ◌++◌, length, take, Some, None, IfOk, IfErr};
+ghost use Rattle.std.specs.Prelude.{◌≡◌, ℕ, ◌+◌, ◌*◌, ◌≤◌, suc, true, [], ◌∷◌, ◌++◌, length, take, Some, None, IfOk, IfErr};
 ghost use Rattle.rapid_model.specs.Tags as model;
 ghost use Rattle.rapid_model.specs.ReadProcess.{unread_tags, unread_counted, spelt_size, tags_size};
 ghost use Rattle.rapid_endpoint.specs.ReadErrors.{fault_of};
@@ -49,6 +49,7 @@ fn read_tags(count: u8, bytes: &[u8]) -> Result<usize, ReadError>
     ensures read { IfOk result (λ n. unread_tags count [] bytes.now ≡ None) }
     ensures size { IfOk result (λ n. n ≡ spelt_size count bytes.now) }
     ensures within { IfOk result (λ n. n ≤ length bytes.now) }
+    ensures few { IfOk result (λ n. n ≤ 65 * count) }
     ensures refused { IfErr result (λ e. unread_tags count [] bytes.now ≡ Some (fault_of e)) }
 {
     let mut left = count;
@@ -68,7 +69,8 @@ fn read_tags(count: u8, bytes: &[u8]) -> Result<usize, ReadError>
 pub(crate) fn check_counted(bytes: &[u8]) -> Result<usize, ReadError>
     ensures read { IfOk result (λ n. unread_counted bytes.now ≡ None) }
     ensures size { IfOk result (λ n. n ≡ tags_size bytes.now) }
-    ensures within { IfOk result (λ n. n ≤ length bytes.now) }
+    ensures within { IfOk result (λ n. (1 ≤ n) × (n ≤ length bytes.now)) }
+    ensures few { IfOk result (λ n. n ≤ 521) }
     ensures refused { IfErr result (λ e. unread_counted bytes.now ≡ Some (fault_of e)) }
 {
     let [count, rest @ ..] = bytes else {

@@ -3,8 +3,7 @@ use Rattle.std.proofs.Common.{◌≡◌, ℕ, ◌+◌, ◌^◌, ◌<◌, inl, in
 use Rattle.std.specs.Prelude.{All, map, Option, Some, None}
 use Rattle.std.specs.List.{concat}
 use Rattle.std.specs.Int.{w16, w64, to_be_bytes}
-use Rattle.std.proofs.lemmas.List.Elements.{All-weaker, All-map}
-use Rattle.std.proofs.lemmas.List.{length-map}
+use Rattle.std.proofs.lemmas.List.Elements.{All-head, All-tail}
 use Rattle.rapid_model.specs.Process.{Process, IsProcess}
 use Rattle.rapid_model.specs.Cut.{Cut, IsCut, cut_bytes}
 use Rattle.rapid_model.specs.Configuration.{Configuration, IsConfiguration, magic}
@@ -12,16 +11,19 @@ use Rattle.rapid_model.specs.Alert.{Kind, Remove, Join}
 use Rattle.rapid_model.specs.Ballot.{Ballot, Vote, IsBallot}
 use Rattle.rapid_model.specs.Message.{AlertItem, Answer, Safe, EndpointInUse, ConfigurationChanged, TooManyJoiners, Body, Batch, FastVote, Prepare, Promise, Accept, Accepted, Decision, PreJoin, Reply, JoinRequest, Confirm, Probe, ProbeAck, Leave}
 use Rattle.rapid_model.specs.Frame.{IsId, IsItem, IsBatch, IsReport, IsAnswer, IsBody, ballot_bytes, kind_byte, item_bytes, report_bytes, answer_bytes, kind_number, body_bytes}
+use Rattle.rapid_model.specs.ReadProcess.{processes_in}
 use Rattle.rapid_model.proofs.Spelled.{spelling_tell}
-use Rattle.rapid_wire.proofs.Pieces.{head_same, tail_same, split, same_16, same_concat, same_map}
+use Rattle.rapid_model.proofs.Tagged.{no_beginning, processes_back}
+use Rattle.rapid_wire.proofs.Pieces.{head_same, tail_same, split, same_16}
 
 -- two arguments that are the same
 pub ap2 : {A B C : Type 0} (f : A → B → C) (a c : A) (b d : B) → a ≡ c → b ≡ d → f a b ≡ f c d
 ap2 f a c b d h k = ap (λ x. f x b) h ∙ ap (f c) k
 
--- the lengths of processes
-pub sizes : (ps : List Process) → All IsProcess ps → All (λ p. length p ≡ 22) ps
-sizes ps h = All-weaker IsProcess (λ p. length p ≡ 22) (λ p k. k.length) ps h
+-- processes, one after another
+pub same_processes : (ps qs : List Process) → All IsProcess ps → All IsProcess qs → length ps ≡ length qs → concat ps ≡ concat qs → ps ≡ qs
+same_processes ps qs h k l e =
+    sym (processes_back ps [] h) ∙ (λ i. processes_in (l i) (e i ++ [])) ∙ processes_back qs [] k
 
 pub same_cut_bytes : (v w : Cut) → IsCut v → IsCut w → cut_bytes v ≡ cut_bytes w → v ≡ w
 same_cut_bytes v w h k e =
@@ -29,7 +31,7 @@ same_cut_bytes v w h k e =
     let few = h.few in
     let few' = k.few in
     let number = same_16 (length v) (length w) (omega (arith, few)) (omega (arith, few')) parts.0 in
-    same_concat 22 v w (sizes v h.processes) (sizes w k.processes) number parts.1
+    same_processes v w h.processes k.processes number parts.1
 
 pub small_position : (b : Ballot) → IsBallot b → b.position < 2 ^ 16
 small_position b (inl e) = subst (λ (c : Ballot). c.position < 2 ^ 16) (sym e) (omega arith)
@@ -49,26 +51,32 @@ same_kind_byte Join Join e = refl
 same_kind_byte Remove Join e = absurd (omega (arith, e))
 same_kind_byte Join Remove e = absurd (omega (arith, e))
 
-pub same_item_bytes : (x y : AlertItem) → IsItem x → IsItem y → item_bytes x ≡ item_bytes y → x ≡ y
-same_item_bytes x y h k e =
-    let rings = head_same x.ring y.ring (kind_byte x.kind ∷ x.subject) (kind_byte y.kind ∷ y.subject) e in
-    let rest = tail_same x.ring y.ring (kind_byte x.kind ∷ x.subject) (kind_byte y.kind ∷ y.subject) e in
-    let kinds = same_kind_byte x.kind y.kind (head_same (kind_byte x.kind) (kind_byte y.kind) x.subject y.subject rest) in
-    let subjects = tail_same (kind_byte x.kind) (kind_byte y.kind) x.subject y.subject rest in
+-- no alert begins another
+item_split : (x y : AlertItem) (xs ys : List ℕ) → IsItem x → IsItem y → item_bytes x ++ xs ≡ item_bytes y ++ ys → (x ≡ y) × (xs ≡ ys)
+item_split x y xs ys h k e =
+    let rings = head_same x.ring y.ring (kind_byte x.kind ∷ (x.subject ++ xs)) (kind_byte y.kind ∷ (y.subject ++ ys)) e in
+    let rest = tail_same x.ring y.ring (kind_byte x.kind ∷ (x.subject ++ xs)) (kind_byte y.kind ∷ (y.subject ++ ys)) e in
+    let kinds = same_kind_byte x.kind y.kind (head_same (kind_byte x.kind) (kind_byte y.kind) (x.subject ++ xs) (y.subject ++ ys) rest) in
+    let last = tail_same (kind_byte x.kind) (kind_byte y.kind) (x.subject ++ xs) (y.subject ++ ys) rest in
+    let parts = no_beginning x.subject y.subject xs ys h.subject k.subject last in
     let make : ℕ → Kind → Process → AlertItem = λ r c s. record { ring = r; kind = c; subject = s } in
-    ap (λ r. make r x.kind x.subject) rings ∙ ap2 (make y.ring) x.kind y.kind x.subject y.subject kinds subjects
+    (ap (λ r. make r x.kind x.subject) rings ∙ ap2 (make y.ring) x.kind y.kind x.subject y.subject kinds parts.0, parts.1)
 
-pub item_size : (x : AlertItem) → IsItem x → length (item_bytes x) ≡ 24
-item_size x h = let s = h.subject.length in omega (arith, s)
+same_items : (xs ys : List AlertItem) → All IsItem xs → All IsItem ys → length xs ≡ length ys → concat (map item_bytes xs) ≡ concat (map item_bytes ys) → xs ≡ ys
+same_items [] [] h k l e = refl
+same_items [] (y ∷ ys) h k l e = absurd (omega (arith, l))
+same_items (x ∷ xs) [] h k l e = absurd (omega (arith, l))
+same_items (x ∷ xs) (y ∷ ys) h k l e =
+    let first = item_split x y (concat (map item_bytes xs)) (concat (map item_bytes ys)) (All-head IsItem x xs h) (All-head IsItem y ys k) e in
+    let rest = same_items xs ys (All-tail IsItem x xs h) (All-tail IsItem y ys k) (omega (arith, l)) first.1 in
+    λ i. first.0 i ∷ rest i
 
 pub same_batch_bytes : (xs ys : List AlertItem) → IsBatch xs → IsBatch ys → (to_be_bytes w16 (length xs) ≡ to_be_bytes w16 (length ys)) → concat (map item_bytes xs) ≡ concat (map item_bytes ys) → xs ≡ ys
 same_batch_bytes xs ys h k count e =
     let few = h.few in
     let few' = k.few in
     let number = same_16 (length xs) (length ys) (omega (arith, few)) (omega (arith, few')) count in
-    let all : (zs : List AlertItem) → IsBatch zs → All (λ p. length p ≡ 24) (map item_bytes zs) = λ zs b. All-map (λ p. length p ≡ 24) item_bytes zs (All-weaker IsItem (λ x. length (item_bytes x) ≡ 24) item_size zs b.items) in
-    let lists = same_concat 24 (map item_bytes xs) (map item_bytes ys) (all xs h) (all ys k) (length-map xs item_bytes ∙ number ∙ sym (length-map ys item_bytes)) e in
-    same_map item_bytes IsItem same_item_bytes xs ys h.items k.items lists
+    same_items xs ys h.items k.items number e
 
 pub same_report_bytes : (a b : Option (Vote Cut)) → IsReport a → IsReport b → report_bytes a ≡ report_bytes b → a ≡ b
 same_report_bytes None None h k e = refl
@@ -88,7 +96,7 @@ same_observers id jd os ps h k ho hp e =
     let ids = tail_same 1 1 id jd parts.0 in
     let number = head_same (length os) (length ps) (concat os) (concat ps) parts.1 in
     let rest = tail_same (length os) (length ps) (concat os) (concat ps) parts.1 in
-    let lists = same_concat 22 os ps (sizes os ho) (sizes ps hp) number rest in
+    let lists = same_processes os ps ho hp number rest in
     ap2 Safe id jd os ps ids lists
 
 -- the number of an answer
@@ -230,7 +238,7 @@ same_body (Decision id v) c n h = if_decision (Same (Decision id v)) (λ jd w k 
     (let parts = ids_split id jd (cut_bytes v) (cut_bytes w) h.0 k.0 e in ap2 Decision id jd v w parts.0 (same_cut_bytes v w h.1 k.1 parts.1))) c (sym n)
 same_body PreJoin c n h = if_prejoin (Same PreJoin) (λ k e. refl) c (sym n)
 same_body (Reply j a) c n h = if_reply (Same (Reply j a)) (λ i z k e.
-    (let parts = split j i (answer_bytes a) (answer_bytes z) (h.0.length ∙ sym k.0.length) e in ap2 Reply j i a z parts.0 (same_answer_bytes a z h.1 k.1 parts.1))) c (sym n)
+    (let parts = no_beginning j i (answer_bytes a) (answer_bytes z) h.0 k.0 e in ap2 Reply j i a z parts.0 (same_answer_bytes a z h.1 k.1 parts.1))) c (sym n)
 same_body (JoinRequest id r) c n h = if_joinrequest (Same (JoinRequest id r)) (λ jd s k e.
     (let parts = ids_split id jd (r ∷ []) (s ∷ []) h.0 k.0 e in ap2 JoinRequest id jd r s parts.0 (head_same r s [] [] parts.1))) c (sym n)
 same_body (Confirm d) c n h = if_confirm (Same (Confirm d)) (λ x k e. ap Confirm (spelling_tell d x h k e)) c (sym n)

@@ -1,10 +1,13 @@
 -- The parts of frames are read exactly if they are spelt.
 use Rattle.std.proofs.Common.{◌≡◌, ℕ, ◌^◌, ◌<◌, ◌≤◌, ◌⊎◌, inl, inr, Bool, true, false, not, ◌&&◌, ◌||◌, cond, eqb, List, [], ◌∷◌, ◌++◌, length, Option, Some, None, refl, sym, ap, subst, ◌∙◌, arith}
-use Rattle.std.specs.Prelude.{All, map, is_none, nat_lt, nat_le}
+use Rattle.std.specs.Prelude.{All, map, is_none, is_some, nat_lt, nat_le}
 use Rattle.std.specs.List.{concat}
 use Rattle.std.specs.Int.{w16, to_be_bytes}
 use Rattle.std.proofs.lemmas.Bool.{ltb-false, ltb-true, le-ltb, lt-ltb, leb-true, le-leb, eqb-true}
+use Rattle.std.proofs.lemmas.List.{take-append-drop}
 use Rattle.rapid_model.specs.Process.{Process, IsProcess}
+use Rattle.rapid_model.specs.ReadProcess.{ProcessFault, unread, process_size, process_in, behind_process}
+use Rattle.rapid_model.proofs.Tagged.{process_read, process_front, process_behind, read_process}
 use Rattle.rapid_model.specs.Cut.{Cut, IsCut, is_ascending, cut_bytes}
 use Rattle.rapid_model.specs.Alert.{Kind, Remove, Join}
 use Rattle.rapid_model.specs.Ballot.{Ballot, Vote, IsBallot, IsClassicBallot, fast_ballot}
@@ -12,13 +15,28 @@ use Rattle.rapid_model.specs.Reading.{TooMany, NotSorted}
 use Rattle.rapid_model.specs.Message.{AlertItem, Answer, Safe, EndpointInUse, ConfigurationChanged, TooManyJoiners}
 use Rattle.rapid_model.specs.Frame.{IsId, IsItem, IsBatch, IsReport, IsAnswer, ballot_bytes, kind_byte, item_bytes, report_bytes, answer_bytes}
 use Rattle.rapid_wire.specs.Reading.{◌>>=◌, both, made, counted, byte_at, front_at, number_at, process_at, id_at, is_cut, cut_at, ballot_of, is_classic, is_ballot, numbers_at, classic_at, ballot_at, vote_from, report_from, report_at, kind_from, kind_at, item_from, item_at, is_batch, items_at, are_observers, observers_at, safe_from, answer_from, answer_at}
-use Rattle.rapid_wire.proofs.Readers.{AreBytes, Takes, Again, Reads, bind_some, some_is, rest_bytes, reads_both, reads_made, reads_only, reads_as, reads_counted, reads_byte, reads_front, reads_number}
+use Rattle.rapid_wire.proofs.Readers.{AreBytes, Takes, Again, Reads, bind_some, some_is, unless_some, rest_bytes, reads_both, reads_made, reads_only, reads_as, reads_counted, reads_byte, reads_front, reads_number}
 
 pub reads_process : Reads IsProcess (λ p. p) process_at
 unfolding process_at
-reads_process =
-    reads_as (λ p. (length p ≡ 22) × AreBytes p) IsProcess (λ p. p) (λ p. p) (front_at 22)
-    (λ p h. record { length = h.0; bytes = h.1 }) (λ p h. (h.length, h.bytes)) (λ p. refl) (reads_front 22)
+reads_process = (takes, again)
+  where
+    is_read : (f : Option ProcessFault) → is_some f ≡ false → f ≡ None
+    is_read None h = refl
+    is_read (Some fault) h = absurd cc
+
+    takes : Takes IsProcess (λ p. p) process_at
+    takes bytes x b e =
+        let whole : Process × List ℕ = (process_in bytes, behind_process bytes) in
+        let passed = unless_some (is_some (unread bytes)) whole x e in
+        let good = read_process bytes b (is_read (unread bytes) passed.0) in
+        subst (λ (z : Process × List ℕ). IsProcess z.0 × (bytes ≡ z.0 ++ z.1)) passed.1
+        (good.0, sym (take-append-drop (process_size bytes) bytes))
+
+    again : Again IsProcess (λ p. p) process_at
+    again p rest h =
+        ap (λ f. cond (is_some f) None (Some (process_in (p ++ rest), behind_process (p ++ rest)))) (process_read p h rest)
+        ∙ (λ i. Some (process_front p h rest i, process_behind p h rest i))
 
 pub reads_id : Reads IsId (λ p. p) id_at
 unfolding id_at

@@ -1,20 +1,23 @@
-use Rattle.std.proofs.Common.{◌∙◌, ◌++◌, ◌∷◌, [], ℕ, List, ap, append_assoc, decimal}
+use Rattle.std.proofs.Common.{◌∙◌, ◌++◌, ◌∷◌, ℕ, List, ap, append_assoc, decimal}
 use Rattle.std.proofs.lemmas.Result.{on_ok_weaker, on_err_weaker}
+use Rattle.rapid_model.specs.Bytes.{Tag}
 use Rattle.rapid_model.specs.Lines.{space}
-use Rattle.rapid_model.specs.Process.{identifier}
+use Rattle.rapid_model.specs.Tags.{bracketed}
+use Rattle.rapid_model.specs.Process.{identifier, tags}
 use Rattle.rapid_model.specs.Numbered.{number_under}
-use Rattle.rapid_text.proofs.Texts.{front_more}
+use Rattle.rapid_text.proofs.Texts.{front_within}
 use Rattle.rapid_text.proofs.written.append_member.Goals as goal
 
 pub returns-clause-written : goal.returns-clause-written
 returns-clause-written c =
-    let id = identifier c.args.member.now in
-    on_ok_weaker c.write_identifier.result (λ e.
+    let own = tags c.args.member.now in
+    let number : List ℕ = space ∷ decimal (number_under (identifier c.args.member.now)) in
+    on_ok_weaker c.append_tags.result (λ e.
     e
-    ∙ ap (λ (i : List ℕ). c.push.new.self.items ++ decimal (number_under i)) c.id.ensures
-    ∙ ap (λ xs. xs ++ decimal (number_under id)) c.in_ok-push.ensures.items
-    ∙ append_assoc c.args.output.now.items (space ∷ []) (decimal (number_under id))) c.write_identifier.ensures.written
+    ∙ ap (λ (ts : List Tag). c.append_number.new.output.items ++ bracketed ts) c.tags.ensures
+    ∙ ap (λ xs. xs ++ bracketed own) c.in_ok-append_number.ensures.written
+    ∙ append_assoc c.args.output.now.items number (bracketed own)) c.append_tags.ensures.written
 
 pub returns-clause-begun : goal.returns-clause-begun
 returns-clause-begun c =
-    on_err_weaker c.write_identifier.result (λ e. front_more c.args.output.now.items _ (space ∷ []) (e ∙ c.in_ok-push.ensures.items)) c.write_identifier.ensures.unchanged
+    on_err_weaker c.append_tags.result (λ e. front_within _ _ _ _ c.in_ok-append_number.ensures.written e) c.append_tags.ensures.begun

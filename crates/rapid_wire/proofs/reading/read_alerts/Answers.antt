@@ -14,7 +14,7 @@ use Rattle.rapid_wire.proofs.reading.read_alerts.Goals as goal
 pub returns-in_err-ring-clause-value : goal.returns-in_err-ring-clause-value
 returns-in_err-ring-clause-value c =
     let p = err_from_is_err_and c.from_residual.result c.from_residual.ensures.1 in
-    rw (p.1, p.2) (ends c.in_err-ring.field-0.0 item_at (map item_of (map alert_of c.loop.alerts.items)) c.args.count c.loop.counter c.loop.rest.now (many c.args.count item_at c.args.bytes.now) c.loop-test.true c.in_err-ring.ensures.value c.loop.invariant.0)
+    rw (p.1, p.2) (ends c.in_err-ring.field-0.0 item_at (map item_of (map alert_of c.loop.alerts.items)) c.args.count c.loop.counter c.loop.rest.now (many c.args.count item_at c.args.bytes.now) c.loop-test.true c.in_err-ring.ensures c.loop.invariant.0)
 
 pub returns-clause-value : goal.returns-clause-value
 returns-clause-value c = is_done item_at (map item_of (map alert_of c.loop.alerts.items)) c.args.count c.loop.counter c.loop.rest.now (many c.args.count item_at c.args.bytes.now) c.loop-test.false c.loop.invariant.0
@@ -22,11 +22,10 @@ returns-clause-value c = is_done item_at (map item_of (map alert_of c.loop.alert
 pub loop-preserved : goal.loop-preserved
 loop-preserved c =
     let xs = c.loop.alerts.items in
-    let a : CodeAlert = record { observer = c.args.observer; subject = c.process_in.result; ring = c.in_ok-ring.ring; kind = c.in_ok-ring.kind; config = c.args.config } in
+    let a : CodeAlert = record { observer = c.args.observer; subject = c.in_ok-ring.subject; ring = c.in_ok-ring.ring; kind = c.in_ok-ring.kind; config = c.args.config } in
     let alerts : map alert_of c.push.new.self.items ≡ map alert_of xs ++ alert_of a ∷ [] = ap (map alert_of) c.in_ok-push.ensures.items ∙ map_push alert_of xs a in
     let items : map item_of (map alert_of c.push.new.self.items) ≡ map item_of (map alert_of xs) ++ item_of (alert_of a) ∷ [] = ap (map item_of) alerts ∙ map_push item_of (map alert_of xs) (alert_of a) in
-    let item : List ℕ → AlertItem = λ s. record { ring = c.in_ok-ring.ring; kind = kind_of c.in_ok-ring.kind; subject = s } in
-    let read = c.in_ok-ring.ensures.value ∙ ap (λ s. Some (item s, c.in_ok-ring.after.now)) (sym c.process_in.ensures) in
+    let read = c.in_ok-ring.ensures in
     let total = many c.args.count item_at c.args.bytes.now in
     let rest = many (c.args.count - (c.loop.counter + 1)) item_at c.in_ok-ring.after.now in (
       subst (λ ys. with_front ys rest ≡ total) (sym items) (goes_on item_at (map item_of (map alert_of xs)) c.args.count c.loop.counter c.loop.rest.now (item_of (alert_of a)) c.in_ok-ring.after.now total c.loop-test.true read c.loop.invariant.0),
