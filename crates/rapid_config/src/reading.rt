@@ -4,7 +4,7 @@ ghost use Rattle.std.specs.Prelude.{◌≡◌, ◌≢◌, ◌+◌, ◌≤◌, So
 ghost use Rattle.std.specs.Arc.{arc_slice_items};
 ghost use Rattle.rapid_model.specs.Process.{same_bytes};
 ghost use Rattle.rapid_model.specs.Configuration.{magic, AreMembers};
-ghost use Rattle.rapid_model.specs.ReadProcess.{ProcessFault, unread, process_in, behind_process, unread_processes, processes_in, processes_size};
+ghost use Rattle.rapid_model.specs.ReadProcess.{ProcessFault, unread, process_size, process_in, behind_process, unread_processes, processes_in, processes_size};
 ghost use Rattle.rapid_model.specs.Reading.{params_in, count_in, configuration_in, members_fault, bytes_fault};
 ghost use Rattle.rapid_endpoint.specs.ReadErrors.{fault_of};
 ghost use Rattle.rapid_config.specs.Faults.{ReportsOfBytes, member_error_of};
@@ -81,6 +81,19 @@ fn member_error(error: ReadError) -> ConfigError
     }
 }
 
+/// What follows the process in front of the bytes; or why none is read.
+fn after_process(bytes: &[u8]) -> Result<&[u8], ConfigError>
+    ensures read { OnOk result (unread bytes.now ≡ None) }
+    ensures behind { IfOk result (λ rest. rest.now ≡ behind_process bytes.now) }
+    ensures length { IfOk result (λ rest. process_size bytes.now + length rest.now ≡ length bytes.now) }
+    ensures refused { IfErr result (λ e. (f : ProcessFault) × (unread bytes.now ≡ Some f) × (e ≡ member_error_of f)) }
+{
+    match Process::check(bytes) {
+        Ok(used) => Ok(&bytes[used..]),
+        Err(error) => Err(member_error(error)),
+    }
+}
+
 /// How many bytes this many processes take in front of the bytes; or why they are not read.
 fn check_processes(count: usize, bytes: &[u8]) -> Result<usize, ConfigError>
     ensures read { IfOk result (λ size. unread_processes count bytes.now ≡ None) }
@@ -92,11 +105,8 @@ fn check_processes(count: usize, bytes: &[u8]) -> Result<usize, ConfigError>
     let mut left = count;
     let mut rest = bytes;
     while left > 0 {
-        let used = match Process::check(rest) {
-            Ok(used) => used,
-            Err(error) => return Err(member_error(error)),
-        };
-        rest = &rest[used..];
+        let behind = after_process(rest)?;
+        rest = behind;
         left -= 1;
     }
     Ok(bytes.len() - rest.len())

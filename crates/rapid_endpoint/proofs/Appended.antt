@@ -1,5 +1,5 @@
 -- Bytes that are put behind others, in room with zeros behind them.
-use Rattle.std.proofs.Common.{◌≡◌, ℕ, ◌+◌, ◌-◌, ◌≤◌, List, ◌++◌, length, replicate, take, drop, refl, ap, sym, ◌∙◌, append_assoc, length-append, arith}
+use Rattle.std.proofs.Common.{◌≡◌, ℕ, ◌+◌, ◌-◌, ◌≤◌, List, ◌++◌, length, replicate, take, drop, ap, sym, ◌∙◌, append_assoc, length-append, arith}
 use Rattle.std.proofs.lemmas.List.{drop-replicate, length-replicate}
 use Rattle.rapid_endpoint.specs.Rooms.{padded, len_is}
 use Rattle.rapid_endpoint.specs.Joined.{first_part, second_part}

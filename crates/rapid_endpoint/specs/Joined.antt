@@ -10,8 +10,8 @@ use Rattle.std.proofs.lemmas.Nat.{from_be_bytes-to_be_bytes_2}
 use Rattle.std.proofs.lemmas.Bool.{true≢false, false≢true}
 use Rattle.std.proofs.lemmas.Bool.Decides.{nat_tests}
 use Rattle.std.proofs.Math.Seq.{take-append_seam, drop-append_seam}
-use Rattle.std.proofs.lemmas.List.{take_all, drop_all, append-nil}
-use Rattle.rapid_model.specs.Process.{bytes_cmp, same_bytes, endpoint}
+use Rattle.std.proofs.lemmas.List.{drop_all, append-nil}
+use Rattle.rapid_model.specs.Process.{bytes_cmp, same_bytes}
 
 -- The first part, by its length.
 pub first_part : (n : ℕ) (xs ys : List ℕ) → length xs ≡ n → take n (xs ++ ys) ≡ xs

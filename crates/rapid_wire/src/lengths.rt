@@ -37,12 +37,12 @@ fn processes_length(processes: &[Process]) -> usize
     ensures value { result ≡ length (concat processes.now) }
     ensures few { result ≤ 543 * length processes.now }
 {
-    let mut length = 0;
+    let mut total = 0;
     for process in processes {
         process.tell();
-        length += process.size();
+        total += process.size();
     }
-    length
+    total
 }
 
 /// The bytes of alerts, one after another.
@@ -51,12 +51,12 @@ fn alerts_length(alerts: &[Alert]) -> usize
     ensures value { result ≡ length (concat (map item_bytes (map item_of (map alert_of alerts.now)))) }
     ensures few { result ≤ 545 * length alerts.now }
 {
-    let mut length = 0;
+    let mut total = 0;
     for alert in alerts {
         alert.subject.tell();
-        length += MARK_BYTES + alert.subject.size();
+        total += MARK_BYTES + alert.subject.size();
     }
-    length
+    total
 }
 
 /// The bytes of a cut.

@@ -1,4 +1,4 @@
-use Rattle.std.proofs.Common.{◌≡◌, ℕ, List, take, drop, refl, sym, ◌∙◌, ap, ◌++◌, ◌<◌, arith, slice_index_or, drop-drop}
+use Rattle.std.proofs.Common.{◌≡◌, ℕ, List, drop, refl, sym, ◌∙◌, ap, ◌++◌, ◌<◌, arith, slice_index_or, drop-drop}
 use Rattle.std.specs.Int.{w16, to_be_bytes}
 use Rattle.rapid_endpoint.proofs.Fronts.{front_of_bytes}
 use Rattle.rapid_endpoint.proofs.process.key_in.Goals as goal

@@ -1,6 +1,6 @@
 use Rattle.std.proofs.Common.{◌≡◌, ◌≤◌, ◌+◌, ◌-◌, ◌++◌, ℕ, List, length, take, subst, sym, ap, ◌∙◌, arith}
 use Rattle.rapid_endpoint.specs.Rooms.{padded, len_is}
-use Rattle.rapid_endpoint.proofs.Appended.{appended, Appended}
+use Rattle.rapid_endpoint.proofs.Appended.{appended}
 use Rattle.rapid_endpoint.proofs.room.Room.append.Goals as goal
 
 pub invariant_of-self : goal.invariant_of-self
