@@ -26,6 +26,8 @@ mod numbered;
 #[cfg(test)]
 mod probes;
 #[cfg(test)]
+mod processes;
+#[cfg(test)]
 mod rings;
 #[cfg(test)]
 mod running;

@@ -17,8 +17,8 @@ use std::thread::Threads;
 use std::time::Clock;
 
 /// The frame in which the process with the number 2 asks to join.
-const PRE_JOIN: [u8; 28] = [
-    0, 0, 0, 0x18, 1, 8, 0, 0, 0, 0, 0, 0, 0, 0, 0, 0, 0, 0, 0, 0, 0, 2, 0x7f, 0, 0, 1, 0, 2,
+const PRE_JOIN: [u8; 29] = [
+    0, 0, 0, 0x19, 2, 8, 0, 0, 0, 0, 0, 0, 0, 0, 0, 0, 0, 0, 0, 0, 0, 2, 0x7f, 0, 0, 1, 0, 2, 0,
 ];
 
 /// A reader that gives at most this many bytes a call.

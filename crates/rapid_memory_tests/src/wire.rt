@@ -42,7 +42,7 @@ type Parts<'a> = (u8, &'a [&'a [u8]]);
 /// The frame of a body from the process with the number 1.
 fn frame(alloc: Global, (kind, parts): &Parts) -> Result<Vec<u8>, Fail> {
     let mut payload = Vec::new(alloc);
-    append(&mut payload, &[&[1, *kind], &ONE])?;
+    append(&mut payload, &[&[2, *kind], &ONE])?;
     append(&mut payload, parts)?;
     let length = u32::try_from(payload.len())?.to_be_bytes();
     let mut frame = Vec::new(alloc);

@@ -38,7 +38,8 @@ fn append_tag(before: u8, tag: &[u8], output: &mut Vec<u8>) -> Result<(), AllocE
     ensures begun { OnErr result (take (length output.old.items) output.new.items ≡ output.old.items) }
 {
     output.push(before)?;
-    output.extend_from_slice(tag)
+    output.extend_from_slice(tag)?;
+    Ok(())
 }
 
 /// Appends tags, a comma before each. If out of memory, the output begins with what it was.

@@ -62,7 +62,7 @@ const BODIES: [Parts; 18] = [
 /// The frame of a body from the process with the number 1.
 fn frame(alloc: Global, (kind, parts): &Parts) -> Result<Vec<u8>, Fail> {
     let mut rest = Vec::new(alloc);
-    rest.extend_from_slice(&[1, *kind])?;
+    rest.extend_from_slice(&[2, *kind])?;
     rest.extend_from_slice(&ONE)?;
     for part in *parts {
         rest.extend_from_slice(part)?;

@@ -8,8 +8,8 @@ use rapid_world::WorldEvent::{Deliver, Probe, Start, Tick};
 use std::test::Fail;
 
 /// The frame by which the process 2 asks to join.
-const PRE_JOIN: [u8; 28] = [
-    0, 0, 0, 0x18, 1, 8, 0, 0, 0, 0, 0, 0, 0, 0, 0, 0, 0, 0, 0, 0, 0, 2, 0x7f, 0, 0, 1, 0, 2,
+const PRE_JOIN: [u8; 29] = [
+    0, 0, 0, 0x19, 2, 8, 0, 0, 0, 0, 0, 0, 0, 0, 0, 0, 0, 0, 0, 0, 0, 2, 0x7f, 0, 0, 1, 0, 2, 0,
 ];
 
 /// Whether this packet goes to this endpoint with these bytes.
