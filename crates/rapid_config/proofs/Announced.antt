@@ -74,6 +74,10 @@ one_more n m ps all p bytes rest e here later h =
     append_assoc ps (p ∷ []) (processes_in m rest)
     ∙ (λ i. ps ++ here i ∷ processes_in m (later i)) ∙ ap (λ qs. ps ++ qs) (sym (step_in n m bytes e)) ∙ h
 
+-- all that stands behind the head
+pub behind_head : (bytes : List ℕ) → take (length bytes - 49) (drop 49 bytes) ≡ drop 49 bytes
+behind_head bytes = take_all (length bytes - 49) (drop 49 bytes) (let k = length-drop 49 bytes in omega (arith, k))
+
 -- the members that were read are those that are announced
 pub announced : (bytes : List ℕ) (count : ℕ) (items : List Process) → count ≡ count_in bytes → items ≡ processes_in count (take (length bytes - 49) (drop 49 bytes)) → items ≡ processes_in (count_in bytes) (drop 49 bytes)
 announced bytes count items e h =

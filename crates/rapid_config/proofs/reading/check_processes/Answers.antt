@@ -32,3 +32,11 @@ returns-clause-size c =
     let z = (none_left c.loop-left.left c.loop-left.rest.now (omega (arith, h))).2 in
     let w = c.loop-left.invariant.within in
     omega (arith, s, z, w)
+
+pub returns-in_err-behind-clause-refused : goal.returns-in_err-behind-clause-refused
+returns-in_err-behind-clause-refused c =
+    let p = err_from_is_err_and c.from_residual.result c.from_residual.ensures.1 in
+    let n : ℕ = c.loop-left.left in
+    let e : n ≡ suc (n - 1) = (let h = c.loop-left-test.true in omega (arith, h)) in
+    let f = c.in_err-behind.ensures.refused in
+    rw (p.1, p.2) (f.0, c.loop-left.invariant.same ∙ step_fault n (n - 1) c.loop-left.rest.now f.0 e f.1, f.2)

@@ -1,15 +1,19 @@
 use Rattle.std.proofs.Common.{◌≡◌, ◌≤◌, ℕ, List, length, drop, sym, ap, subst, ◌∙◌, inl, arith}
 use Rattle.std.proofs.lemmas.Result.{err_from_is_err_and}
 use Rattle.rapid_model.specs.Process.{Process}
-use Rattle.rapid_model.specs.ReadProcess.{processes_in}
+use Rattle.rapid_model.specs.ReadProcess.{unread_processes, processes_in}
 use Rattle.rapid_model.specs.Reading.{members_fault, count_in}
 use Rattle.rapid_model.proofs.Tagged.{counted_in}
 use Rattle.rapid_config.specs.Faults.{ReportsOfBytes}
-use Rattle.rapid_config.proofs.Announced.{announced, late_fault, of_bytes}
+use Rattle.rapid_config.proofs.Announced.{announced, behind_head, late_fault, of_bytes}
 use Rattle.rapid_config.proofs.reading.members_in.Goals as goal
 
 few : (n m : ℕ) (bytes : List ℕ) → n ≡ m → n ≤ 1024 → length (processes_in m bytes) ≤ 1024
 few n m bytes e l = let k = counted_in m bytes in omega arith
+
+pub read_members-requires : goal.read_members-requires
+read_members-requires c =
+    ap (unread_processes c.args.count) (behind_head c.args.bytes.now) ∙ c.requires.read
 
 pub returns-in_err-members-clause-refused : goal.returns-in_err-members-clause-refused
 returns-in_err-members-clause-refused c =

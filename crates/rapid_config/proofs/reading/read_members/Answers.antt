@@ -4,8 +4,8 @@ use Rattle.rapid_model.specs.ReadProcess.{unread_processes, processes_in}
 use Rattle.rapid_config.proofs.Announced.{step_read, none_left, one_more}
 use Rattle.rapid_config.proofs.reading.read_members.Goals as goal
 
-pub split_process-requires : goal.split_process-requires
-split_process-requires c =
+pub split_process-member-requires : goal.split_process-member-requires
+split_process-member-requires c =
     let n : ℕ = c.loop-left.left in
     let e : n ≡ suc (n - 1) = (let h = c.loop-left-test.true in omega (arith, h)) in
     (step_read n (n - 1) c.loop-left.rest.now e c.loop-left.invariant.read).0
@@ -16,7 +16,7 @@ loop-left-preserved c =
     let e : n ≡ suc (n - 1) = (let h = c.loop-left-test.true in omega (arith, h)) in
     let rest = c.loop-left.rest.now in
     let i = c.loop-left.invariant in
-    let s = c.split_process in
+    let s = c.split_process-member in
     record {
       read = ap (unread_processes (n - 1)) s.ensures.behind ∙ (step_read n (n - 1) rest e i.read).1;
       members =
