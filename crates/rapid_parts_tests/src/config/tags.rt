@@ -40,7 +40,13 @@ fn processes_are_written_and_read(rt: HostRuntime) -> Result<(), Fail> {
     assert!(rt; has_bytes(alloc, &plain(2), &[0])?);
     assert!(rt; has_bytes(alloc, &tagged(2, &[])?, &[0])?);
     assert!(rt; has_bytes(alloc, &tagged(2, &[b"db"])?, &[1, 2, 0x64, 0x62])?);
-    assert!(rt; has_bytes(alloc, &tagged(2, &[b"aa", b"b"])?, &[2, 2, 0x61, 0x61, 1, 0x62])?);
+    assert!(rt;
+        has_bytes(
+            alloc,
+            &tagged(2, &[b"aa", b"b"])?,
+            &[2, 2, 0x61, 0x61, 1, 0x62]
+        )?
+    );
     Ok(())
 }
 
@@ -91,7 +97,10 @@ type Refused<'a> = (&'a [&'a [u8]], ParseError);
 const REFUSED: [Refused; 14] = [
     (&NINE, ParseError::TooManyTags),
     // what is checked first is answered
-    (&[b"i", b"h", b"", b"f", b"e", b"d", b"c", b"b", b"a"], ParseError::TooManyTags),
+    (
+        &[b"i", b"h", b"", b"f", b"e", b"d", b"c", b"b", b"a"],
+        ParseError::TooManyTags,
+    ),
     (&[b"b", b"a", b""], ParseError::BadTag),
     (&[b""], ParseError::BadTag),
     (&[&LONGEST], ParseError::BadTag),
@@ -163,7 +172,10 @@ fn each_beginning_is_truncated(rt: HostRuntime) -> Result<(), Fail> {
     assert!(rt; Process::check(&bytes) == Ok(bytes.len()));
     for length in 0..bytes.len() {
         let beginning = &bytes[..length];
-        assert!(rt; Process::read(beginning) == Err(ReadError::Truncated), "of {length} bytes");
+        assert!(rt;
+            Process::read(beginning) == Err(ReadError::Truncated),
+            "of {length} bytes"
+        );
     }
     Ok(())
 }

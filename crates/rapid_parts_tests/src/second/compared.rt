@@ -4,9 +4,9 @@ use crate::second::bodies::{Came, first};
 use crate::second::configurations::refusal as configuration_refusal;
 use crate::second::processes::{Unread, after_process};
 use crate::second::texts::refusal as text_refusal;
+use crate::wire::frames::{GOOD, frame};
 use rapid_config::{ConfigError, Configuration};
 use rapid_endpoint::{Endpoint, ParseError, Process, ReadError};
-use crate::wire::frames::{GOOD, frame};
 use rapid_wire::{Feed, WireFault, encode};
 use std::alloc::{AllocError, Global};
 use std::test::Fail;
@@ -64,7 +64,11 @@ fn process_agrees(alloc: Global, bytes: &[u8]) -> Result<Option<bool>, Fail> {
         (Ok((process, used)), Ok(rest)) => {
             let spelt = process.to_bytes(alloc)?;
             let same = bytes.starts_with(&spelt) && spelt.len() == used;
-            Ok(if same && bytes.len() == used.wrapping_add(rest.len()) { Some(true) } else { None })
+            Ok(if same && bytes.len() == used.wrapping_add(rest.len()) {
+                Some(true)
+            } else {
+                None
+            })
         }
         (Err(ReadError::Truncated), Err(Unread::Short)) => Ok(Some(false)),
         (Err(ReadError::BadTags), Err(Unread::Tags)) => Ok(Some(false)),
@@ -74,10 +78,17 @@ fn process_agrees(alloc: Global, bytes: &[u8]) -> Result<Option<bool>, Fail> {
 
 /// Whether bytes are taken as a configuration, if both readers agree.
 fn configuration_agrees(alloc: Global, bytes: &[u8]) -> Result<Option<bool>, Fail> {
-    match (Configuration::from_bytes(alloc, bytes), configuration_refusal(alloc, bytes)?) {
+    match (
+        Configuration::from_bytes(alloc, bytes),
+        configuration_refusal(alloc, bytes)?,
+    ) {
         (Ok(configuration), None) => {
             let spelt = configuration.to_bytes(alloc)?;
-            Ok(if spelt.as_slice() == bytes { Some(true) } else { None })
+            Ok(if spelt.as_slice() == bytes {
+                Some(true)
+            } else {
+                None
+            })
         }
         (Err(ConfigError::OutOfMemory), _) => Err(AllocError.into()),
         (Err(found), Some(expected)) if found == expected => Ok(Some(false)),
@@ -123,8 +134,12 @@ fn text_agrees(_alloc: Global, bytes: &[u8]) -> Result<Option<bool>, Fail> {
 
 /// A process without tags, and two with tags.
 const PROCESSES: [&[u8]; 3] = [
-    &[0, 0, 0, 0, 0, 0, 0, 0, 0, 0, 0, 0, 0, 0, 0, 2, 0x7f, 0, 0, 1, 0, 2, 0],
-    &[0, 0, 0, 0, 0, 0, 0, 0, 0, 0, 0, 0, 0, 0, 0, 2, 0x7f, 0, 0, 1, 0, 2, 1, 2, b'd', b'b'],
+    &[
+        0, 0, 0, 0, 0, 0, 0, 0, 0, 0, 0, 0, 0, 0, 0, 2, 0x7f, 0, 0, 1, 0, 2, 0,
+    ],
+    &[
+        0, 0, 0, 0, 0, 0, 0, 0, 0, 0, 0, 0, 0, 0, 0, 2, 0x7f, 0, 0, 1, 0, 2, 1, 2, b'd', b'b',
+    ],
     &[
         0, 0, 0, 0, 0, 0, 0, 0, 0, 0, 0, 0, 0, 0, 0, 3, 0x7f, 0, 0, 1, 0, 3, 3, 2, b'a', b'a', 1,
         b'b', 6, b'z', b'o', b'n', b'e', b'-', b'a',

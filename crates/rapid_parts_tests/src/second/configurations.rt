@@ -47,7 +47,7 @@ fn announced(bytes: &[u8]) -> Result<usize, ConfigError> {
     if bytes.len() < 4 {
         return Err(ConfigError::Truncated);
     }
-    if bytes[..4] != *b"RPC2" {
+    if !bytes.starts_with(b"RPC2") {
         return Err(ConfigError::BadMagic);
     }
     if bytes.len() < 49 {

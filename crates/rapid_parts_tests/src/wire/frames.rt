@@ -50,6 +50,11 @@ const TAGGED: [u8; 28] = [
     0, 0, 0, 0, 0, 0, 0, 0, 0, 0, 0, 0, 0, 0, 0, 2, 0x7f, 0, 0, 1, 0, 2, 2, 2, 0x61, 0x61, 1, 0x62,
 ];
 
+/// The beginning of that process.
+const CUT_OFF: [u8; 27] = [
+    0, 0, 0, 0, 0, 0, 0, 0, 0, 0, 0, 0, 0, 0, 0, 2, 0x7f, 0, 0, 1, 0, 2, 2, 2, 0x61, 0x61, 1,
+];
+
 /// What would be that process, if its tags ascended.
 const UNSORTED: [u8; 28] = [
     0, 0, 0, 0, 0, 0, 0, 0, 0, 0, 0, 0, 0, 0, 0, 2, 0x7f, 0, 0, 1, 0, 2, 2, 1, 0x62, 2, 0x61, 0x61,
@@ -240,7 +245,7 @@ const BAD: [Parts; 28] = [
     (9, &[&TWO, &[1], &ID, &[1], &UNSORTED]),
     (11, &[&HEAD, &[0, 1], &UNSORTED]),
     // tags that are cut off
-    (9, &[&TAGGED[..27]]),
+    (9, &[&CUT_OFF]),
 ];
 
 #[test]
@@ -266,20 +271,22 @@ fn is_fault_at_end(alloc: Global, bytes: &[u8], fault: WireFault) -> bool {
 
 const FAULTS: [(&[u8], WireFault); 10] = [
     (&[0, 0, 0, 0], WireFault::BadBody),
-    (&[0, 0, 0, 1, 1], WireFault::BadBody),
-    (&[0, 0, 0, 2, 2, 8], WireFault::BadVersion),
-    (&[0, 0, 0, 2, 1, 0xff], WireFault::BadKind),
-    (&[0, 0, 0, 2, 1, 0], WireFault::BadKind),
-    (&[0, 0, 0, 2, 1, 15], WireFault::BadKind),
-    (&[0, 0, 0, 2, 1, 8], WireFault::BadBody),
+    (&[0, 0, 0, 1, 2], WireFault::BadBody),
+    (&[0, 0, 0, 2, 3, 8], WireFault::BadVersion),
+    // a frame of version 1
+    (&OLD_PRE_JOIN, WireFault::BadVersion),
+    (&[0, 0, 0, 2, 2, 0xff], WireFault::BadKind),
+    (&[0, 0, 0, 2, 2, 0], WireFault::BadKind),
+    (&[0, 0, 0, 2, 2, 15], WireFault::BadKind),
+    (&[0, 0, 0, 2, 2, 8], WireFault::BadBody),
     (
         &[
-            0, 0, 0, 0x19, 1, 8, 0, 0, 0, 0, 0, 0, 0, 0, 0, 0, 0, 0, 0, 0, 0, 2, 0x7f, 0, 0, 1, 0,
-            2, 0,
+            0, 0, 0, 0x1a, 2, 8, 0, 0, 0, 0, 0, 0, 0, 0, 0, 0, 0, 0, 0, 0, 0, 2, 0x7f, 0, 0, 1, 0,
+            2, 0, 0,
         ],
         WireFault::BadBody,
     ),
-    (&[0, 1, 0, 1], WireFault::TooLong),
+    (&[0, 0x20, 0, 1], WireFault::TooLong),
 ];
 
 #[test]
