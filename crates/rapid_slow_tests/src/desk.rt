@@ -125,8 +125,7 @@ fn let_three_in<R: Wait + Abort>(
             decision(alloc, id, number)?,
             decision(alloc, id, number)?,
         )?;
-        let height = u64::from(number) - 1;
-        assert_eq!(rt; seat.stamp().height(), height, "at {number}");
+        assert_eq!(rt; seat.stamp().height(), u64::from(number) - 1);
     }
     Ok(())
 }
