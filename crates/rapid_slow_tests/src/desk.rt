@@ -117,7 +117,7 @@ fn let_three_in<R: Wait + Abort>(
     desk: &mut Desk<&R>,
     seat: &mut ViewSeat,
 ) -> Result<(), Fail> {
-    for number in [2, 3, 4u16] {
+    for (number, height) in [(2u16, 1u64), (3, 2), (4, 3)] {
         let id = seat.stamp().id();
         hand_over(
             rt,
@@ -125,7 +125,7 @@ fn let_three_in<R: Wait + Abort>(
             decision(alloc, id, number)?,
             decision(alloc, id, number)?,
         )?;
-        assert_eq!(rt; seat.stamp().height(), u64::from(number) - 1);
+        assert_eq!(rt; seat.stamp().height(), height, "at {number}");
     }
     Ok(())
 }
