@@ -111,6 +111,13 @@ impl<R: Wait + Copy + Drop, P: Post + Drop> Shared<R, P> {
         }
     }
 
+    /// Prints the views that were entered so far.
+    pub fn begin<W: Wait>(&self, rt: &W) -> Result<(), RunningFault> {
+        let mut service = self.service.lock(rt);
+        self.show(rt, &mut service)?;
+        Ok(())
+    }
+
     /// A tick of the node. After every tenth the observed members are probed, and edges of which
     /// too many probes were not acknowledged are given to the node. It returns when the round is
     /// made.
