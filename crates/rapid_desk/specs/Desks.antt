@@ -179,10 +179,12 @@ NotEntered old new BadCapacity = ⊥
 
 -- Why an event was refused, and what the desk is then.
 abbrev pub Refused : DeskState → model.Event → DeskState → DeskError → Type 0
-Refused old event new JournalFull = (is_journal_full old event ≡ true) × (length old.journal ≡ most_entries) × (new ≡ record old { full = true })
+Refused old event new JournalFull = (is_journal_full old event ≡ true) × (length old.journal ≡ most_entries)
+    × (new ≡ record old { full = true })
 Refused old event new OutOfMemory = (is_journal_full old event ≡ false) × (new ≡ old)
 Refused old event new (Node fault) = (is_journal_full old event ≡ false) × IsFault old.node event new.node fault × (new ≡ record old { node = new.node })
-Refused old event new Unpublished = (is_journal_full old event ≡ false) × (length old.published < most_views) × ((n : model.Node) × Installs old.node event n × (new ≡ record old { node = model.halt n }))
+Refused old event new Unpublished = (is_journal_full old event ≡ false) × (length old.published < most_views)
+    × ((n : model.Node) × Installs old.node event n × (new ≡ record old { node = model.halt n }))
 Refused old event new TooManySubscribers = ⊥
 Refused old event new BadCapacity = ⊥
 

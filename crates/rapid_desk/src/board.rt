@@ -31,7 +31,11 @@ impl<R: Wait + Copy + Drop> Model for Board<R> {
 
     ghost view = { λ b. record { published = seen_by b.writer; seats = is_some b.seats; count = b.count } };
 
-    ghost invariant = { λ b. (0 < b.count) × (b.count ≤ 64) × IfSome b.writer (λ w. (0 < length w.seen) × (w.room ≡ most_views)) × IfSome b.seats (λ all. (vec_len all ≡ b.count) × IsSome b.writer × All (λ s. IfSome b.writer (λ w. s.cell ≡ w.cell)) all.items) × (b.height ≡ shown_height (seen_by b.writer)) };
+    ghost invariant = { λ b. (0 < b.count) × (b.count ≤ 64)
+        × IfSome b.writer (λ w. (0 < length w.seen) × (w.room ≡ most_views))
+        × IfSome b.seats (λ all. (vec_len all ≡ b.count) × IsSome b.writer
+        × All (λ s. IfSome b.writer (λ w. s.cell ≡ w.cell)) all.items)
+        × (b.height ≡ shown_height (seen_by b.writer)) };
 }
 
 impl<R: Wait + Copy + Drop> Board<R> {

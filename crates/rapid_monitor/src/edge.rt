@@ -51,7 +51,8 @@ impl Model for Edge {
 
     ghost view = { λ e. record { window = e.window.items; is_down = e.is_down } };
 
-    ghost invariant = { λ e. (e.window.capacity ≡ probe_window) × (length e.window.items ≤ probe_window) × (e.failures ≡ failures_in e.window.items) };
+    ghost invariant = { λ e. (e.window.capacity ≡ probe_window) × (length e.window.items ≤ probe_window)
+        × (e.failures ≡ failures_in e.window.items) };
 }
 
 impl Edge {

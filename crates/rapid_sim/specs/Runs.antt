@@ -17,7 +17,9 @@ pub run_ends : (r : SimRun) → RunPrints r [] [] (wants_in r)
 run_ends r = record { later = 0; prints = none_print (state_of r); counts = omega arith }
 
 -- All lines that are too long print the same.
-pub run_too_long : (r : SimRun) (line other : List ℕ) (later : List (List ℕ)) (text : List ℕ) (n : ℕ) → longest_line < length line → longest_line < length other → RunPrints r (line ∷ later) text n → RunPrints r (other ∷ later) text n
+pub run_too_long : (r : SimRun) (line other : List ℕ) (later : List (List ℕ)) (text : List ℕ) (n : ℕ)
+    → longest_line < length line → longest_line < length other → RunPrints r (line ∷ later) text n
+    → RunPrints r (other ∷ later) text n
 run_too_long r line other later text n h k p = record { later = p.later; prints = long_lines (state_of r) line other later text p.later h k p.prints; counts = p.counts }
 
 -- Whatever the lines are, they print something, and memory runs out no more.

@@ -39,7 +39,10 @@ impl Model for StampReader {
 
     ghost view = { λ s. record { cell = s.seat.table_id; seen = s.seat.me.0.seen } };
 
-    ghost invariant = { λ s. (s.seat.table_id ≡ (arc_value s.cell).table.shared.table_id) × ((arc_value s.cell).table.shared.table_id.words ≡ place s.seat.me.0.room) × (0 < s.seat.me.0.room) × (s.seat.me.0.room ≤ most_views) × (s.seat.me.1 ≡ []) × (s.seat.me.0.writes ≡ false) × (0 < length s.seat.me.0.seen) × HeightsRise s.seat.me.0.seen };
+    ghost invariant = { λ s. (s.seat.table_id ≡ (arc_value s.cell).table.shared.table_id)
+        × ((arc_value s.cell).table.shared.table_id.words ≡ place s.seat.me.0.room) × (0 < s.seat.me.0.room)
+        × (s.seat.me.0.room ≤ most_views) × (s.seat.me.1 ≡ []) × (s.seat.me.0.writes ≡ false)
+        × (0 < length s.seat.me.0.seen) × HeightsRise s.seat.me.0.seen };
 }
 
 /// A word of a stamp that the seat has seen.
@@ -73,7 +76,8 @@ fn read_stamp(cell: &ViewCell, seat: &mut Seat<(), Known>, number: usize) -> Sta
 /// Learns of the list as it is, and says how long it is.
 fn look(cell: &ViewCell, seat: &mut Seat<(), Known>) -> usize
     requires own { seat.old.table_id ≡ cell.now.table.shared.table_id }
-    requires room { (0 < seat.old.me.0.room) × (seat.old.me.0.room ≤ most_views) × (0 < cell.now.table.shared.table_id.words) }
+    requires room { (0 < seat.old.me.0.room) × (seat.old.me.0.room ≤ most_views)
+        × (0 < cell.now.table.shared.table_id.words) }
     ensures same { (seat.new.table_id ≡ seat.old.table_id) × (seat.new.id ≡ seat.old.id) }
     ensures looked { Looked (step cell.now.table.shared.table_id.slots 0 0 0 none) seat.old.me result seat.new.me }
 {
@@ -114,7 +118,8 @@ impl StampReader {
         writer: &mut Seat<(), Known>,
     ) -> Result<StampReader, AllocError>
         requires own { writer.old.table_id ≡ (arc_value cell.now).table.shared.table_id }
-        requires room { ((arc_value cell.now).table.shared.table_id.words ≡ place writer.old.me.0.room) × (0 < writer.old.me.0.room) × (writer.old.me.0.room ≤ most_views) }
+        requires room { ((arc_value cell.now).table.shared.table_id.words ≡ place writer.old.me.0.room)
+            × (0 < writer.old.me.0.room) × (writer.old.me.0.room ≤ most_views) }
         requires seen { (0 < length writer.old.me.0.seen) × HeightsRise writer.old.me.0.seen }
         ensures same { (writer.new.table_id ≡ writer.old.table_id) × (writer.new.me ≡ writer.old.me) }
         ensures reader { IfOk result (λ s. (s.cell ≡ writer.old.table_id) × (s.seen ≡ writer.old.me.0.seen)) }

@@ -42,7 +42,10 @@ impl Model for StampWriter {
 
     ghost view = { λ s. record { cell = s.seat.table_id; room = s.room; seen = s.seat.me.0.seen } };
 
-    ghost invariant = { λ s. (s.seat.table_id ≡ (arc_value s.cell).table.shared.table_id) × ((arc_value s.cell).table.shared.table_id.words ≡ place s.room) × (0 < s.room) × (s.room ≤ most_views) × (s.seat.me ≡ (writing s.room s.seat.me.0.seen [], [])) × (s.count ≡ length s.seat.me.0.seen) × (s.count ≤ s.room) × (s.last ≡ last_height s.seat.me.0.seen) × HeightsRise s.seat.me.0.seen };
+    ghost invariant = { λ s. (s.seat.table_id ≡ (arc_value s.cell).table.shared.table_id)
+        × ((arc_value s.cell).table.shared.table_id.words ≡ place s.room) × (0 < s.room) × (s.room ≤ most_views)
+        × (s.seat.me ≡ (writing s.room s.seat.me.0.seen [], [])) × (s.count ≡ length s.seat.me.0.seen)
+        × (s.count ≤ s.room) × (s.last ≡ last_height s.seat.me.0.seen) × HeightsRise s.seat.me.0.seen };
 }
 
 /// Stores one word more of the next stamp.

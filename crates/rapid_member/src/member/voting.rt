@@ -170,9 +170,12 @@ impl MemberState {
         vote: &Option<(Ballot, Cut)>,
     ) -> Result<Option<Cut>, AllocError>
         requires { IsClassicBallot ballot }
-        ensures state { OnOk result (self.new ≡ (member.from_member self.old from.now (λ p. member.take_promise self.old p ballot (last_of vote.now))).state) }
-        ensures out { OnOk result (out.new.items ≡ out.old.items ++ outputs self.old.me (member.from_member self.old from.now (λ p. member.take_promise self.old p ballot (last_of vote.now))).effects) }
-        ensures decided { IfOk result (λ d. d ≡ (member.from_member self.old from.now (λ p. member.take_promise self.old p ballot (last_of vote.now))).decided) }
+        ensures state { OnOk result (self.new ≡
+            (member.from_member self.old from.now (λ p. member.take_promise self.old p ballot (last_of vote.now))).state) }
+        ensures out { OnOk result (out.new.items ≡ out.old.items ++ outputs self.old.me
+            (member.from_member self.old from.now (λ p. member.take_promise self.old p ballot (last_of vote.now))).effects) }
+        ensures decided { IfOk result (λ d. d ≡
+            (member.from_member self.old from.now (λ p. member.take_promise self.old p ballot (last_of vote.now))).decided) }
         ensures same { IsSameMember self.old self.new }
     {
         let Some(place) = self.configuration().position(from) else {
