@@ -14,6 +14,7 @@ ghost use Rattle.rapid_world.specs.Events.{event_of, marked_of, report_of, Refus
 ghost use Rattle.rapid_node.specs.Steps.{event_of as taken_of};
 ghost use Rattle.rapid_model.specs.Node.{EdgeDown};
 ghost use Rattle.rapid_model.specs.World.{Peer as ModelPeer};
+ghost use Rattle.rapid_model.specs.Limits.{most_events};
 ghost use Rattle.rapid_world.specs.Does.{Does, Hands, Probes};
 ghost use Rattle.rapid_world.specs.Framed.{framed_packet, HasFrame};
 ghost use Rattle.rapid_world.specs.Handed.{crash_of};
@@ -184,7 +185,7 @@ impl World {
         process: Process,
         seed: Endpoint,
     ) -> Result<Vec<Report>, AllocError>
-        requires open { nat_lt (accepted self.old) 1000000 ≡ true }
+        requires open { nat_lt (accepted self.old) most_events ≡ true }
         requires unused { list_any (model.has_identifier (identifier process)) (world_of self.old).peers ≡ false }
         requires free { is_some (model.running_at (world_of self.old) (endpoint process)) ≡ false }
         ensures stored { IfOk result (λ reports. StoresEvent self.old self.new (model.Start process seed) (map report_of reports.items)) }

@@ -15,7 +15,7 @@ use rapid_config::Cut;
 use rapid_endpoint::Process;
 use rapid_fast::HearError;
 use rapid_message::{Body, Output};
-use rapid_paxos::{AcceptError, Ballot, Promise};
+use rapid_paxos::{AcceptError, Ballot, Promise, copy_vote};
 use std::alloc::AllocError;
 use std::sync::Arc;
 
@@ -158,6 +158,31 @@ impl MemberState {
             Some(accept) => self.send_accept(out, promise.ballot, &accept.cut),
             None => Ok(None),
         }
+    }
+
+    /// Takes a promise, if its sender is a member.
+    #[inline(always)]
+    pub(super) fn take_promise_of(
+        &mut self,
+        out: &mut Vec<Output>,
+        from: &Process,
+        ballot: Ballot,
+        vote: &Option<(Ballot, Cut)>,
+    ) -> Result<Option<Cut>, AllocError>
+        requires { IsClassicBallot ballot }
+        ensures state { OnOk result (self.new ≡
+            (member.from_member self.old from.now (λ p. member.take_promise self.old p ballot (last_of vote.now))).state) }
+        ensures out { OnOk result (out.new.items ≡ out.old.items ++ outputs self.old.me
+            (member.from_member self.old from.now (λ p. member.take_promise self.old p ballot (last_of vote.now))).effects) }
+        ensures decided { IfOk result (λ d. d ≡
+            (member.from_member self.old from.now (λ p. member.take_promise self.old p ballot (last_of vote.now))).decided) }
+        ensures same { IsSameMember self.old self.new }
+    {
+        let Some(place) = self.configuration().position(from) else {
+            return Ok(None);
+        };
+        let vote = copy_vote(self.alloc, vote)?;
+        self.take_promise(out, place, &Promise { ballot, vote })
     }
 
     /// Takes a Prepare: the promise goes to its sender, or is taken here if that is the member

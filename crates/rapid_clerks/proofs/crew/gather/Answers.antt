@@ -1,7 +1,7 @@
 use Rattle.std.proofs.Common.{◌≡◌, ◌+◌, ◌≤◌, ◌∙◌, All, ap, sum, sym, subst, rules, arith}
 use Rattle.std.proofs.lemmas.List.Elements.{All-push}
 use Rattle.std.proofs.lemmas.List.Sums.{sum_by_push}
-use Rattle.rapid_clerks.proofs.crew.run_given.Goals as goal
+use Rattle.rapid_clerks.proofs.crew.gather.Goals as goal
 
 pub loop-place-preserved : goal.loop-place-preserved
 loop-place-preserved g c =
@@ -11,13 +11,11 @@ loop-place-preserved g c =
     let items = c.push_reserved-in-loop-place.ensures.items in
     let one = place.one_part in
     let counted = place.counted in
-    let most = place.most in
-    let given = c.requires.given in
     let sums = ap sum items ∙ sum_by_push (λ x. x) c.loop-place.counts.items place.done in
     let amount_before = i.1 in (
       search rules,
       omega (arith, merged.amount, amount_before, counted, sums),
       search rules,
       search rules,
-      subst (All (λ count. count ≤ c.args.crew.turns)) (sym items) (All-push (λ count. count ≤ c.args.crew.turns) c.loop-place.counts.items place.done i.4 (omega (arith, most, given))),
+      subst (All (λ count. count ≤ g.N.Given.given)) (sym items) (All-push (λ count. count ≤ g.N.Given.given) c.loop-place.counts.items place.done i.4 place.most),
     )
