@@ -119,6 +119,7 @@ fn make_places<L: Ledger, N: Given>(
     ensures each { IfOk result (λ places. vec_len places ≡ workers) }
     ensures parts { IfOk result (λ places. share.new.parts + vec_len places ≡ share.old.parts) }
     ensures amount { share.new.amount ≡ share.old.amount }
+    ensures kept { OnErr result (share.new.parts ≡ share.old.parts) }
 {
     let mut places = Vec::with_capacity(alloc, workers)?;
     for worker in 0..workers {
