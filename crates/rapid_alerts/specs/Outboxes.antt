@@ -11,6 +11,7 @@ use Rattle.rapid_model.specs.Alert.{Kind, Remove, Join, Alert, is_remove, is_wel
 use Rattle.rapid_model.specs.Reports.{Reports, report_of}
 use Rattle.rapid_model.specs.Outbox.{Outbox, Raising, Raised, Already, OldConfiguration, WrongObserver, WrongKind, TooManyJoiners, is_own}
 use Rattle.rapid_model.specs.Codes.{bytes_code, processes_code, reports_code}
+use Rattle.rapid_model.specs.Limits.{most_joiners}
 use Rattle.rapid_alerts.specs.Kinds.{kind_code}
 
 -- An outbox, its table and its owner.
@@ -50,7 +51,7 @@ indexed i a =
 
 -- The alert is on no 513th joiner.
 abbrev pub has_room : Index → Alert → Bool
-has_room i a = is_remove a.kind || set.contains i.joiners a.subject || nat_lt (set.len i.joiners) 512
+has_room i a = is_remove a.kind || set.contains i.joiners a.subject || nat_lt (set.len i.joiners) most_joiners
 
 -- The code of indexes.
 abbrev pub index_code : Coded Index

@@ -3,6 +3,7 @@
 ghost use Rattle.std.specs.Prelude.{◌≡◌, ◌≤◌, ◌++◌, None, All, length, map, IfOk, IfErr, OnOk};
 ghost use Rattle.std.specs.List.{list_all};
 ghost use Rattle.rapid_model.specs.Batch.{batch_fault, is_alike};
+ghost use Rattle.rapid_model.specs.Limits.{most_alerts};
 ghost use Rattle.rapid_alerts.specs.Alerts.{alert_of, alerts_in};
 ghost use Rattle.rapid_alerts.specs.Refusals.{Reports, ReportsIfAny};
 
@@ -144,7 +145,7 @@ impl Batch {
         ensures value { alerts_in result.now ≡ self.now }
         ensures valid { batch_fault self.now ≡ None }
         ensures some { 1 ≤ length (alerts_in result.now) }
-        ensures few { length (alerts_in result.now) ≤ 2048 }
+        ensures few { length (alerts_in result.now) ≤ most_alerts }
     {
         &self.alerts
     }
