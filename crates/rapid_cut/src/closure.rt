@@ -5,6 +5,7 @@ ghost use Rattle.std.specs.List.Sorted.{IsStrictlySortedBy};
 ghost use Rattle.rapid_model.specs.Process.{Process as Bytes, process_cmp, is_in};
 ghost use Rattle.rapid_model.specs.Ring.{AreObservers, rings};
 ghost use Rattle.rapid_model.specs.Reports as model;
+ghost use Rattle.rapid_model.specs.Limits.{most_rings};
 ghost use Rattle.rapid_rings.specs.Observing.{ObservesNobody};
 ghost use Rattle.rapid_cut.specs.Closing.{AddsImplied, IsBetween, IsPassing, HaveCome, active as active_of};
 ghost use Rattle.rapid_cut.specs.Growing.{before};
@@ -77,7 +78,7 @@ fn is_observer_low<T: ObserverTable>(
 
 /// The mask, with the ring added if it is to be.
 fn with_ring(mask: u16, ring: u8, is_added: bool) -> u16
-    requires { ring < 16 }
+    requires { ring < most_rings }
     ensures { (k : ℕ) → has_ring result k ≡ (has_ring mask k || (is_added && k == ring)) }
 {
     if is_added {

@@ -7,6 +7,7 @@ ghost use Rattle.rapid_model.specs.Process.{is_in};
 ghost use Rattle.rapid_model.specs.Ring.{rings};
 ghost use Rattle.rapid_model.specs.Reports.{Reports, Includes, report_of, subjects};
 ghost use Rattle.rapid_model.specs.Detector as detector;
+ghost use Rattle.rapid_model.specs.Limits.{most_joiners, most_rings};
 ghost use Rattle.rapid_alerts.specs.Alerts.{alert_of};
 ghost use Rattle.rapid_cut.specs.Growing.{before, HaveGrown};
 ghost use Rattle.rapid_cut.specs.Limits.{IsWithinLimits};
@@ -30,7 +31,7 @@ const JOINERS: usize = 512;
 /// whether the subject is a member.
 fn check<T: ObserverTable>(table: &T, alert: &Alert) -> (bool, bool)
     ensures value { result.0 ≡ model.is_well_formed (T.observers table.now) (alert_of alert.now) }
-    ensures ring { result.0 ≡ true → alert.now.ring < 16 }
+    ensures ring { result.0 ≡ true → alert.now.ring < most_rings }
     ensures member { result.1 ≡ (T.observers table.now).is_member alert.now.subject }
 {
     let (member, observer) = table.member_and_observer(alert.ring, &alert.subject);
@@ -93,7 +94,7 @@ fn joiners_with<T: ObserverTable>(
 ) -> usize
     requires counted { counted ≡ ((T.observers table.now).is_member subject.now || is_in (subjects reports.now.direct) subject.now) }
     requires joiners { joiners ≡ length (detector.joiners (T.observers table.now) reports.now.direct) }
-    requires room { joiners ≤ 512 }
+    requires room { joiners ≤ most_joiners }
     ensures { (ring : ℕ) → result ≡ length (detector.joiners (T.observers table.now) (set.insert reports.now.direct (subject.now, ring))) }
 {
     let _ = table;
@@ -130,7 +131,7 @@ fn put<T: ObserverTable>(
     ring: u8,
     so_far: Masks,
 ) -> Result<(), AllocError>
-    requires ring { ring < 16 }
+    requires ring { ring < most_rings }
     requires direct { (k : ℕ) → set.contains known.old.reports.direct (subject, k) ≡ has_ring so_far.direct k }
     requires all { (k : ℕ) → set.contains known.old.reports.all (subject, k) ≡ has_ring so_far.all k }
     ensures direct { OnOk result (known.new.reports.direct ≡ set.insert known.old.reports.direct (subject, ring)) }
@@ -158,7 +159,7 @@ fn take<T: ObserverTable>(
     alert: &Alert,
 ) -> Result<bool, AllocError>
     requires joiners { joiners.old ≡ length (detector.joiners (T.observers table.now) known.old.reports.direct) }
-    requires room { joiners.old ≤ 512 }
+    requires room { joiners.old ≤ most_joiners }
     requires known { Includes known.old.reports.all known.old.reports.direct }
     ensures taken { IfOk result (λ taken. taken ≡ detector.is_taken (T.observers table.now) known.old.reports.direct (alert_of alert.now)) }
     ensures direct { IfOk result (λ taken. known.new.reports.direct ≡ (if taken then set.insert known.old.reports.direct (report_of (alert_of alert.now)) else known.old.reports.direct)) }
