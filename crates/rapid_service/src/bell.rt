@@ -1,7 +1,23 @@
 // What wakes those who wait for a change.
 
+ghost use Rattle.std.specs.Prelude.{◌≡◌, ◌==◌, ◌+◌, ◌%◌, ◌^◌};
+
 use std::sync::{Condvar, Mutex, Wait};
 use std::time::{Clock, Duration};
+
+/// The count of rings after one more.
+fn after(rings: u64) -> u64
+    ensures { result ≡ (rings + 1) % 2 ^ 64 }
+{
+    rings.wrapping_add(1)
+}
+
+/// Whether the bell was not rung since the count was this.
+fn is_still(rings: u64, seen: u64) -> bool
+    ensures { result ≡ (rings == seen) }
+{
+    rings == seen
+}
 
 /// Wakes those who wait for a change. It counts how often it was rung: whoever read the count before
 /// he looked for a change, and found none, misses no ring when he then waits.
@@ -23,7 +39,7 @@ impl Bell {
     /// Wakes all that wait.
     pub fn ring<W: Wait>(&self, rt: &W) {
         let mut rings = self.rings.lock(rt);
-        *rings = rings.wrapping_add(1);
+        *rings = after(*rings);
         drop(rings);
         self.changed.notify_all();
     }
@@ -39,7 +55,7 @@ impl Bell {
         let rings = self.rings.lock(rt);
         let (rings, _) = self
             .changed
-            .wait_timeout_while(rt, rings, longest, |rings| *rings == seen);
+            .wait_timeout_while(rt, rings, longest, |rings| is_still(*rings, seen));
         drop(rings);
     }
 }

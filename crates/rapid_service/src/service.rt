@@ -272,7 +272,8 @@ impl<R: Wait + Copy + Drop, P: Post + Drop> Service<R, P> {
         if let Some(asking) = &mut self.asking
             && let Some(note) = asking.tick()
         {
-            self.notes.add(note);
+            // without memory it is not reported
+            let _ = self.notes.add(note);
         }
     }
 
@@ -444,7 +445,7 @@ impl<R: Wait + Copy + Drop, P: Post + Drop> Service<R, P> {
         let repeats = Repeats::new(self.alloc, view.configuration())?;
         if self.desk.phase() == Phase::Removed {
             let height = view.configuration().height();
-            self.notes.add(Note::Removed(height));
+            let _ = self.notes.add(Note::Removed(height));
         }
         self.asking = None;
         self.present = Some(Present {
