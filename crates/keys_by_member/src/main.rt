@@ -140,5 +140,5 @@ fn main(rt: HostRuntime) -> Result<()> {
         return Ok(());
     }
     let agent = Agent::open(&rt, alloc, &options(words.as_slice())?, &rt)?;
-    agent.run_while(|agent| serve(&rt, agent))
+    agent.run_while(|| serve(&rt, &agent))
 }

@@ -1,7 +1,7 @@
 // What is acted on: it takes actions by their fencing numbers.
 
 ghost use Rattle.std.specs.Prelude.{◌≡◌, None, Some};
-ghost use Rattle.leader_by_height.specs.Fencing.{may_follow, answer_to, last_after};
+ghost use Rattle.leader_by_height.specs.Fencing.{may_follow, answer_to, last_after, OneLeaderActs};
 
 use rapid_endpoint::Endpoint;
 
@@ -34,8 +34,8 @@ impl Action {
 
 /// Whether an action may follow the last that was taken: its height is above, or it is of the same
 /// leader at the same height.
-fn may_follow(last: Option<Action>, action: Action) -> bool
-    ensures { result ≡ may_follow last action }
+fn may_follow(last: &Option<Action>, action: &Action) -> bool
+    ensures { result ≡ may_follow last.now action.now }
 {
     match last {
         None => true,
@@ -66,10 +66,16 @@ impl Fence {
         ensures answer { result ≡ answer_to self.old.last action }
         ensures last { self.new.last ≡ last_after self.old.last action }
     {
-        if !may_follow(self.last, action) {
+        if !may_follow(&self.last, &action) {
             return Answer::Refused;
         }
         self.last = Some(action);
         Answer::Taken
     }
 }
+
+/// Whatever actions come, and in whatever order: of those that a fence takes, two of one height are
+/// of one leader. It does nothing: what it ensures is for proofs.
+pub(crate) fn one_leader_acts()
+    ensures { OneLeaderActs }
+{}

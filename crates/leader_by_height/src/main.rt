@@ -7,7 +7,7 @@ ghost use Rattle.std.specs.Prelude.{◌≡◌, ◌↔◌, true, Some, slice_get}
 
 mod fence;
 
-use crate::fence::{Action, Answer, Fence};
+use crate::fence::{Action, Answer, Fence, one_leader_acts};
 use anyhow::{Context, Result};
 use rapid_agent::{Agent, Next, Subscriber};
 use rapid_config::Configuration;
@@ -148,6 +148,7 @@ fn lead<W: Wait + Clock + RandomSource + Print>(rt: &W, agent: &Agent<'_, W>) ->
 
 /// Answers the actions of the input, a line each, until it ends.
 fn store<W: Wait + Input + Print + Alloc>(rt: &W) -> Result<()> {
+    one_leader_acts();
     let mut fence = Fence::new();
     for _ in rt.forever() {
         let mut line = String::new(rt.alloc());
@@ -192,5 +193,5 @@ fn main(rt: HostRuntime) -> Result<()> {
         return store(&rt);
     }
     let agent = Agent::open(&rt, alloc, &options(words.as_slice())?, &rt)?;
-    agent.run_while(|agent| lead(&rt, agent))
+    agent.run_while(|| lead(&rt, &agent))
 }

@@ -1,7 +1,8 @@
 // A member in one's own program.
 
-ghost use Rattle.std.specs.Prelude.{◌≡◌, ◌<◌, ◌≤◌, OnOk};
+ghost use Rattle.std.specs.Prelude.{◌≡◌, ◌<◌, ◌≤◌, [], None, IfOk, OnOk};
 ghost use Rattle.std.specs.Thread.{IsSync};
+ghost use Rattle.rapid_agent.specs.Opening.{IsOpenedBy};
 
 use crate::arrivals::Arrivals;
 use crate::posts::Posts;
@@ -91,6 +92,7 @@ impl<'a, W: Wait> Agent<'a, W> {
     where
         W: Net<Listener = TcpListener, Stream = TcpStream>,
         S: RandomSource,
+        ensures { IfOk result (λ agent. IsOpenedBy options.now agent.endpoint agent.period agent.probers) }
     {
         let agent = Agent::open_printing(rt, alloc, options, source)?;
         // nobody prints its views
@@ -113,6 +115,7 @@ impl<'a, W: Wait> Agent<'a, W> {
     where
         W: Net<Listener = TcpListener, Stream = TcpStream>,
         S: RandomSource,
+        ensures { IfOk result (λ agent. IsOpenedBy options.now agent.endpoint agent.period agent.probers) }
     {
         let id = identify(options.id, source)?;
         let me = Process::new(id, options.listen);
@@ -162,7 +165,8 @@ impl<'a, W: Wait> Agent<'a, W> {
     /// `BadCapacity` if the capacity is not 1 to 1,024, else `TooManySubscribers` if 64 were
     /// subscribed before, also those that are dropped, else `OutOfMemory`.
     pub fn subscribe(&self, capacity: usize) -> Result<Subscriber<'_, W>, DeskError>
-        ensures { OnOk result ((0 < capacity) × (capacity ≤ 1024)) }
+        ensures room { OnOk result ((0 < capacity) × (capacity ≤ 1024)) }
+        ensures untold { IfOk result (λ subscriber. (subscriber.subscription.taken ≡ []) × (subscriber.come ≡ None)) }
     {
         let (subscription, current) = self.shared.subscribe(self.rt, capacity)?;
         // one that ends afterwards is closed by whoever ends it
@@ -300,8 +304,9 @@ impl<'a, W: Wait> Agent<'a, W> {
     pub fn run_while<T, F>(&self, work: F) -> T
     where
         W: Net<Listener = TcpListener, Stream = TcpStream> + Threads + Clock + Sync,
-        F: FnOnce(&Agent<'a, W>) -> T,
+        F: FnOnce() -> T,
         requires { F.IsAlwaysCallable work }
+        ensures { F.post work result }
     {
         let rt = self.rt;
         thread::scope(
@@ -309,11 +314,12 @@ impl<'a, W: Wait> Agent<'a, W> {
             rt,
             |scope|
                 requires { IsSync W.row × F.IsAlwaysCallable work }
+                ensures { F.post work result }
             {
                 if scope.spawn(move || self.run()).is_err() {
                     self.give_up();
                 }
-                let done = work(self);
+                let done = work();
                 self.stop();
                 done
             },

@@ -1,5 +1,12 @@
 // Who follows the views of a member.
 
+ghost use Rattle.std.specs.Prelude.{◌≡◌, ◌≤◌, None, Some, IfOk, OnErr, IfErr};
+ghost use Rattle.std.specs.Duration.{as_nanos};
+ghost use Rattle.std.specs.Option.{option_map};
+ghost use Rattle.rapid_desk.specs.Taking.{Told};
+ghost use Rattle.rapid_agent.specs.Following.{AreChangesSince, Tells, Keeps};
+ghost use Rattle.rapid_agent.specs.declared.subscriber.Next.TheVariants as next;
+
 use crate::changes::Changes;
 use rapid_desk::{Subscription, Taken};
 use rapid_service::Bell;
@@ -36,7 +43,9 @@ pub struct Subscriber<'a, W: Wait> {
 }
 
 /// Who joined and who left when a view was entered: all its members joined if none was known before.
-fn changes_since(alloc: Global, view: &View, before: &Option<View>) -> Result<Changes, AllocError> {
+fn changes_since(alloc: Global, view: &View, before: &Option<View>) -> Result<Changes, AllocError>
+    ensures { IfOk result (AreChangesSince before.now view.now) }
+{
     match before {
         Some(before) => Changes::between(alloc, before, view),
         None => Changes::first(alloc, view),
@@ -44,7 +53,9 @@ fn changes_since(alloc: Global, view: &View, before: &Option<View>) -> Result<Ch
 }
 
 /// How much is left of a time that began then; nothing if there is no clock.
-fn left<C: Clock>(clock: &C, begun: &Option<Instant>, longest: Duration) -> Duration {
+fn left<C: Clock>(clock: &C, begun: &Option<Instant>, longest: Duration) -> Duration
+    ensures { as_nanos result ≤ as_nanos longest }
+{
     let Some(begun) = begun else {
         return Duration::ZERO;
     };
@@ -62,7 +73,10 @@ impl<'a, W: Wait> Subscriber<'a, W> {
         bell: &'a Bell,
         subscription: Subscription,
         present: Option<View>,
-    ) -> Subscriber<'a, W> {
+    ) -> Subscriber<'a, W>
+        ensures subscription { (result.subscription ≡ subscription) × (result.come ≡ None) }
+        ensures present { result.present ≡ present }
+    {
         Subscriber {
             rt,
             alloc,
@@ -75,7 +89,9 @@ impl<'a, W: Wait> Subscriber<'a, W> {
 
     /// The last view that it was told, or that was current when it subscribed; none while the member
     /// joins.
-    pub fn view(&self) -> Option<&View> {
+    pub fn view(&self) -> Option<&View>
+        ensures { option_map (λ view. view.now) result ≡ self.now.present }
+    {
         self.present.as_ref()
     }
 
@@ -88,22 +104,28 @@ impl<'a, W: Wait> Subscriber<'a, W> {
     pub fn next(&mut self, longest: Duration) -> Result<Next, AllocError>
     where
         W: Clock,
+        ensures told { IfOk result (λ told. Tells told (record { took = self.old.subscription.taken; present = self.old.present; come = self.old.come }) (record { took = self.new.subscription.taken; present = self.new.present; come = self.new.come })) }
+        ensures kept { IfErr result (λ _. Keeps (record { took = self.old.subscription.taken; present = self.old.present; come = self.old.come }) (record { took = self.new.subscription.taken; present = self.new.present; come = self.new.come })) }
+        ensures queue { self.new.subscription.queue ≡ self.old.subscription.queue }
     {
-        if self.come.is_none() {
-            match self.wait(longest) {
-                Taken::Change(view) => self.come = Some(view),
-                Taken::Empty => return Ok(Next::Nothing),
-                Taken::Lagged => return Ok(Next::Lagged),
-                Taken::Closed => return Ok(Next::Closed),
-            }
+        if let Some(view) = self.come.take() {
+            return self.tell(view);
         }
-        self.tell()
+        match self.wait(longest) {
+            Taken::Change(view) => self.tell(view),
+            Taken::Empty => Ok(Next::Nothing),
+            Taken::Lagged => Ok(Next::Lagged),
+            Taken::Closed => Ok(Next::Closed),
+        }
     }
 
     /// What the subscription has next, once there is something or the time is over.
     fn wait(&mut self, longest: Duration) -> Taken
     where
         W: Clock,
+        ensures taken { Told result self.old.subscription.taken self.new.subscription.taken }
+        ensures queue { self.new.subscription.queue ≡ self.old.subscription.queue }
+        ensures views { (self.new.present ≡ self.old.present) × (self.new.come ≡ self.old.come) }
     {
         let begun = Instant::now(self.rt).ok();
         for _ in self.rt.forever() {
@@ -122,13 +144,22 @@ impl<'a, W: Wait> Subscriber<'a, W> {
         unreachable!()
     }
 
-    /// Tells the view that has come.
-    fn tell(&mut self) -> Result<Next, AllocError> {
-        let Some(view) = &self.come else {
-            return Ok(Next::Nothing);
-        };
-        let changes = changes_since(self.alloc, view, &self.present)?;
-        self.present = self.come.take();
-        Ok(Next::Change(changes))
+    /// Tells a view that has come. Without memory for the lists it waits for the next call.
+    fn tell(&mut self, view: View) -> Result<Next, AllocError>
+        ensures told { IfOk result (λ told. (changes : Changes) × (told ≡ next.Change changes) × AreChangesSince self.old.present view changes) }
+        ensures present { IfOk result (λ _. (self.new.present ≡ Some view) × (self.new.come ≡ self.old.come)) }
+        ensures kept { OnErr result ((self.new.come ≡ Some view) × (self.new.present ≡ self.old.present)) }
+        ensures subscription { self.new.subscription ≡ self.old.subscription }
+    {
+        match changes_since(self.alloc, &view, &self.present) {
+            Ok(changes) => {
+                self.present = Some(view);
+                Ok(Next::Change(changes))
+            }
+            Err(error) => {
+                self.come = Some(view);
+                Err(error)
+            }
+        }
     }
 }

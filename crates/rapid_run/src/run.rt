@@ -29,7 +29,22 @@ where
     E: Write + Send,
 {
     let agent = Agent::open_printing(rt, alloc, &options, source)?;
-    run_threads(rt, alloc, &agent, streams, told)
+    let Streams {
+        reader,
+        writer,
+        err,
+    } = streams;
+    run_threads(
+        rt,
+        alloc,
+        &agent,
+        Streams {
+            reader,
+            writer,
+            err,
+        },
+        told,
+    )
 }
 
 /// Runs a node over loopback TCP until it ends: by the line `quit`, at the end of the input, or by

@@ -111,12 +111,7 @@ where
         + Abort
         + Sync,
 {
-    founder.run_while(|founder| {
-        joiner.run_while(|joiner| {
-            let done = come_and_go(rt, founder, joiner);
-            done
-        })
-    })
+    founder.run_while(|| joiner.run_while(|| come_and_go(rt, founder, joiner)))
 }
 
 #[test]
@@ -125,7 +120,9 @@ fn a_member_is_told_who_joined_and_who_left(rt: HostRuntime) -> Result<(), Fail>
     let founds = NodeOptions::at(at(FOUNDER))?
         .params(Params::new(3, 3, 1)?)
         .tick_ms(TICK_MS);
-    let joins = NodeOptions::at(at(JOINER))?.tick_ms(TICK_MS).join(at(FOUNDER))?;
+    let joins = NodeOptions::at(at(JOINER))?
+        .tick_ms(TICK_MS)
+        .join(at(FOUNDER))?;
     let founder = Agent::open(&rt, alloc, &founds, &rt)?;
     let joiner = Agent::open(&rt, alloc, &joins, &rt)?;
     assert!(rt; joiner.seat().is_none() && joiner.phase() == Phase::Joining);
