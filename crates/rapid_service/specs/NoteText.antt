@@ -19,6 +19,6 @@ answer_text TooMany = codes "too many others are joining"
 -- What is reported.
 abbrev pub note_text : Note → Text
 note_text (InVain asked) =
-    codes "no view after question " ++ decimal asked.question ++ codes " to " ++ endpoint_text asked.seed ++ codes "; last answer: " ++ answer_text asked.answer
+    codes "no view after question " ++ (decimal asked.question ++ (codes " to " ++ (endpoint_text asked.seed ++ (codes "; last answer: " ++ answer_text asked.answer))))
 note_text (Removed height) =
     codes "this node was removed and is no member from height " ++ decimal height ++ codes " on: start another in its place"
