@@ -64,7 +64,7 @@ rises_follow w agreed p there =
     let mine = installs w p.node.me in
     let s = agreed.line.consecutive p.node.me in
     let parts : map stamp (line_from w.founding agreed.cuts) ≡ map stamp s.0 ++ (map stamp mine ++ map stamp s.1) =
-        ap (map stamp) s.2 ∙ map-append stamp s.0 (mine ++ s.1) ∙ ap (λ l. map stamp s.0 ++ l) (map-append stamp mine s.1)
+    ap (map stamp) s.2 ∙ map-append stamp s.0 (mine ++ s.1) ∙ ap (λ l. map stamp s.0 ++ l) (map-append stamp mine s.1)
     in
     subst HeightsRise (sym (agreed.line.shown p there))
     (beginning_rises (map stamp mine) (map stamp s.1) (end_rises (map stamp s.0) (map stamp mine ++ map stamp s.1) (subst HeightsRise parts (line_rises w.founding agreed.cuts))))
