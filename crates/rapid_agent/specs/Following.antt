@@ -1,6 +1,6 @@
 -- Clauses of public calls cite this file.
 -- What a subscriber is told of the views that come, and of who joined and who left by them.
-use Rattle.std.specs.Prelude.{◌≡◌, ◌⊎◌, List, [], Option, None, Some}
+use Rattle.std.specs.Prelude.{◌≡◌, List, [], Option, None, Some}
 use Rattle.rapid_model.specs.Process.{Process}
 use Rattle.rapid_model.specs.Configuration.{Configuration}
 use Rattle.rapid_desk.specs.declared.notice.Notice.{Notice}

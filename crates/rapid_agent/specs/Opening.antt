@@ -1,6 +1,6 @@
 -- Clauses of public calls cite this file.
 -- What an agent keeps of its options.
-use Rattle.std.specs.Prelude.{◌≡◌, ℕ, ◌*◌, ◌<◌, ◌≤◌}
+use Rattle.std.specs.Prelude.{◌≡◌, ℕ, ◌*◌, ◌≤◌}
 use Rattle.std.specs.Duration.{as_nanos}
 use Rattle.std.specs.declared.time.Duration.{Duration}
 use Rattle.rapid_model.specs.Bytes.{Endpoint}

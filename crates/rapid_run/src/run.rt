@@ -28,23 +28,18 @@ where
     O: Write + Send,
     E: Write + Send,
 {
-    let agent = Agent::open_printing(rt, alloc, &options, source)?;
     let Streams {
         reader,
         writer,
         err,
     } = streams;
-    run_threads(
-        rt,
-        alloc,
-        &agent,
-        Streams {
-            reader,
-            writer,
-            err,
-        },
-        told,
-    )
+    let agent = Agent::open_printing(rt, alloc, &options, source)?;
+    let streams = Streams {
+        reader: &mut *reader,
+        writer: &mut *writer,
+        err: &mut *err,
+    };
+    run_threads(rt, alloc, &agent, streams, told)
 }
 
 /// Runs a node over loopback TCP until it ends: by the line `quit`, at the end of the input, or by

@@ -1,4 +1,4 @@
-use Rattle.std.proofs.Common.{◌≡◌, ◌&&◌, not, Bool, List, filter, ap}
+use Rattle.std.proofs.Common.{not}
 use Rattle.rapid_model.specs.Configuration.{is_member}
 use Rattle.rapid_agent.proofs.Differences.{in_filter}
 use Rattle.rapid_agent.proofs.changes_are_differences.Goals as goal
