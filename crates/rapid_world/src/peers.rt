@@ -83,6 +83,11 @@ impl Nodes {
         self.peers.as_slice()
     }
 
+    /// The configuration of the view that one of them entered last, if any did. It is for speed alone.
+    pub(crate) fn newest_view(&self) -> Option<&Configuration> {
+        self.views.newest()
+    }
+
     /// Whether one has the identifier.
     pub(crate) fn is_used(&self, id: &ProcessId) -> bool
         ensures { result ≡ list_any (has_identifier id.now) self.now }

@@ -76,9 +76,11 @@ impl World {
         ensures refused { IfErr result (Refuses (event_refusal self.now (model.Deliver number))) }
     {
         self.tell();
+        // a host mostly confirms the view that was entered last: the joiner shares it
+        let near = self.peers().newest_view();
         match self.frame(number) {
             Some(packet) => match self.running_at(packet.0) {
-                Some(place) => match read_frame(self.alloc(), packet.1) {
+                Some(place) => match read_frame(self.alloc(), near, packet.1) {
                     Ok(message) => Ok((place, message)),
                     Err(AllocError) => Err(WorldError::OutOfMemory),
                 },
