@@ -11,3 +11,4 @@ pub mod Stepping
 pub mod Endings
 pub mod NoteText
 pub mod Edges
+pub mod Presents

@@ -16,6 +16,7 @@ mod observed_edges;
 mod options;
 mod part;
 mod post;
+mod present;
 mod prober;
 mod received;
 mod repeats;

@@ -1,6 +1,8 @@
 // What the threads of a node share.
 
-ghost use Rattle.std.specs.Prelude.{◌≡◌, ◌<◌, ◌≤◌, [], IfOk, OnOk};
+ghost use Rattle.std.specs.Prelude.{◌≡◌, ◌<◌, ◌≤◌, ◌++◌, [], List, false, min, max, vec_len, IfOk, OnOk, OnErr};
+ghost use Rattle.rapid_service.specs.EdgeText.{edges_text};
+ghost use Rattle.rapid_service.specs.declared.edge_text.EdgeState.{EdgeState};
 
 use crate::bell::Bell;
 use crate::console::Console;
@@ -37,6 +39,7 @@ pub struct Shared<R: Wait + Copy + Drop, P: Post + Drop> {
     console: Console,
     ending: Ending,
     bell: Bell,
+    ghost dealt: { (vec_len parts ≡ probers) × (dealer.parts ≡ probers) },
 }
 
 impl<R: Wait + Copy + Drop, P: Post + Drop> Shared<R, P> {
@@ -46,7 +49,9 @@ impl<R: Wait + Copy + Drop, P: Post + Drop> Shared<R, P> {
         alloc: Global,
         service: Service<R, P>,
         probers: u8,
-    ) -> Result<Shared<R, P>, AllocError> {
+    ) -> Result<Shared<R, P>, AllocError>
+        ensures { IfOk result (λ shared. shared.probers ≡ max 1 (min probers 16)) }
+    {
         let probers = probers.clamp(1, MOST_PROBERS);
         let mut parts = Vec::with_capacity(alloc, usize::from(probers))?;
         for _ in 0..probers {
@@ -65,23 +70,31 @@ impl<R: Wait + Copy + Drop, P: Post + Drop> Shared<R, P> {
     }
 
     /// What is printed.
-    pub fn console(&self) -> &Console {
+    pub fn console(&self) -> &Console
+        ensures { result.now ≡ self.now.console }
+    {
         &self.console
     }
 
     /// Whether the node goes on.
-    pub fn ending(&self) -> &Ending {
+    pub fn ending(&self) -> &Ending
+        ensures { result.now ≡ self.now.ending }
+    {
         &self.ending
     }
 
     /// What wakes those who wait for views: it rings when one was entered, and when none comes any
     /// more.
-    pub fn bell(&self) -> &Bell {
+    pub fn bell(&self) -> &Bell
+        ensures { result.now ≡ self.now.bell }
+    {
         &self.bell
     }
 
     /// What deals the parts of rounds of probes.
-    pub fn dealer(&self) -> &Dealer {
+    pub fn dealer(&self) -> &Dealer
+        ensures { result.now ≡ self.now.dealer }
+    {
         &self.dealer
     }
 
@@ -211,7 +224,9 @@ impl<R: Wait + Copy + Drop, P: Post + Drop> Shared<R, P> {
     }
 
     /// Writes the lines of the observed edges: those of one view, each up or down as it is now.
-    pub fn write_edges<W: Wait>(&self, rt: &W, output: &mut Vec<u8>) -> Result<(), RunningFault> {
+    pub fn write_edges<W: Wait>(&self, rt: &W, output: &mut Vec<u8>) -> Result<(), RunningFault>
+        ensures { OnOk result ((edges : List EdgeState) × (output.new.items ≡ output.old.items ++ edges_text edges)) }
+    {
         let mut service = self.service.lock(rt);
         let edges = service.edges()?;
         drop(service);
@@ -277,13 +292,17 @@ impl<R: Wait + Copy + Drop, P: Post + Drop> Shared<R, P> {
     }
 
     /// What is to be reported since this was last asked.
-    pub fn take_notes<W: Wait>(&self, rt: &W) -> Vec<Note> {
+    pub fn take_notes<W: Wait>(&self, rt: &W) -> Vec<Note>
+        ensures { vec_len result ≤ 64 }
+    {
         let mut service = self.service.lock(rt);
         service.take_notes()
     }
 
     /// Ends the node if a step of it has failed; the answer is whether it goes on.
-    pub fn goes_on<W: Wait>(&self, rt: &W, done: Result<(), RunningFault>) -> bool {
+    pub fn goes_on<W: Wait>(&self, rt: &W, done: Result<(), RunningFault>) -> bool
+        ensures { OnErr done (result ≡ false) }
+    {
         match done {
             Ok(()) => !self.ending.has_come(rt),
             Err(fault) => {
