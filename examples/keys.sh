@@ -1,7 +1,7 @@
 #!/bin/bash
 # Five processes serve twelve keys. One is killed, another is stopped for a while and then goes on. Prints
 # who serves what after each of these, and sees that no key is served by two at one height. It ends within
-# 20 seconds, and leaves nothing behind. Run it once the program is built: ./check program keys_by_member
+# two minutes, and leaves nothing behind. Run it once the program is built: ./check program keys_by_member
 set -u
 top=$(cd "$(dirname "${BASH_SOURCE[0]}")/.." && pwd)
 program=${KEYS:-$top/crates/keys_by_member/out/keys_by_member}
@@ -22,7 +22,7 @@ kill -CONT "${pids[3]}"
 echo "Process 3 goes on. It serves nothing at the height at which it was removed, and joins again:"
 come_to 4 0 1 2 3
 removed=$(grep -c "serves$" "$room/out.3")
-echo "Process 3 printed $removed view without a key."
+echo "Process 3 printed $removed lines without a key."
 # each key at each height, as often as it is served
 grep -h "^height" "$room"/out.* | while read -r _ height _ _ _ keys; do
     for key in $keys; do echo "$height $key"; done

@@ -1,7 +1,7 @@
 #!/bin/bash
 # Five processes, of which the leader of each view acts on one store, with the height of its view as its
 # fencing number. The leader is killed; the next one is stopped for a while and goes on. Prints what the
-# store took of whom, and sees that at no height it took actions of two. It ends within 20 seconds, and
+# store took of whom, and sees that at no height it took actions of two. It ends within two minutes, and
 # leaves nothing behind. Run it once the program is built: ./check program leader_by_height
 set -u
 top=$(cd "$(dirname "${BASH_SOURCE[0]}")/.." && pwd)
@@ -18,7 +18,7 @@ acted_last() { [[ "$(grep "^taken" "$room/store" | tail -n 1)" == *" $1" ]]; }
 
 # waits for an action of this one, and prints it
 acts() {
-    within_ten_seconds acted_last "$1" || fail "$1 does not act:"
+    in_time acted_last "$1" || fail "$1 does not act:"
     echo "  the store: $(grep "^taken" "$room/store" | tail -n 1)"
 }
 

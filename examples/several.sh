@@ -20,10 +20,10 @@ start() {
     disown $!
 }
 
-# does a command until it succeeds, for 10 seconds at most
-within_ten_seconds() {
+# does a command until it succeeds, for 30 seconds at most, which a busy machine may take
+in_time() {
     local look
-    for ((look = 0; look < 200; look++)); do
+    for ((look = 0; look < 600; look++)); do
         "$@" && return 0
         sleep 0.05
     done
@@ -45,7 +45,7 @@ have() {
 come_to() {
     local members=$1 number
     shift
-    within_ten_seconds have "$members" "$@" || fail "they have not come to $members members:"
+    in_time have "$members" "$@" || fail "they have not come to $members members:"
     for number in "$@"; do
         echo "  process $number: $(grep "^height" "$room/out.$number" | tail -n 1)"
     done

@@ -26,7 +26,7 @@ const KEYS: [&str; 12] = [
 ];
 
 /// How many milliseconds lie between two ticks.
-const TICK_MS: u16 = 20;
+const TICK_MS: u16 = 50;
 
 /// How many views wait to be served at most.
 const CHANGES: usize = 64;
@@ -140,5 +140,8 @@ fn main(rt: HostRuntime) -> Result<()> {
         return Ok(());
     }
     let agent = Agent::open(&rt, alloc, &options(words.as_slice())?, &rt)?;
-    agent.run_while(|| serve(&rt, &agent))
+    agent.run_while(|| serve(&rt, &agent))?;
+    // the fault by which it ended, if it did
+    agent.run()?;
+    Ok(())
 }

@@ -26,7 +26,7 @@ and each action act H ENDPOINT
 leader_by_height store: reads such lines, and prints whether each is taken or refused";
 
 /// How many milliseconds lie between two ticks.
-const TICK_MS: u16 = 20;
+const TICK_MS: u16 = 50;
 
 /// How many milliseconds lie between two actions of a leader.
 const BETWEEN_ACTIONS: u64 = 100;
@@ -193,5 +193,8 @@ fn main(rt: HostRuntime) -> Result<()> {
         return store(&rt);
     }
     let agent = Agent::open(&rt, alloc, &options(words.as_slice())?, &rt)?;
-    agent.run_while(|| lead(&rt, &agent))
+    agent.run_while(|| lead(&rt, &agent))?;
+    // the fault by which it ended, if it did
+    agent.run()?;
+    Ok(())
 }
