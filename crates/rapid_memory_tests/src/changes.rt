@@ -25,9 +25,11 @@ fn changes_are_listed_or_out_of_memory(rt: HostRuntime) -> Result<(), Fail> {
     let alloc = rt.alloc();
     let (before, after) = (view(alloc, [1, 2])?, view(alloc, [2, 3])?);
     let changes = Changes::between(alloc, &before, &after)?;
-    assert!(rt; changes.joined.as_slice() == &[process(3)]);
-    assert!(rt; changes.left.as_slice() == &[process(1)]);
+    assert!(rt; changes.joined.as_slice() == [process(3)].as_slice());
+    assert!(rt; changes.left.as_slice() == [process(1)].as_slice());
     let first = Changes::first(alloc, &after)?;
-    assert!(rt; first.joined.as_slice() == &[process(2), process(3)] && first.left.is_empty());
+    assert!(rt;
+        first.joined.as_slice() == [process(2), process(3)].as_slice() && first.left.is_empty()
+    );
     Ok(())
 }
