@@ -140,8 +140,5 @@ fn main(rt: HostRuntime) -> Result<()> {
         return Ok(());
     }
     let agent = Agent::open(&rt, alloc, &options(words.as_slice())?, &rt)?;
-    agent.run_while(|| serve(&rt, &agent))?;
-    // the fault by which it ended, if it did
-    agent.run()?;
-    Ok(())
+    agent.run_while(|| serve(&rt, &agent))
 }

@@ -193,8 +193,5 @@ fn main(rt: HostRuntime) -> Result<()> {
         return store(&rt);
     }
     let agent = Agent::open(&rt, alloc, &options(words.as_slice())?, &rt)?;
-    agent.run_while(|| lead(&rt, &agent))?;
-    // the fault by which it ended, if it did
-    agent.run()?;
-    Ok(())
+    agent.run_while(|| lead(&rt, &agent))
 }
