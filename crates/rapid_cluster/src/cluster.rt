@@ -1,10 +1,12 @@
 // A cluster that threads drive.
 
-ghost use Rattle.std.specs.Prelude.{◌≡◌, ◌≤◌, ◌<◌, ◌+◌, ◌-◌, ◌*◌, List, ℕ, IfOk, IfErr, OnOk, OnErr};
+ghost use Rattle.std.specs.Prelude.{◌≡◌, ◌≤◌, ◌<◌, ◌+◌, ◌-◌, ◌*◌, List, ℕ, map, IfOk, IfErr, OnOk, OnErr};
 ghost use Rattle.std.specs.Io.KnownBytes.{Appends};
 ghost use Rattle.rapid_model.specs.Configuration.{Params as ModelParams};
 ghost use Rattle.rapid_model.specs.Run.{WorldReport};
-ghost use Rattle.rapid_clerks.specs.Clusters.{DoesJob};
+ghost use Rattle.rapid_world.specs.Events.{report_of};
+ghost use Rattle.rapid_clerks.specs.Clusters.{DoesJob, RefusesJob};
+ghost use Rattle.rapid_clerks.specs.declared.job.Job.TheVariants as job;
 ghost use Rattle.rapid_clerks.specs.Jobs.{DoesJobs};
 ghost use Rattle.rapid_cluster.specs.ClusterText.{IsReport};
 ghost use Rattle.rapid_cluster.specs.Driven.{HasTaken, IsUnderway, start_of, starts_of};
@@ -86,9 +88,13 @@ impl<L: Ledger, A: Asked> Driven<L, A> {
         }
     }
 
-    /// Takes a turn.
+    /// Takes the next turn. It is refused only if the world is full, no node runs, or it is out of
+    /// memory.
     fn turn(&mut self, share: &mut Share<L>) -> Result<Vec<Report>, WorldError>
         requires { 0 < share.old.parts }
+        ensures done { IfOk result (λ reports. DoesJob job.Turn self.old self.new (map report_of reports.items)) }
+        ensures refused { IfErr result (RefusesJob job.Turn self.old) }
+        ensures unchanged { OnErr result (self.new ≡ self.old) }
         ensures raised { OnOk result (share.new.amount ≡ share.old.amount + 1) }
         ensures kept { OnErr result (share.new.amount ≡ share.old.amount) }
         ensures parts { share.new.parts ≡ share.old.parts }
@@ -106,7 +112,15 @@ impl<L: Ledger, A: Asked> Driven<L, A> {
 }
 
 impl<L: Ledger, A: Asked> DoJob<L, TurnJob> for Driven<L, A> {
-    fn do_job(&mut self, share: &mut Share<L>, _job: &TurnJob) -> Result<Vec<Report>, WorldError> {
+    fn do_job(&mut self, share: &mut Share<L>, _job: &TurnJob) -> Result<Vec<Report>, WorldError>
+        requires { 0 < share.old.parts }
+        ensures done { IfOk result (λ reports. DoesJob job.Turn self.old self.new (map report_of reports.items)) }
+        ensures refused { IfErr result (RefusesJob job.Turn self.old) }
+        ensures unchanged { OnErr result (self.new ≡ self.old) }
+        ensures raised { OnOk result (share.new.amount ≡ share.old.amount + 1) }
+        ensures kept { OnErr result (share.new.amount ≡ share.old.amount) }
+        ensures parts { share.new.parts ≡ share.old.parts }
+    {
         self.turn(share)
     }
 }

@@ -3,3 +3,4 @@ pub mod Grammar
 pub mod Jobs
 pub mod NodeWords
 pub mod Statuses
+pub mod Refused

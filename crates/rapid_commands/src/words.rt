@@ -1,7 +1,7 @@
 //! The command line.
 
-ghost use Rattle.std.specs.Prelude.{◌≡◌, ◌≢◌, ◌≤◌, ◌<◌, ◌⊎◌, false, [], map, IfOk, IfErr, IfSome, OnOk, OnErr, Some};
-ghost use Rattle.clap.specs.Words.{kind_of, rule_of, rows_of, app_of, found_of, subcommand_rows_of, subcommand_of, HasKind, fault_of};
+ghost use Rattle.std.specs.Prelude.{◌≡◌, ◌≢◌, ◌≤◌, ◌<◌, ◌⊎◌, false, [], map, IfOk, IfErr, IfSome, IfNone, OnOk, OnErr, Some};
+ghost use Rattle.clap.specs.Words.{kind_of, rule_of, rows_of, app_of, found_of, one_of, subcommand_rows_of, subcommand_of, HasKind, fault_of};
 ghost use Rattle.std.specs.IoError.{error_kind};
 ghost use Rattle.std.specs.declared.io.ErrorKind.TheVariants.{OutOfMemory};
 ghost use Rattle.rapid_model.specs.Configuration.{AreParams};
@@ -9,6 +9,7 @@ ghost use Rattle.rapid_commands.specs.Asked.{AsksForHelp, IsAsked, IsHelp, IsInO
 ghost use Rattle.rapid_commands.specs.Grammar.{cluster_words, grammar, number_option, with_params};
 ghost use Rattle.rapid_commands.specs.Jobs.{CanRun, Wrote, WroteFront};
 ghost use Rattle.rapid_commands.specs.NodeWords.{NamesNode};
+ghost use Rattle.rapid_commands.specs.Refused.{AreRefused, CanDo, IsFault, IsNumber, IsSetting};
 ghost use Rattle.rapid_commands.specs.Statuses.{run_status};
 
 use crate::explain::{tell_missing, tell_params, tell_refused};
@@ -258,6 +259,7 @@ fn tell<S: AsStr, O: Write, E: Write>(error: &Error, words: &[S], out: &mut O, e
     ensures refused { kind_of error.now ≢ ErrorKind.OutOfMemory → kind_of error.now ≢ ErrorKind.DisplayHelp
         → kind_of error.now ≢ ErrorKind.DisplayVersion → result ≡ 2 }
     ensures status { result ≤ 3 }
+    ensures fault { result ≡ 2 → IsFault (kind_of error.now) }
     ensures asked { result ≤ 1 → IsHelp (kind_of error.now) }
     ensures silent { 1 < result → out.new ≡ out.old }
 {
@@ -300,24 +302,27 @@ fn matches_of<'a, S: AsStr>(alloc: Global, words: &'a [S]) -> Result<ArgMatches<
 
 /// The number behind an option, if it is a byte.
 fn byte_behind(words: &ArgMatches, option: &str) -> Option<u8>
-    ensures { IfSome result (λ n. number_in (rows_of (found_of words.now)) option.now ≡ Some n) }
+    ensures read { IfSome result (λ n. number_in (rows_of (found_of words.now)) option.now ≡ Some n) }
+    ensures none { IfNone result (¬ IsNumber 8 (one_of option.now (rows_of (found_of words.now)))) }
 {
     words.get_one::<u8>(option)
 }
 
 /// The number behind an option, if it has at most 16 bits.
 fn number_behind(words: &ArgMatches, option: &str) -> Option<u16>
-    ensures { IfSome result (λ n. number_in (rows_of (found_of words.now)) option.now ≡ Some n) }
+    ensures read { IfSome result (λ n. number_in (rows_of (found_of words.now)) option.now ≡ Some n) }
+    ensures none { IfNone result (¬ IsNumber 16 (one_of option.now (rows_of (found_of words.now)))) }
 {
     words.get_one::<u16>(option)
 }
 
 /// The setting of a cluster, if K, H and L are in order.
-#[tactic(auto, using(crate::proofs::Asking::setting_found))]
+#[tactic(auto, using(crate::proofs::Asking::setting_found, crate::proofs::Refusing::no_k, crate::proofs::Refusing::no_h, crate::proofs::Refusing::no_l, crate::proofs::Refusing::no_nodes, crate::proofs::Refusing::no_workers, crate::proofs::Refusing::no_turns))]
 fn setting_of(words: &ArgMatches) -> Option<Setting>
     ensures runs { IfSome result (λ setting. setting.workers ≤ 32) }
     ensures found { IfSome result (λ setting. setting_in (rows_of (found_of words.now)) ≡ Some setting) }
     ensures in_order { IfSome result (λ setting. AreParams setting.params) }
+    ensures none { IfNone result (¬ IsSetting (rows_of (found_of words.now))) }
 {
     let k = byte_behind(words, "k")?;
     let h = byte_behind(words, "h")?;
@@ -343,6 +348,7 @@ fn job_of(words: &ArgMatches) -> Option<Job>
     ensures runs { IfSome result CanRun }
     ensures named { IfSome result (λ job. job_found (subcommand_rows_of words.now) ≡ Some job) }
     ensures in_order { IfSome result IsInOrder }
+    ensures none { IfNone result (¬ CanDo (subcommand_rows_of words.now)) }
 {
     if words.subcommand_matches("detect").is_some() {
         return Some(Job::Detect);
@@ -400,7 +406,7 @@ where
 /// If it is 0, what the input prints by the command that the words name, with its options, was
 /// written and nothing else; or the words ask for help or the version, and the input was not read.
 /// If it is 1, a beginning of that was written, or help or the version could not be written. If it
-/// is 2, nothing was written. If it is 3, a beginning of what the input prints by the command that
+/// is 2, the words are refused, and nothing was written. If it is 3, a beginning of what the input prints by the command that
 /// the words name was written, or nothing. What `node` writes is not promised, unless its words are
 /// refused.
 pub fn run_words<T, S, R, O, E>(
@@ -429,6 +435,7 @@ where
         ((job : Job) × IsAsked (map S.text words.now) job × WroteFront job (R.remaining reader.old) (O.contents out.old) (O.contents out.new)) ⊎
         ((reader.new ≡ reader.old) × AsksForHelp (map S.text words.now)) }
     ensures refused { result ≡ 2 → out.new ≡ out.old }
+    ensures fault { result ≡ 2 → NamesNode S.text words.now ⊎ AreRefused (map S.text words.now) }
     ensures memory { result ≡ 3 → NamesNode S.text words.now ⊎
         ((job : Job) × IsAsked (map S.text words.now) job × WroteFront job (R.remaining reader.old) (O.contents out.old) (O.contents out.new)) ⊎
         (out.new ≡ out.old) }

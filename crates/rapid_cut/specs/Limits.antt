@@ -17,7 +17,8 @@ pub record IsDetecting (t : Observers) (direct all : Reports) : Type 0 where
   pub closure : all ≡ reports t direct
   pub limits : IsWithinLimits t direct
 
--- What it keeps, lists and counters too: which processes have L direct reports, how many joiners are reported on, and that there is no cut until it is closed.
+-- What it keeps, lists and counters too: which processes have L direct reports, how many joiners are reported on, and
+-- that there is no cut until it is closed.
 pub record IsKept (t : Observers) (direct all : Reports) (listed : List Process) (joined : ℕ) (closed : Bool) : Type 0 where
   pub detecting : IsDetecting t direct all
   pub active : listed ≡ active t direct

@@ -152,7 +152,8 @@ Follows old event new = (o : model.Outcome) × (node_step old event ≡ Some o) 
 abbrev pub Installs : model.Node → model.Event → model.Node → Type 0
 Installs old event new = Follows old event new × (model.has_installed old new ≡ true)
 
--- The step was made: the journal takes the event, the node had not halted, and the next node is what the event makes of it.
+-- The step was made: the journal takes the event, the node had not halted, and the next node is what the event makes of
+-- it.
 abbrev pub Tried : HeldValue → model.Event → Type 0
 Tried held event = (is_refused held.full held.journal event ≡ false) × (model.is_halted held.node ≡ false) × Follows held.node event held.next
 

@@ -8,7 +8,8 @@ use Rattle.rapid_monitor.specs.declared.edge.Verdict.TheVariants.{Up, Down}
 use Rattle.rapid_monitor.specs.declared.board_error.BoardError.{BoardError}
 use Rattle.rapid_monitor.specs.declared.board_error.BoardError.TheVariants.{BadSize, OutOfMemory}
 
--- Which board a watcher looks at, how many edges that has, and which of them the watcher knows to be down, since it answered so or was told.
+-- Which board a watcher looks at, how many edges that has, and which of them the watcher knows to be down, since it
+-- answered so or was told.
 pub record Watching : Type 0 where
   pub board : TableId
   pub edges : ℕ

@@ -3,3 +3,4 @@ pub mod Refusing
 pub mod Sames
 pub mod Keeping
 pub mod Finding
+pub mod Observing

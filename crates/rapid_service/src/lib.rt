@@ -2,6 +2,7 @@
 #![tactic(auto)]
 
 mod asking;
+mod bell;
 mod command;
 mod console;
 mod dealer;
@@ -15,6 +16,7 @@ mod observed_edges;
 mod options;
 mod part;
 mod post;
+mod present;
 mod prober;
 mod received;
 mod repeats;
@@ -26,6 +28,7 @@ mod shared;
 mod ticker;
 mod view_text;
 
+pub use bell::Bell;
 pub use command::{Asked, Command, read_line};
 pub use console::Console;
 pub use dealer::Dealer;

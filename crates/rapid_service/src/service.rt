@@ -1,10 +1,21 @@
 // One node at its desk, with its probes.
 
-ghost use Rattle.std.specs.Prelude.{◌≡◌, ◌<◌, [], false, Ok, IfOk, IfErr, IsSomeAnd, OnOk, OnErr};
+ghost use Rattle.std.specs.Prelude.{◌≡◌, ◌==◌, ℕ, ◌+◌, ◌%◌, ◌<◌, ◌≤◌, ◌++◌, [], ◌∷◌, map, false, Ok, Some, None, length, vec_len, IfOk, IfErr, IfSome, IsSomeAnd, OnOk, OnErr};
+ghost use Rattle.std.specs.Option.{option_map};
+ghost use Rattle.std.proofs.Props.{props};
+ghost use Rattle.rapid_desk.specs.Desks.{NotSubscribed, seed_state, joiner_state};
+ghost use Rattle.rapid_node.specs.Phases.{name_of};
+ghost use Rattle.rapid_model.specs.Configuration.{founding};
+ghost use Rattle.rapid_model.specs.Message.{Probe};
 ghost use Rattle.rapid_model.specs.Node as model;
+ghost use Rattle.rapid_model.specs.Ring.{subjects_of};
 ghost use Rattle.rapid_node.specs.Steps.{event_of};
+ghost use Rattle.rapid_service.specs.Edges.{place_of};
+ghost use Rattle.rapid_service.specs.Presents.{edges_in};
 ghost use Rattle.rapid_service.specs.Remembering.{IsRepeatFor};
 ghost use Rattle.rapid_service.specs.Stepping.{HasStepped, HasRefused, Steps};
+ghost use Rattle.rapid_service.specs.ViewText.{view_text};
+ghost use Rattle.rapid_service.specs.declared.note.Answer.TheVariants.{Nothing};
 ghost use Rattle.rapid_service.specs.declared.received.Received.TheVariants as fate;
 
 use crate::asking::Asking;
@@ -15,13 +26,14 @@ use crate::note::{Note, Notes};
 use crate::observed_edges::ObservedEdges;
 use crate::part::{MOST_RINGS, Part, PartRound};
 use crate::post::Post;
+use crate::present::Present;
 use crate::received::Received;
 use crate::repeats::Repeats;
 use crate::rounds::Rounds;
 use crate::view_text::write_view;
 use bytes::Bytes;
 use rapid_config::{ConfigId, Configuration, Params};
-use rapid_desk::{Desk, Subscription, Taken};
+use rapid_desk::{Desk, DeskError, Subscription, Taken};
 use rapid_endpoint::{Endpoint, Process};
 use rapid_join::Reply;
 use rapid_message::{Body, Destination, Message, Output, Outputs};
@@ -35,6 +47,9 @@ use std::sync::Wait;
 /// How many changes of the view wait for the service: it takes each at once.
 const CHANGES: usize = 4;
 
+/// How many seats there are at the published view.
+const SEATS: usize = 8;
+
 /// A node at its desk, with the probes of those whom it observes in its current view. It is kept
 /// under a lock, and whoever holds the lock gives it ticks and messages.
 #[derive(Drop)]
@@ -47,25 +62,20 @@ pub struct Service<R: Wait + Copy + Drop, P: Post + Drop> {
     /// Its questions while it has no view.
     asking: Option<Asking>,
     present: Option<Present>,
-    seat: Option<ViewSeat>,
+    /// The seats that were not taken, from when there is a view.
+    seats: Vec<ViewSeat>,
     rounds: Rounds,
     /// The lines of the views that were entered since they were last taken.
     lines: Vec<u8>,
     notes: Notes,
     post: P,
-}
-
-/// The current view, the probes of the members that are observed in it, and the filter of messages
-/// that repeat others since it was entered.
-#[derive(Drop)]
-struct Present {
-    view: View,
-    watch: ObservedEdges,
-    repeats: Repeats,
+    ghost mine: { IfSome present (λ p. p.watch.me ≡ me) } by { Prim.hlevel props },
 }
 
 /// The probe of a configuration, which anyone can say.
-fn probe_of(sender: Process, id: ConfigId) -> Message {
+fn probe_of(sender: Process, id: ConfigId) -> Message
+    ensures { result ≡ record { sender = sender; body = Probe id } }
+{
     match Message::new(sender, Body::Probe(id)) {
         Ok(probe) => probe,
         Err(_) => unreachable!(),
@@ -116,7 +126,10 @@ impl<R: Wait + Copy + Drop, P: Post + Drop> Service<R, P> {
         me: Process,
         mut desk: Desk<R>,
         post: P,
-    ) -> Result<Service<R, P>, RunningFault> {
+    ) -> Result<Service<R, P>, RunningFault>
+        ensures desk { IfOk result (λ s. (s.desk.state ≡ desk.state) × (s.me ≡ me)) }
+        ensures blank { IfOk result (λ s. (s.present ≡ None) × (s.asking ≡ None) × (s.lines.items ≡ []) × (s.notes.waiting.items ≡ []) × (s.rounds ≡ 0)) }
+    {
         let changes = desk.subscribe(CHANGES)?;
         Ok(Service {
             rt,
@@ -126,7 +139,7 @@ impl<R: Wait + Copy + Drop, P: Post + Drop> Service<R, P> {
             changes,
             asking: None,
             present: None,
-            seat: None,
+            seats: Vec::new(alloc),
             rounds: Rounds::new(),
             lines: Vec::new(alloc),
             notes: Notes::new(alloc),
@@ -142,7 +155,11 @@ impl<R: Wait + Copy + Drop, P: Post + Drop> Service<R, P> {
         params: Params,
         me: Process,
         post: P,
-    ) -> Result<Service<R, P>, RunningFault> {
+    ) -> Result<Service<R, P>, RunningFault>
+        ensures desk { IfOk result (λ s. (s.desk.state ≡ seed_state (founding params (me ∷ [])) me) × (s.me ≡ me)) }
+        ensures entered { IfOk result (λ s. IsSomeAnd s.present (λ present. present.view ≡ founding params (me ∷ []))) }
+        ensures line { IfOk result (λ s. s.lines.items ≡ view_text (founding params (me ∷ []))) }
+    {
         let Ok(configuration) = Configuration::seed(alloc, params, &[me]) else {
             return Err(RunningFault::OutOfMemory);
         };
@@ -150,7 +167,7 @@ impl<R: Wait + Copy + Drop, P: Post + Drop> Service<R, P> {
             return Err(RunningFault::Halted);
         }
         // The only reason why a first view is not published is that there is no memory for it.
-        let Ok(desk) = Desk::seed(rt, alloc, &configuration, me, 1) else {
+        let Ok(desk) = Desk::seed(rt, alloc, &configuration, me, SEATS) else {
             return Err(RunningFault::OutOfMemory);
         };
         let mut service = Service::at(rt, alloc, me, desk, post)?;
@@ -165,8 +182,12 @@ impl<R: Wait + Copy + Drop, P: Post + Drop> Service<R, P> {
         me: Process,
         seed: Endpoint,
         post: P,
-    ) -> Result<Service<R, P>, RunningFault> {
-        let desk = Desk::joiner(rt, alloc, me, seed, 1)?;
+    ) -> Result<Service<R, P>, RunningFault>
+        ensures desk { IfOk result (λ s. (s.desk.state ≡ joiner_state me seed) × (s.me ≡ me)) }
+        ensures asks { IfOk result (λ s. s.asking ≡ Some (record { seed = seed; ticks = 0; answer = Nothing })) }
+        ensures blank { IfOk result (λ s. (s.present ≡ None) × (s.lines.items ≡ [])) }
+    {
+        let desk = Desk::joiner(rt, alloc, me, seed, SEATS)?;
         let mut service = Service::at(rt, alloc, me, desk, post)?;
         service.asking = Some(Asking::new(seed));
         Ok(service)
@@ -174,7 +195,9 @@ impl<R: Wait + Copy + Drop, P: Post + Drop> Service<R, P> {
 
     /// A tick of the node; whether a round of probes is due after it, as after every tenth.
     pub fn tick(&mut self) -> Result<bool, RunningFault>
-        ensures { OnOk result (Steps self.old.desk.state model.Tick self.new.desk.state) }
+        ensures step { OnOk result (Steps self.old.desk.state model.Tick self.new.desk.state) }
+        ensures due { (n : ℕ) → self.old.rounds ≡ n % 10 → IfOk result (λ due. due ≡ ((n + 1) % 10 == 0)) }
+        ensures counted { (n : ℕ) → self.old.rounds ≡ n % 10 → OnOk result (self.new.rounds ≡ (n + 1) % 10) }
     {
         self.step(Event::Tick)?;
         self.count_tick();
@@ -184,7 +207,10 @@ impl<R: Wait + Copy + Drop, P: Post + Drop> Service<R, P> {
 
     /// The parts of the probes in the current view, as many as are asked for: once for each view,
     /// after it was entered.
-    pub fn take_parts(&mut self, parts: u8) -> Result<Option<Vec<Part>>, RunningFault> {
+    pub fn take_parts(&mut self, parts: u8) -> Result<Option<Vec<Part>>, RunningFault>
+        ensures none { self.old.present ≡ None → IfOk result (λ r. r ≡ None) }
+        ensures desk { self.new.desk ≡ self.old.desk }
+    {
         match &mut self.present {
             Some(present) => present.watch.take_parts(parts),
             None => Ok(None),
@@ -201,7 +227,10 @@ impl<R: Wait + Copy + Drop, P: Post + Drop> Service<R, P> {
     }
 
     /// The observed edges by ring, and whether each is down; none before the first view.
-    pub fn edges(&mut self) -> Result<Vec<EdgeState>, AllocError> {
+    pub fn edges(&mut self) -> Result<Vec<EdgeState>, AllocError>
+        ensures edges { IfOk result (λ states. map place_of states.items ≡ edges_in self.old.me self.old.present) }
+        ensures desk { self.new.desk ≡ self.old.desk }
+    {
         match &mut self.present {
             Some(present) => present.watch.states(),
             None => Ok(Vec::new(self.alloc)),
@@ -250,7 +279,8 @@ impl<R: Wait + Copy + Drop, P: Post + Drop> Service<R, P> {
 
     /// A tick was made in the current view.
     fn count_tick(&mut self)
-        ensures { self.new.desk ≡ self.old.desk }
+        ensures desk { self.new.desk ≡ self.old.desk }
+        ensures rest { (self.new.rounds ≡ self.old.rounds) × (self.new.me ≡ self.old.me) }
     {
         if let Some(present) = &mut self.present {
             present.repeats.tick();
@@ -260,12 +290,14 @@ impl<R: Wait + Copy + Drop, P: Post + Drop> Service<R, P> {
     /// A tick was made at which the node may have asked to be let in: what is to be reported of its
     /// questions is noted.
     fn note_question(&mut self)
-        ensures { self.new.desk ≡ self.old.desk }
+        ensures desk { self.new.desk ≡ self.old.desk }
+        ensures rest { (self.new.rounds ≡ self.old.rounds) × (self.new.me ≡ self.old.me) }
     {
         if let Some(asking) = &mut self.asking
             && let Some(note) = asking.tick()
         {
-            self.notes.add(note);
+            // without memory it is not reported
+            let _ = self.notes.add(note);
         }
     }
 
@@ -281,29 +313,87 @@ impl<R: Wait + Copy + Drop, P: Post + Drop> Service<R, P> {
         }
     }
 
-    /// A seat at the published view, once there is a view.
-    pub fn take_seat(&mut self) -> Option<ViewSeat> {
-        self.seat.take()
+    /// A seat at the published view: one of eight, from when there is a view.
+    pub fn take_seat(&mut self) -> Option<ViewSeat>
+        ensures { (self.new.desk ≡ self.old.desk) × (self.new.me ≡ self.old.me) }
+    {
+        self.seats.pop()
+    }
+
+    /// The process that the node is.
+    pub fn process(&self) -> Process
+        ensures { result ≡ self.now.me }
+    {
+        self.me
+    }
+
+    /// The phase of the node.
+    pub fn phase(&self) -> Phase
+        ensures { result ≡ name_of self.now.desk.state.node.phase }
+    {
+        self.desk.phase()
+    }
+
+    /// A subscription to the views that come after the current one, with room for `capacity` of them
+    /// to wait, and the current one.
+    ///
+    /// # Errors
+    ///
+    /// Those of `Desk::subscribe`. After `OutOfMemory` a subscription more may count.
+    pub fn subscribe(&mut self, capacity: usize) -> Result<(Subscription, Option<View>), DeskError>
+        ensures state { (self.new.desk.state ≡ self.old.desk.state) × (self.new.me ≡ self.old.me) }
+        ensures ok { OnOk result ((0 < capacity) × (capacity ≤ 1024) × (length self.old.desk.subscriptions < 64)) }
+        ensures untaken { IfOk result (λ r. r.0.taken ≡ []) }
+        ensures current { IfOk result (λ r. r.1 ≡ option_map (λ present. present.view) self.old.present) }
+        ensures refused { IfErr result (NotSubscribed capacity (length self.old.desk.subscriptions)) }
+    {
+        let subscription = self.desk.subscribe(capacity)?;
+        match &self.present {
+            Some(present) => match present.view.try_copy(self.alloc) {
+                Ok(view) => Ok((subscription, Some(view))),
+                Err(_) => Err(DeskError::OutOfMemory),
+            },
+            None => Ok((subscription, None)),
+        }
+    }
+
+    /// Ends the subscriptions made so far, also its own: it enters no further view.
+    pub fn close(&mut self)
+        ensures { self.new.desk ≡ record self.old.desk { subscriptions = [] } }
+    {
+        self.desk.close();
     }
 
     /// The lines of the views that were entered since this was last asked.
-    pub fn take_lines(&mut self) -> Vec<u8> {
+    pub fn take_lines(&mut self) -> Vec<u8>
+        ensures taken { result.items ≡ self.old.lines.items }
+        ensures none { self.new.lines.items ≡ [] }
+        ensures same { (self.new.desk ≡ self.old.desk) × (self.new.me ≡ self.old.me) }
+    {
         mem::replace(&mut self.lines, Vec::new(self.alloc))
     }
 
     /// What is to be reported since this was last asked, from the oldest on: at most 64 notes wait.
-    pub fn take_notes(&mut self) -> Vec<Note> {
+    pub fn take_notes(&mut self) -> Vec<Note>
+        ensures taken { result.items ≡ self.old.notes.waiting.items }
+        ensures few { vec_len result ≤ 64 }
+        ensures none { self.new.notes.waiting.items ≡ [] }
+        ensures same { (self.new.desk ≡ self.old.desk) × (self.new.me ≡ self.old.me) }
+    {
         self.notes.take()
     }
 
     /// What takes the frames that it sends.
-    pub fn post(&self) -> &P {
+    pub fn post(&self) -> &P
+        ensures { result.now ≡ self.now.post }
+    {
         &self.post
     }
 
     /// One event at the desk: what is sent goes out, and a new view is entered.
     fn step(&mut self, event: Event) -> Result<(), RunningFault>
-        ensures { OnOk result (Steps self.old.desk.state (event_of event) self.new.desk.state) }
+        ensures step { OnOk result (Steps self.old.desk.state (event_of event) self.new.desk.state) }
+        ensures rest { (self.new.rounds ≡ self.old.rounds) × (self.new.me ≡ self.old.me) }
     {
         let sent = self.at_desk(event)?;
         // before a new view is entered: the other members are those of the view of the step
@@ -317,6 +407,7 @@ impl<R: Wait + Copy + Drop, P: Post + Drop> Service<R, P> {
         ensures stepped { IfOk result (λ sent. HasStepped self.old.desk.state (event_of event) self.new.desk.state sent.items) }
         ensures refused { IfErr result (HasRefused self.old.desk.state (event_of event) self.new.desk.state) }
         ensures closed { OnErr result (self.new.desk.subscriptions ≡ []) }
+        ensures rest { (self.new.rounds ≡ self.old.rounds) × (self.new.me ≡ self.old.me) }
     {
         // a journal for which there is no memory now grows on, and the next step tries again
         let _ = shorten(&mut self.desk);
@@ -331,7 +422,8 @@ impl<R: Wait + Copy + Drop, P: Post + Drop> Service<R, P> {
 
     /// Sends the messages of a step to their recipients, in order.
     fn send_all(&mut self, sent: &[Output]) -> Result<(), AllocError>
-        ensures { self.new.desk ≡ self.old.desk }
+        ensures desk { self.new.desk ≡ self.old.desk }
+        ensures rest { (self.new.rounds ≡ self.old.rounds) × (self.new.me ≡ self.old.me) }
     {
         for output in sent {
             self.send(output)?;
@@ -341,7 +433,8 @@ impl<R: Wait + Copy + Drop, P: Post + Drop> Service<R, P> {
 
     /// Sends a message to its recipients: the other members are those of the view before the step.
     fn send(&mut self, output: &Output) -> Result<(), AllocError>
-        ensures { self.new.desk ≡ self.old.desk }
+        ensures desk { self.new.desk ≡ self.old.desk }
+        ensures rest { (self.new.rounds ≡ self.old.rounds) × (self.new.me ≡ self.old.me) }
     {
         let frame = frame_of(self.alloc, output.message())?;
         match output.to() {
@@ -355,7 +448,8 @@ impl<R: Wait + Copy + Drop, P: Post + Drop> Service<R, P> {
 
     /// Sends a frame to the other members.
     fn send_others(&mut self, frame: &Bytes) -> Result<(), AllocError>
-        ensures { self.new.desk ≡ self.old.desk }
+        ensures desk { self.new.desk ≡ self.old.desk }
+        ensures rest { (self.new.rounds ≡ self.old.rounds) × (self.new.me ≡ self.old.me) }
     {
         match &self.present {
             Some(present) => broadcast(
@@ -371,7 +465,8 @@ impl<R: Wait + Copy + Drop, P: Post + Drop> Service<R, P> {
 
     /// Enters the view that the desk has published, if there is a new one.
     fn follow(&mut self) -> Result<(), RunningFault>
-        ensures { self.new.desk.state ≡ self.old.desk.state }
+        ensures desk { self.new.desk.state ≡ self.old.desk.state }
+        ensures rest { (self.new.rounds ≡ self.old.rounds) × (self.new.me ≡ self.old.me) }
     {
         match self.changes.take(&self.rt) {
             Taken::Change(view) => self.enter(view),
@@ -384,14 +479,18 @@ impl<R: Wait + Copy + Drop, P: Post + Drop> Service<R, P> {
     /// Enters a view: its line is printed, and probes begin anew. A view without the node is its
     /// last.
     fn enter(&mut self, view: View) -> Result<(), RunningFault>
-        ensures { self.new.desk.state ≡ self.old.desk.state }
+        ensures desk { self.new.desk.state ≡ self.old.desk.state }
+        ensures line { OnOk result (self.new.lines.items ≡ self.old.lines.items ++ view_text view) }
+        ensures view { OnOk result (IsSomeAnd self.new.present (λ present. present.view ≡ view)) }
+        ensures asks { OnOk result (self.new.asking ≡ None) }
+        ensures rest { (self.new.rounds ≡ self.old.rounds) × (self.new.me ≡ self.old.me) }
     {
         write_view(view.configuration(), &mut self.lines)?;
         let watch = self.watch(view.configuration())?;
         let repeats = Repeats::new(self.alloc, view.configuration())?;
         if self.desk.phase() == Phase::Removed {
             let height = view.configuration().height();
-            self.notes.add(Note::Removed(height));
+            let _ = self.notes.add(Note::Removed(height));
         }
         self.asking = None;
         self.present = Some(Present {
@@ -399,15 +498,18 @@ impl<R: Wait + Copy + Drop, P: Post + Drop> Service<R, P> {
             watch,
             repeats,
         });
-        if let Some(mut seats) = self.desk.take_seats() {
-            self.seat = seats.pop();
+        if let Some(seats) = self.desk.take_seats() {
+            self.seats = seats;
         }
         Ok(())
     }
 
     /// The probes of the members that are observed in a view. The rings are made of those of the
     /// view before: keys are computed of newcomers only.
-    fn watch(&self, configuration: &Configuration) -> Result<ObservedEdges, AllocError> {
+    fn watch(&self, configuration: &Configuration) -> Result<ObservedEdges, AllocError>
+        ensures edges { IfOk result (λ w. w.edges.items ≡ subjects_of configuration.now self.now.me) }
+        ensures me { IfOk result (λ w. w.me ≡ self.now.me) }
+    {
         match &self.present {
             Some(present) => present.watch.next(configuration),
             None => ObservedEdges::new(self.alloc, configuration, &self.me),

@@ -1,5 +1,10 @@
 // What the threads of a node share.
 
+ghost use Rattle.std.specs.Prelude.{◌≡◌, ◌<◌, ◌≤◌, ◌++◌, [], List, false, min, max, vec_len, IfOk, OnOk, OnErr};
+ghost use Rattle.rapid_service.specs.EdgeText.{edges_text};
+ghost use Rattle.rapid_service.specs.declared.edge_text.EdgeState.{EdgeState};
+
+use crate::bell::Bell;
 use crate::console::Console;
 use crate::dealer::Dealer;
 use crate::edge_text::write_edges;
@@ -9,9 +14,11 @@ use crate::note::Note;
 use crate::part::{Part, PartRound};
 use crate::post::Post;
 use crate::service::Service;
+use rapid_desk::{DeskError, Subscription};
 use rapid_endpoint::Process;
 use rapid_message::{Body, Message};
-use rapid_view::ViewSeat;
+use rapid_node::Phase;
+use rapid_view::{View, ViewSeat};
 use std::alloc::{AllocError, Global};
 use std::sync::{Mutex, Wait};
 
@@ -31,6 +38,8 @@ pub struct Shared<R: Wait + Copy + Drop, P: Post + Drop> {
     dealer: Dealer,
     console: Console,
     ending: Ending,
+    bell: Bell,
+    ghost dealt: { (vec_len parts ≡ probers) × (dealer.parts ≡ probers) },
 }
 
 impl<R: Wait + Copy + Drop, P: Post + Drop> Shared<R, P> {
@@ -40,7 +49,9 @@ impl<R: Wait + Copy + Drop, P: Post + Drop> Shared<R, P> {
         alloc: Global,
         service: Service<R, P>,
         probers: u8,
-    ) -> Result<Shared<R, P>, AllocError> {
+    ) -> Result<Shared<R, P>, AllocError>
+        ensures { IfOk result (λ shared. shared.probers ≡ max 1 (min probers 16)) }
+    {
         let probers = probers.clamp(1, MOST_PROBERS);
         let mut parts = Vec::with_capacity(alloc, usize::from(probers))?;
         for _ in 0..probers {
@@ -54,28 +65,47 @@ impl<R: Wait + Copy + Drop, P: Post + Drop> Shared<R, P> {
             dealer: Dealer::new(usize::from(probers)),
             console: Console::new(alloc),
             ending: Ending::new(),
+            bell: Bell::new(),
         })
     }
 
     /// What is printed.
-    pub fn console(&self) -> &Console {
+    pub fn console(&self) -> &Console
+        ensures { result.now ≡ self.now.console }
+    {
         &self.console
     }
 
     /// Whether the node goes on.
-    pub fn ending(&self) -> &Ending {
+    pub fn ending(&self) -> &Ending
+        ensures { result.now ≡ self.now.ending }
+    {
         &self.ending
     }
 
+    /// What wakes those who wait for views: it rings when one was entered, and when none comes any
+    /// more.
+    pub fn bell(&self) -> &Bell
+        ensures { result.now ≡ self.now.bell }
+    {
+        &self.bell
+    }
+
     /// What deals the parts of rounds of probes.
-    pub fn dealer(&self) -> &Dealer {
+    pub fn dealer(&self) -> &Dealer
+        ensures { result.now ≡ self.now.dealer }
+    {
         &self.dealer
     }
 
     /// Prints the views that the service has entered, while its lock is held: views are printed in
-    /// the order in which they were entered. Probes begin anew in the last of them.
+    /// the order in which they were entered. Who waits for them is woken, and probes begin anew in
+    /// the last of them.
     fn show<W: Wait>(&self, rt: &W, service: &mut Service<R, P>) -> Result<(), RunningFault> {
         let lines = service.take_lines();
+        if !lines.is_empty() {
+            self.bell.ring(rt);
+        }
         self.console.add(rt, lines.as_slice())?;
         if let Some(parts) = service.take_parts(self.probers)? {
             self.begin_parts(rt, parts);
@@ -92,6 +122,13 @@ impl<R: Wait + Copy + Drop, P: Post + Drop> Shared<R, P> {
                 *slot = Some(part);
             }
         }
+    }
+
+    /// Prints the views that were entered so far.
+    pub fn begin<W: Wait>(&self, rt: &W) -> Result<(), RunningFault> {
+        let mut service = self.service.lock(rt);
+        self.show(rt, &mut service)?;
+        Ok(())
     }
 
     /// A tick of the node. After every tenth the observed members are probed, and edges of which
@@ -187,7 +224,9 @@ impl<R: Wait + Copy + Drop, P: Post + Drop> Shared<R, P> {
     }
 
     /// Writes the lines of the observed edges: those of one view, each up or down as it is now.
-    pub fn write_edges<W: Wait>(&self, rt: &W, output: &mut Vec<u8>) -> Result<(), RunningFault> {
+    pub fn write_edges<W: Wait>(&self, rt: &W, output: &mut Vec<u8>) -> Result<(), RunningFault>
+        ensures { OnOk result ((edges : List EdgeState) × (output.new.items ≡ output.old.items ++ edges_text edges)) }
+    {
         let mut service = self.service.lock(rt);
         let edges = service.edges()?;
         drop(service);
@@ -195,20 +234,75 @@ impl<R: Wait + Copy + Drop, P: Post + Drop> Shared<R, P> {
         Ok(())
     }
 
-    /// A seat at the published view, once there is a view; it is given once.
+    /// A seat at the published view: one of eight, from when there is a view.
     pub fn take_seat<W: Wait>(&self, rt: &W) -> Option<ViewSeat> {
         let mut service = self.service.lock(rt);
         service.take_seat()
     }
 
+    /// The process that the node is.
+    pub fn process<W: Wait>(&self, rt: &W) -> Process {
+        let service = self.service.lock(rt);
+        service.process()
+    }
+
+    /// The phase of the node.
+    pub fn phase<W: Wait>(&self, rt: &W) -> Phase {
+        let service = self.service.lock(rt);
+        service.phase()
+    }
+
+    /// A subscription to the views that come after the current one, and the current one.
+    ///
+    /// # Errors
+    ///
+    /// Those of `Service::subscribe`.
+    pub fn subscribe<W: Wait>(
+        &self,
+        rt: &W,
+        capacity: usize,
+    ) -> Result<(Subscription, Option<View>), DeskError>
+        ensures room { OnOk result ((0 < capacity) × (capacity ≤ 1024)) }
+        ensures untaken { IfOk result (λ r. r.0.taken ≡ []) }
+    {
+        let mut service = self.service.lock(rt);
+        service.subscribe(capacity)
+    }
+
+    /// Ends all subscriptions, and wakes who waits for views: none comes any more.
+    pub fn close<W: Wait>(&self, rt: &W) {
+        let mut service = self.service.lock(rt);
+        service.close();
+        drop(service);
+        self.bell.ring(rt);
+    }
+
+    /// The node goes on with another service in place of its own, whose subscriptions end. What was
+    /// probed for it is forgotten.
+    pub fn begin_anew<W: Wait>(&self, rt: &W, next: Service<R, P>) {
+        let mut service = self.service.lock(rt);
+        service.close();
+        *service = next;
+        for slot in &self.parts {
+            let mut slot = slot.lock(rt);
+            *slot = None;
+        }
+        drop(service);
+        self.bell.ring(rt);
+    }
+
     /// What is to be reported since this was last asked.
-    pub fn take_notes<W: Wait>(&self, rt: &W) -> Vec<Note> {
+    pub fn take_notes<W: Wait>(&self, rt: &W) -> Vec<Note>
+        ensures { vec_len result ≤ 64 }
+    {
         let mut service = self.service.lock(rt);
         service.take_notes()
     }
 
     /// Ends the node if a step of it has failed; the answer is whether it goes on.
-    pub fn goes_on<W: Wait>(&self, rt: &W, done: Result<(), RunningFault>) -> bool {
+    pub fn goes_on<W: Wait>(&self, rt: &W, done: Result<(), RunningFault>) -> bool
+        ensures { OnErr done (result ≡ false) }
+    {
         match done {
             Ok(()) => !self.ending.has_come(rt),
             Err(fault) => {

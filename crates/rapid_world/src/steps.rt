@@ -184,7 +184,7 @@ impl World {
         match self.edge(&id, ring, ok) {
             Ok((place, config, subject)) => {
                 let event = WorldEvent::Probe(id, ring, ok);
-                match self.probe_at(event, place, ring, ok, config, subject) {
+                match self.probe_at(event, place, ring, ok, (config, subject)) {
                     Ok(reports) => Ok(reports),
                     Err(AllocError) => Err(WorldError::OutOfMemory),
                 }
