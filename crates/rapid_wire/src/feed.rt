@@ -73,7 +73,7 @@ fn first_frame(bytes: &[u8]) -> Result<Option<(&[u8], usize)>, WireFault>
 /// The message in front of the bytes and how many bytes its frame has; none if no whole frame is
 /// there. Or the fault that stands in its place.
 #[tactic(auto, using(crate::proofs::Fronts::fault_in_front, crate::proofs::Fronts::length_fault, crate::proofs::Fronts::message_in_front))]
-fn front(alloc: Global, bytes: &[u8]) -> Result<Option<(Message, usize)>, WireFault>
+pub(crate) fn front(alloc: Global, bytes: &[u8]) -> Result<Option<(Message, usize)>, WireFault>
     ensures whole { IfOk result (λ o. IfSome o (λ x. IsFront bytes.now (Whole x.0 (drop x.1 bytes.now)))) }
     ensures within { IfOk result (λ o. IfSome o (λ x. x.1 ≤ length bytes.now)) }
     ensures none { result ≡ Ok None → IsIncomplete bytes.now }
