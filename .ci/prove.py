@@ -39,8 +39,10 @@ def tree_over_libraries(room, name):
 
 
 def take_over(made, out):
-    """Puts what a proof made in place of what the last one left."""
+    """Puts what a proof made, also one that failed, in place of what the last one left."""
     out.mkdir(exist_ok=True)
+    if not made.is_dir():
+        return
     for it in made.iterdir():
         shutil.rmtree(out / it.name, ignore_errors=True)
         os.replace(it, out / it.name)
@@ -53,10 +55,10 @@ def prove(room, name, jobs):
     is_program = (folder / "src/main.rt").is_file()
     words = ["run", "--jobs", str(jobs), "--", "--help"] if is_program else ["lib", "--jobs", str(jobs)]
     ran = tree.rt(words, folder)
+    take_over(folder / "out", out_of(name))
     if ran.returncode:
         print(f"== {name}\n{ran.stdout}", flush=True)
     else:
-        take_over(folder / "out", out_of(name))
         (out_of(name) / "proved").write_text(summed)
     shutil.rmtree(room / name)
     return ran.returncode == 0

@@ -26,6 +26,8 @@ NO_LIBRARIES = {
     "rapid_bench",
     "rapid_reference",
     "rapid_sharded_map",
+    "keys_by_member",
+    "leader_by_height",
 }
 
 HEAD = """# The public surface

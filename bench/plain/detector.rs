@@ -34,7 +34,8 @@ impl Detector {
     /// Makes room for reports on the subject of a well-formed alert, unless it is a joiner too
     /// many.
     fn begin(&mut self, view: &View, alert: &Alert) -> bool {
-        if view.observer(alert.ring, &alert.subject) != Some(alert.observer) {
+        let observers = view.observers_of(&alert.subject);
+        if view.member(observers[alert.ring as usize]) != Some(alert.observer) {
             return false;
         }
         if alert.kind == Kind::Join {
@@ -43,7 +44,6 @@ impl Detector {
             }
             self.joiners += 1;
         }
-        let observers = view.observers_of(&alert.subject);
         self.reports.insert(alert.subject, Reports { direct: 0, all: 0, observers });
         true
     }

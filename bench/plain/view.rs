@@ -1,7 +1,7 @@
 //! Configurations, and who observes whom in them.
 use crate::{key, sha256, Process, Ring};
 use std::collections::HashMap;
-use std::sync::Arc;
+use std::sync::{Arc, Mutex};
 
 /// The identifier of a configuration.
 pub type ConfigId = [u8; 32];
@@ -96,6 +96,21 @@ const NOBODY: u16 = u16::MAX;
 /// The places of members, by ring.
 pub type Places = [u16; 16];
 
+/// The keys of a process, by ring.
+type Keys = Vec<[u8; 32]>;
+
+/// The keys of those that were no members when they were asked for: they are hashed once for all
+/// nodes and views.
+#[derive(Default)]
+struct KnownKeys(Mutex<HashMap<Process, Arc<Keys>>>);
+
+impl KnownKeys {
+    fn of(&self, k: u8, p: &Process) -> Arc<Keys> {
+        let hashed = || Arc::new((0..k).map(|ring| key(ring, p)).collect());
+        self.0.lock().unwrap().entry(*p).or_insert_with(hashed).clone()
+    }
+}
+
 /// A configuration, with who observes whom.
 pub struct View {
     pub config: Arc<Configuration>,
@@ -103,15 +118,18 @@ pub struct View {
     // of each member, by ring: the place of its observer, and of whom it observes
     observers: Vec<Places>,
     subjects: Vec<Places>,
+    // of others, once they were asked for
+    strangers: Mutex<HashMap<Process, Places>>,
+    keys: Arc<KnownKeys>,
 }
 
 impl View {
     pub fn new(config: Arc<Configuration>) -> View {
         let rings = crate::rings(&config.members, config.params.k);
-        View::of(config, rings)
+        View::of(config, rings, Arc::default())
     }
 
-    fn of(config: Arc<Configuration>, rings: Vec<Ring>) -> View {
+    fn of(config: Arc<Configuration>, rings: Vec<Ring>, keys: Arc<KnownKeys>) -> View {
         let count = config.members.len();
         let mut observers = vec![[NOBODY; 16]; count];
         let mut subjects = vec![[NOBODY; 16]; count];
@@ -124,22 +142,26 @@ impl View {
                 subjects[observer][number] = *subject as u16;
             }
         }
-        View { config, rings, observers, subjects }
+        View { config, rings, observers, subjects, strangers: Mutex::default(), keys }
     }
 
-    /// The view of the configuration after this one: only newcomers are hashed.
+    /// The view of the configuration after this one: keys are taken over.
     fn next(&self, config: Arc<Configuration>) -> View {
-        let new: Vec<Process> =
-            config.members.iter().filter(|p| self.config.position(p).is_none()).copied().collect();
+        let new: Vec<(Process, Arc<Keys>)> = config
+            .members
+            .iter()
+            .filter(|p| self.config.position(p).is_none())
+            .map(|p| (*p, self.keys.of(self.k(), p)))
+            .collect();
         let next = |(number, old): (usize, &Ring)| {
             let stays = |x: &&([u8; 32], Process)| config.position(&x.1).is_some();
             let mut ring: Ring = old.iter().filter(stays).copied().collect();
-            ring.extend(new.iter().map(|p| (key(number as u8, p), *p)));
+            ring.extend(new.iter().map(|(p, keys)| (keys[number], *p)));
             ring.sort();
             ring
         };
         let rings = self.rings.iter().enumerate().map(next).collect();
-        View::of(config, rings)
+        View::of(config, rings, self.keys.clone())
     }
 
     pub fn k(&self) -> u8 {
@@ -157,13 +179,7 @@ impl View {
 
     /// Who observes a process, a member or not, on a ring that there is.
     pub fn observer(&self, number: u8, subject: &Process) -> Option<Process> {
-        if let Some(place) = self.config.position(subject) {
-            return self.member(self.observers[place][number as usize]);
-        }
-        let ring = &self.rings[number as usize];
-        let seat = (key(number, subject), *subject);
-        let place = ring.partition_point(|x| *x < seat);
-        (!ring.is_empty()).then(|| ring[(place + ring.len() - 1) % ring.len()].1)
+        self.member(self.observers_of(subject)[number as usize])
     }
 
     /// The places of the observers of a process, by ring.
@@ -171,11 +187,19 @@ impl View {
         if let Some(place) = self.config.position(subject) {
             return self.observers[place];
         }
+        let mut strangers = self.strangers.lock().unwrap();
+        *strangers.entry(*subject).or_insert_with(|| self.places_of_observers(subject))
+    }
+
+    /// The places of the observers of a process that is no member.
+    fn places_of_observers(&self, subject: &Process) -> Places {
         let mut places = [NOBODY; 16];
-        for ring in 0..self.k() {
-            let observer = self.observer(ring, subject);
-            let place = observer.and_then(|observer| self.config.position(&observer));
-            places[ring as usize] = place.map_or(NOBODY, |place| place as u16);
+        let keys = self.keys.of(self.k(), subject);
+        for (number, ring) in self.rings.iter().enumerate().filter(|(_, ring)| !ring.is_empty()) {
+            let seat = (keys[number], *subject);
+            let below = ring.partition_point(|x| *x < seat);
+            let observer = ring[(below + ring.len() - 1) % ring.len()].1;
+            places[number] = self.config.position(&observer).map_or(NOBODY, |place| place as u16);
         }
         places
     }

@@ -3,7 +3,7 @@ use Rattle.std.proofs.Common.{◌≡◌, ℕ, zero, suc, ◌+◌, ◌-◌, ◌<�
 use Rattle.std.specs.Prelude.{All}
 use Rattle.std.specs.List.{list_all, slice_index_or}
 use Rattle.std.proofs.lemmas.Bool.{cases_lt}
-use Rattle.std.proofs.lemmas.List.{length-take, take_all}
+use Rattle.std.proofs.lemmas.List.{length-take, length-drop, take_all}
 use Rattle.std.proofs.lemmas.List.Elements.{All-take, All-drop}
 use Rattle.rapid_model.specs.Process.{Process, same_bytes}
 use Rattle.rapid_model.specs.Ring.{Observers}
@@ -11,7 +11,8 @@ use Rattle.rapid_model.specs.Alert as model
 use Rattle.rapid_model.specs.Outbox.{Outbox, unflushed, flush}
 use Rattle.rapid_model.specs.Batch.{Batch, BatchFault, MixedAlerts, TooManyAlerts, is_alike, batch_fault, batch_of}
 use Rattle.rapid_model.proofs.Orders.{same_bytes_decides}
-use Rattle.rapid_alerts.specs.Alerts.{alert_of}
+use Rattle.rapid_model.specs.Message.{AlertItem, batch_alerts, alert_of as read_as}
+use Rattle.rapid_alerts.specs.Alerts.{ListedAlerts, alert_of, alerts_in}
 use Rattle.rapid_alerts.specs.declared.alert.Alert.{Alert}
 use Rattle.rapid_alerts.specs.Outboxes.{Index, is_sound, IsOutbox}
 use Rattle.rapid_alerts.proofs.Raisings.{parts_of}
@@ -30,7 +31,7 @@ all_mapped : (a : model.Alert) (xs : List Alert) → list_all (is_alike a) (map 
 all_mapped a [] = refl
 all_mapped a (x ∷ xs) = ap (λ b. is_alike a (alert_of x) && b) (all_mapped a xs)
 
-pub length_mapped : (xs : List Alert) → length (map alert_of xs) ≡ length xs
+length_mapped : (xs : List Alert) → length (map alert_of xs) ≡ length xs
 length_mapped [] = refl
 length_mapped (x ∷ xs) = ap suc (length_mapped xs)
 
@@ -51,86 +52,59 @@ fault_is all x rest b e few h =
     turned false = refl
 
 -- a batch has an alert, and at most 2,048
-pub batch_some : (xs : List Alert) → batch_fault (map alert_of xs) ≡ None → 1 ≤ length xs
-batch_some [] h = absurd (none h)
-  where
-    none : batch_fault [] ≡ None → ⊥
-    none e = cc
+pub batch_some : (xs : List model.Alert) → batch_fault xs ≡ None → 1 ≤ length xs
+batch_some [] h = cc
 batch_some (x ∷ xs) h = omega arith
 
-pub batch_few : (xs : List Alert) → batch_fault (map alert_of xs) ≡ None → length xs ≤ 2048
+pub batch_few : (xs : List model.Alert) → batch_fault xs ≡ None → length xs ≤ 2048
 batch_few [] h = omega arith
-batch_few (x ∷ xs) h =
-    let l = length_mapped xs in
-    let e : nat_lt 2048 (suc (length (map alert_of xs))) ≡ false = enough (nat_lt 2048 (suc (length (map alert_of xs)))) _ h in
-    grind (arith, l, e)
+batch_few (x ∷ xs) h = let e : nat_lt 2048 (suc (length xs)) ≡ false = enough (nat_lt 2048 (suc (length xs))) _ h in grind (arith, e)
   where
     enough : (b : Bool) (r : Option BatchFault) → cond b (Some TooManyAlerts) r ≡ None → b ≡ false
     enough true r k = cc
     enough false r k = refl
 
+-- alerts of one observer and one configuration are a batch, if they are some and not too many
+own_alike : (from : Process) (id : List ℕ) (a : model.Alert) (xs : List AlertItem) → a.observer ≡ from → a.config ≡ id → list_all (is_alike a) (batch_alerts from id xs) ≡ true
+own_alike from id a [] o c = refl
+own_alike from id a (x ∷ xs) o c =
+    and (is_alike a (read_as from id x)) _
+    (and (same_bytes from a.observer) _ ((same_bytes_decides from a.observer).1 (sym o)) ((same_bytes_decides id a.config).1 (sym c)))
+    (own_alike from id a xs o c)
+
+-- alerts of one observer and one configuration that are some and not too many are a batch
+pub fits_when : (from : Process) (id : List ℕ) (xs : List AlertItem) → 1 ≤ length (batch_alerts from id xs) → length (batch_alerts from id xs) ≤ 2048 → batch_fault (batch_alerts from id xs) ≡ None
+fits_when from id [] some few = absurd (omega (arith, some))
+fits_when from id (x ∷ xs) some few =
+    let enough : nat_lt 2048 (length (batch_alerts from id (x ∷ xs))) ≡ false = grind (arith, few) in
+    let same = own_alike from id (read_as from id x) xs refl refl in
+    rw (enough, same) refl
+
+pub listed_fits : (l : ListedAlerts) → 1 ≤ length (alerts_in l) → length (alerts_in l) ≤ 2048 → batch_fault (alerts_in l) ≡ None
+listed_fits l some few = fits_when l.observer l.config l.items some few
+
 -- ---- what the alerts of a batch have in common
 
-abbrev Common : model.Alert → model.Alert → Type 0
-Common a x = (x.observer ≡ a.observer) × (x.config ≡ a.config)
-
-common : (a : model.Alert) (xs : List model.Alert) → list_all (is_alike a) xs ≡ true → All (Common a) xs
-common a [] h k d l = absurd (omega (arith, l))
-common a (x ∷ xs) h zero d l =
-    let p = both (is_alike a x) (list_all (is_alike a) xs) h in
+alike_parts : (a : Alert) (xs : List Alert) → list_all (λ y. is_alike (alert_of a) (alert_of y)) xs ≡ true → All (λ y. (y.observer ≡ a.observer) × (y.config ≡ a.config)) xs
+alike_parts a [] h k d l = absurd (omega (arith, l))
+alike_parts a (x ∷ xs) h zero d l =
+    let p = both (is_alike (alert_of a) (alert_of x)) (list_all (λ y. is_alike (alert_of a) (alert_of y)) xs) h in
     let q = both (same_bytes x.observer a.observer) (same_bytes x.config a.config) p.0 in
     ((same_bytes_decides x.observer a.observer).0 q.0, (same_bytes_decides x.config a.config).0 q.1)
-common a (x ∷ xs) h (suc k) d l = common a xs (both (is_alike a x) (list_all (is_alike a) xs) h).1 k d (omega (arith, l))
+alike_parts a (x ∷ xs) h (suc k) d l = alike_parts a xs (both (is_alike (alert_of a) (alert_of x)) (list_all (λ y. is_alike (alert_of a) (alert_of y)) xs) h).1 k d (omega (arith, l))
 
 -- the alerts of a batch have the observer and the configuration of the first
-pub common_first : (xs : List Alert) (d : Alert) (b : Batch) → map alert_of xs ≡ b → batch_fault b ≡ None → All (Common (alert_of (slice_index_or xs 0 d))) b
-common_first [] d b e h = absurd (none (ap batch_fault e ∙ h))
+pub alike_first : (xs : List Alert) (d : Alert) → batch_fault (map alert_of xs) ≡ None → All (λ y. (y.observer ≡ (slice_index_or xs 0 d).observer) × (y.config ≡ (slice_index_or xs 0 d).config)) xs
+alike_first [] d h k e l = absurd (omega (arith, l))
+alike_first (x ∷ xs) d h zero e l = (refl, refl)
+alike_first (x ∷ xs) d h (suc k) e l = alike_parts x xs (sym (all_mapped (alert_of x) xs) ∙ alike _ (list_all (is_alike (alert_of x)) (map alert_of xs)) h) k e (omega (arith, l))
   where
-    none : batch_fault [] ≡ None → ⊥
-    none f = cc
-common_first (x ∷ xs) d b e h = subst (All (Common (alert_of x))) e (first (ap batch_fault e ∙ h))
-  where
-    alike : (c l : Bool) → cond c (Some TooManyAlerts) (cond (not l) (Some MixedAlerts) None) ≡ None → l ≡ true
-    alike true l f = cc
+    alike : (c m : Bool) → cond c (Some TooManyAlerts) (cond (not m) (Some MixedAlerts) None) ≡ None → m ≡ true
+    alike true m f = cc
     alike false true f = refl
     alike false false f = cc
 
-    first : batch_fault (map alert_of (x ∷ xs)) ≡ None → All (Common (alert_of x)) (map alert_of (x ∷ xs))
-    first f zero d l = (refl, refl)
-    first f (suc k) d l = common (alert_of x) (map alert_of xs) (alike _ (list_all (is_alike (alert_of x)) (map alert_of xs)) f) k d (omega (arith, l))
-
-pub observers_same : (xs : List Alert) (d : Alert) (b : Batch) → map alert_of xs ≡ b → batch_fault b ≡ None → All (λ a. a.observer ≡ (slice_index_or xs 0 d).observer) b
-observers_same xs d b e h k d' l = (common_first xs d b e h k d' l).0
-
-pub configs_same : (xs : List Alert) (d : Alert) (b : Batch) → map alert_of xs ≡ b → batch_fault b ≡ None → All (λ a. a.config ≡ (slice_index_or xs 0 d).config) b
-configs_same xs d b e h k d' l = (common_first xs d b e h k d' l).1
-
 -- ---- stretches of an outbox
-
-map_take : (n : ℕ) (xs : List Alert) → map alert_of (take n xs) ≡ take n (map alert_of xs)
-map_take zero xs = refl
-map_take (suc n) [] = refl
-map_take (suc n) (x ∷ xs) = ap (λ l. alert_of x ∷ l) (map_take n xs)
-
-map_drop : (n : ℕ) (xs : List Alert) → map alert_of (drop n xs) ≡ drop n (map alert_of xs)
-map_drop zero xs = refl
-map_drop (suc n) [] = refl
-map_drop (suc n) (x ∷ xs) = map_drop n xs
-
--- the oldest alerts that are not flushed, as the definitions see them
-pub oldest_seen : (n m : ℕ) (xs : List Alert) → map alert_of (take n (drop m xs)) ≡ take n (drop m (map alert_of xs))
-oldest_seen n m xs = map_take n (drop m xs) ∙ ap (take n) (map_drop m xs)
-
--- no more than there are
-pub take_least : {k : ℕ} (m n : ℕ) (xs : List Alert) → k ≡ min m n → m ≡ length xs → take k xs ≡ take n xs
-take_least {k} m n xs is e =
-    elim (cases_lt m n) [
-      | inl less ↦ (
-          let all : k ≡ m = grind (arith, is, less) in
-          ap (λ j. take j xs) all ∙ take_all m xs (omega (arith, e)) ∙ sym (take_all n xs (omega (arith, e, less)))
-          )
-      | inr least ↦ ap (λ j. take j xs) (grind (arith, is, least))
-    ]
 
 sound_alike : (t : Observers) (owner : Process) (a : model.Alert) (xs : List model.Alert) → is_sound t owner a ≡ true → All (λ x. is_sound t owner x ≡ true) xs → list_all (is_alike a) xs ≡ true
 sound_alike t owner a [] s h = refl
@@ -165,9 +139,40 @@ pub no_batch : (xs : List model.Alert) → length xs ≡ 0 → batch_of xs ≡ N
 no_batch [] h = refl
 no_batch (x ∷ xs) h = absurd (omega (arith, h))
 
--- an outbox of which these alerts were flushed
-pub flush_is : (items alerts : List Alert) (f n : ℕ) {o : Outbox} → record { raised = map alert_of items; flushed = f } ≡ o → map alert_of alerts ≡ unflushed (record { raised = map alert_of items; flushed = f }) → n ≡ length alerts
-    → record { raised = map alert_of items; flushed = f + n } ≡ flush o
-flush_is items alerts f n e seen many =
-    let count : n ≡ length (unflushed (record { raised = map alert_of items; flushed = f })) = many ∙ sym (length_mapped alerts) ∙ ap length seen in
-    ap (λ k. record { raised = map alert_of items; flushed = f + k }) count ∙ ap flush e
+-- an outbox of which this many alerts were flushed
+pub flush_is : (raised : List model.Alert) (f n : ℕ) {o : Outbox} → record { raised = raised; flushed = f } ≡ o → n ≡ length (unflushed (record { raised = raised; flushed = f }))
+    → record { raised = raised; flushed = f + n } ≡ flush o
+flush_is raised f n e many = ap (λ k. record { raised = raised; flushed = f + k }) many ∙ ap flush e
+
+-- how many alerts are flushed at once
+pub as_many : (raised : List model.Alert) (f n left : ℕ) → left ≡ length raised - f → n ≡ min left 2048 → n ≡ length (unflushed (record { raised = raised; flushed = f }))
+as_many raised f n left l e =
+    let whole = length-take 2048 (drop f raised) in
+    let rest = length-drop f raised in
+    grind (arith, whole, rest, l, e)
+
+-- as many as there are, of those that are not flushed
+pub stretch_is : (l m : ListedAlerts) (f n : ℕ) → m ≡ record l { items = take n (drop f l.items) } → n ≡ length (unflushed (record { raised = alerts_in l; flushed = f }))
+    → alerts_in m ≡ unflushed (record { raised = alerts_in l; flushed = f })
+stretch_is l m f n e many =
+    ap alerts_in e
+    ∙ map_take n (drop f l.items) ∙ ap (take n) (map_drop f l.items)
+    ∙ take_fewer n 2048 (drop f (alerts_in l)) many
+  where
+    map_take : (k : ℕ) (xs : List AlertItem) → map (read_as l.observer l.config) (take k xs) ≡ take k (map (read_as l.observer l.config) xs)
+    map_take zero xs = refl
+    map_take (suc k) [] = refl
+    map_take (suc k) (x ∷ xs) = ap (λ r. read_as l.observer l.config x ∷ r) (map_take k xs)
+
+    map_drop : (k : ℕ) (xs : List AlertItem) → map (read_as l.observer l.config) (drop k xs) ≡ drop k (map (read_as l.observer l.config) xs)
+    map_drop zero xs = refl
+    map_drop (suc k) [] = refl
+    map_drop (suc k) (x ∷ xs) = map_drop k xs
+
+    take_fewer : (k most : ℕ) (xs : List model.Alert) → k ≡ length (take most xs) → take k xs ≡ take most xs
+    take_fewer k most xs h =
+        let cut = length-take most xs in
+        elim (cases_lt (length xs) most) [
+          | inl less ↦ take_all k xs (grind (arith, h, cut, less)) ∙ sym (take_all most xs (omega (arith, less)))
+          | inr enough ↦ let is : k ≡ most = grind (arith, h, cut, enough) in ap (λ j. take j xs) is
+        ]

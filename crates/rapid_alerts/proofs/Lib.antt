@@ -1,3 +1,4 @@
 pub mod Batches
 pub mod Indexes
+pub mod Listing
 pub mod Raisings

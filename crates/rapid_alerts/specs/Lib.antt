@@ -1,3 +1,5 @@
 pub mod Alerts
+pub mod Kinds
+pub mod Listing
 pub mod Outboxes
 pub mod Refusals

@@ -11,6 +11,8 @@ use Rattle.rapid_model.specs.Alert.{Kind, Remove, Join, Alert, is_remove, is_wel
 use Rattle.rapid_model.specs.Reports.{Reports, report_of}
 use Rattle.rapid_model.specs.Outbox.{Outbox, Raising, Raised, Already, OldConfiguration, WrongObserver, WrongKind, TooManyJoiners, is_own}
 use Rattle.rapid_model.specs.Codes.{bytes_code, processes_code, reports_code}
+use Rattle.rapid_model.specs.Limits.{most_joiners}
+use Rattle.rapid_alerts.specs.Kinds.{kind_code}
 
 -- An outbox, its table and its owner.
 pub record OwnedOutbox (T : Type 0) : Type 0 where
@@ -49,7 +51,7 @@ indexed i a =
 
 -- The alert is on no 513th joiner.
 abbrev pub has_room : Index → Alert → Bool
-has_room i a = is_remove a.kind || set.contains i.joiners a.subject || nat_lt (set.len i.joiners) 512
+has_room i a = is_remove a.kind || set.contains i.joiners a.subject || nat_lt (set.len i.joiners) most_joiners
 
 -- The code of indexes.
 abbrev pub index_code : Coded Index
@@ -76,15 +78,6 @@ answered None seen room = if seen then Already else if not room then TooManyJoin
 -- What is answered to an alert, by the index of those that were raised.
 abbrev pub verdict : Observers → Process → Index → Alert → Raising
 verdict t owner i a = answered (refusal t owner a) (set.contains i.reports (report_of a)) (has_room i a)
-
--- A kind is told by whether it is REMOVE.
-pub kind_back : (k : Kind) → (if is_remove k then Remove else Join) ≡ k
-kind_back Remove = refl
-kind_back Join = refl
-
--- The code of kinds.
-abbrev pub kind_code : Coded Kind
-kind_code = code_by Bool coded_bool is_remove (λ b. if b then Remove else Join) kind_back
 
 -- The code of alerts.
 abbrev pub alert_code : Coded Alert

@@ -7,9 +7,11 @@ mod alert;
 mod batch;
 mod errors;
 mod index;
+mod list;
 mod outbox;
 
 pub use alert::{Alert, Kind};
 pub use batch::Batch;
 pub use errors::{BatchError, RaiseError};
+pub use list::AlertList;
 pub use outbox::{Outbox, Raising};

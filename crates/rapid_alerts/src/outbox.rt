@@ -4,12 +4,12 @@ ghost use Rattle.std.specs.Prelude.{◌≡◌, ◌≤◌, ◌+◌, length, take,
 ghost use Rattle.rapid_model.specs.Outbox as model;
 ghost use Rattle.rapid_model.specs.Alert.{kind_fits as fits};
 ghost use Rattle.rapid_model.specs.Batch.{batch_of};
-ghost use Rattle.rapid_alerts.specs.Alerts.{alert_of};
+ghost use Rattle.rapid_alerts.specs.Alerts.{alert_of, alerts_in};
 ghost use Rattle.rapid_alerts.specs.Outboxes.{AreRaised, refusal, verdict};
 ghost use Rattle.rapid_alerts.specs.Refusals.{Refuses, RefusesIfAny, answer_of};
 
 use crate::index::Index;
-use crate::{Alert, Batch, Kind, RaiseError};
+use crate::{Alert, AlertList, Batch, Kind, RaiseError};
 use rapid_endpoint::Process;
 use rapid_rings::ObserverTable;
 use std::alloc::{AllocError, Global};
@@ -82,24 +82,6 @@ fn verdict_of<T: ObserverTable>(
     }
 }
 
-/// The first alerts, at most as many as a batch has.
-fn first(alloc: Global, alerts: &[Alert]) -> Result<Vec<Alert>, AllocError>
-    ensures items { IfOk result (λ first. first.items ≡ take 2048 alerts.now) }
-    ensures bound { IfOk result (λ first. vec_len first ≤ length alerts.now) }
-{
-    Vec::from_slice(alloc, &alerts[..alerts.len().min(Batch::MOST)])
-}
-
-/// The first alerts after those that are flushed, at most as many as a batch has.
-fn oldest(alloc: Global, raised: &[Alert], flushed: usize) -> Result<Vec<Alert>, AllocError>
-    requires { flushed ≤ length raised.now }
-    ensures items { IfOk result (λ alerts. alerts.items ≡ take 2048 (drop flushed raised.now)) }
-    ensures bound { IfOk result (λ alerts. flushed + vec_len alerts ≤ length raised.now) }
-{
-    let alerts = first(alloc, &raised[flushed..])?;
-    Ok(alerts)
-}
-
 /// The outbox of one observer in one configuration: the alerts that it raised, in order, and how
 /// many of them went out.
 ///
@@ -109,24 +91,24 @@ fn oldest(alloc: Global, raised: &[Alert], flushed: usize) -> Result<Vec<Alert>,
 pub struct Outbox<T: ObserverTable> {
     table: T,
     owner: Process,
-    raised: Vec<Alert>,
+    raised: AlertList,
     index: Index,
     flushed: usize,
     alloc: Global,
 }
 
 impl<T: ObserverTable> Model for Outbox<T> {
-    ghost use Rattle.std.specs.Prelude.{map};
-    ghost use Rattle.rapid_alerts.specs.Alerts.{alert_of};
+    ghost use Rattle.std.specs.Prelude.{◌≡◌};
+    ghost use Rattle.rapid_alerts.specs.Alerts.{alerts_in};
     ghost use Rattle.rapid_alerts.specs.Outboxes.{OwnedOutbox, owned_code, IsOutbox};
 
     ghost Value = { OwnedOutbox T };
 
     ghost coded = { owned_code T.code };
 
-    ghost view = { λ o. record { table = o.table; owner = o.owner; outbox = record { raised = map alert_of o.raised.items; flushed = o.flushed } } };
+    ghost view = { λ o. record { table = o.table; owner = o.owner; outbox = record { raised = alerts_in o.raised; flushed = o.flushed } } };
 
-    ghost invariant = { λ o. IsOutbox (T.observers o.table) o.owner (record { raised = map alert_of o.raised.items; flushed = o.flushed }) o.index };
+    ghost invariant = { λ o. IsOutbox (T.observers o.table) o.owner (record { raised = alerts_in o.raised; flushed = o.flushed }) o.index × (o.raised.observer ≡ o.owner) × (o.raised.config ≡ (T.observers o.table).id) };
 }
 
 impl<T: ObserverTable> Outbox<T> {
@@ -136,10 +118,11 @@ impl<T: ObserverTable> Outbox<T> {
         ensures owner { result.owner ≡ owner }
         ensures empty { result.outbox ≡ model.empty_outbox }
     {
+        let raised = AlertList::new(alloc, owner, table.id());
         Outbox {
             table,
             owner,
-            raised: Vec::new(alloc),
+            raised,
             index: Index::new(alloc),
             flushed: 0,
             alloc,
@@ -188,12 +171,13 @@ impl<T: ObserverTable> Outbox<T> {
         ensures table { self.new.table ≡ self.old.table }
         ensures owner { self.new.owner ≡ self.old.owner }
     {
-        // room first: once the index has the alert, the list has to take it
-        self.raised.try_reserve(1)?;
-        self.index.add(&alert)?;
-        match self.raised.push(alert) {
+        self.raised.push(&alert.subject, alert.ring, alert.kind)?;
+        match self.index.add(&alert) {
             Ok(()) => Ok(()),
-            Err(_) => unreachable!(),
+            Err(error) => {
+                self.raised.pop();
+                Err(error)
+            }
         }
     }
 
@@ -206,12 +190,12 @@ impl<T: ObserverTable> Outbox<T> {
         ensures table { self.new.table ≡ self.old.table }
         ensures owner { self.new.owner ≡ self.old.owner }
     {
-        let alerts = oldest(self.alloc, &self.raised, self.flushed)?;
-        let count = alerts.len();
+        let count = (self.raised.len() - self.flushed).min(Batch::MOST);
         if count == 0 {
             return Ok(None);
         }
-        let batch = Batch::of(alerts)?;
+        let alerts = self.raised.part(self.alloc, self.flushed, count)?;
+        let batch = Batch::of(self.alloc, alerts)?;
         self.flushed += count;
         Ok(Some(batch))
     }
@@ -227,11 +211,11 @@ impl<T: ObserverTable> Outbox<T> {
 
     /// The alerts that were raised, in order: each is the owner's and well-formed, and none stands
     /// there twice.
-    pub fn raised(&self) -> &[Alert]
-        ensures value { map alert_of result.now ≡ self.now.outbox.raised }
+    pub fn raised(&self) -> &AlertList
+        ensures value { alerts_in result.now ≡ self.now.outbox.raised }
         ensures sound { AreRaised (T.observers self.now.table) self.now.owner self.now.outbox.raised }
     {
-        self.raised.as_slice()
+        &self.raised
     }
 
     /// An equal outbox over a table that says the same, as another share of one table does.
@@ -246,7 +230,7 @@ impl<T: ObserverTable> Outbox<T> {
         Ok(Outbox {
             table,
             owner: self.owner,
-            raised: Vec::from_slice(self.alloc, &self.raised)?,
+            raised: self.raised.try_copy()?,
             index: self.index.try_copy()?,
             flushed: self.flushed,
             alloc: self.alloc,

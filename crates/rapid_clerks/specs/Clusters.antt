@@ -4,6 +4,7 @@ use Rattle.std.specs.Prelude.{◌≡◌, ℕ, List, nat_lt, if◌then◌else◌,
 use Rattle.std.specs.Coded.{Coded, code_by, coded×, coded_ℕ, coded_option}
 use Rattle.rapid_model.specs.Codes.{bytes_code}
 use Rattle.rapid_model.specs.Configuration.{Params, founding}
+use Rattle.rapid_model.specs.Limits.{most_events}
 use Rattle.rapid_model.specs.Process.{Process}
 use Rattle.rapid_model.specs.Refusal as refusal
 use Rattle.rapid_model.specs.Refusal.{WorldRefusal}
@@ -45,7 +46,7 @@ refusal_of_turn s (Some t) = event_refusal s t.event
 -- Why a turn is refused, if it is. That no further event is accepted comes first.
 abbrev pub turn_refusal : ClusterState → Option WorldRefusal
 turn_refusal c =
-    if nat_lt (accepted c.world) 1000000 then refusal_of_turn c.world (next_turn (world_of c.world) c.pointer) else Some refusal.EventsFull
+    if nat_lt (accepted c.world) most_events then refusal_of_turn c.world (next_turn (world_of c.world) c.pointer) else Some refusal.EventsFull
 
 -- The error says exactly why a job is refused.
 abbrev pub RefusesJob : Job → ClusterState → WorldError → Type 0

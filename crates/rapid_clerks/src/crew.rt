@@ -1,6 +1,6 @@
 // Clerks in threads of their own.
 
-ghost use Rattle.std.specs.Prelude.{◌≡◌, ℕ, ◌+◌, ◌<◌, ◌≤◌, All, sum, vec_len, length, IfOk, OnErr};
+ghost use Rattle.std.specs.Prelude.{◌≡◌, ℕ, ◌+◌, ◌<◌, ◌≤◌, [], All, sum, vec_len, vec_capacity, length, IfOk, OnErr};
 
 use crate::{Clerk, DoJob, Gate, TurnJob};
 use std::alloc::{AllocError, Global};
@@ -109,6 +109,52 @@ struct Crew {
     turns: usize,
 }
 
+/// The places of this many clerks, numbered from 0. Each clerk has one part of the share.
+fn make_places<L: Ledger, N: Given>(
+    alloc: Global,
+    share: &mut Share<L>,
+    workers: usize,
+) -> Result<Vec<Mutex<Place<L, N>>>, AllocError>
+    requires { workers < share.old.parts }
+    ensures each { IfOk result (λ places. vec_len places ≡ workers) }
+    ensures parts { IfOk result (λ places. share.new.parts + vec_len places ≡ share.old.parts) }
+    ensures amount { share.new.amount ≡ share.old.amount }
+    ensures kept { OnErr result (share.new.parts ≡ share.old.parts) }
+{
+    let mut places = Vec::with_capacity(alloc, workers)?;
+    for worker in 0..workers {
+        let mine = share.split_off(1, 0);
+        places.push_reserved(Mutex::new(Place::<L, N>::new(worker, mine)));
+    }
+    Ok(places)
+}
+
+/// Takes back the parts of all clerks, and how many jobs each of them did.
+fn gather<L: Ledger, N: Given>(
+    share: &mut Share<L>,
+    places: Vec<Mutex<Place<L, N>>>,
+    counts: &mut Vec<u64>,
+)
+    requires none { counts.old.items ≡ [] }
+    requires room { vec_len places ≤ vec_capacity counts.old }
+    ensures each { vec_len counts.new ≡ vec_len places }
+    ensures most { All (λ count. count ≤ N.given) counts.new.items }
+    ensures parts { share.new.parts ≡ share.old.parts + vec_len places }
+    ensures raised { share.new.amount ≡ share.old.amount + sum counts.new.items }
+{
+    for place in places {
+        let Place { clerk, done, of: _ } = place.into_inner();
+        let Clerk {
+            worker: _,
+            share: mine,
+            passed: _,
+            ended: _,
+        } = clerk;
+        share.merge(mine);
+        counts.push_reserved(done);
+    }
+}
+
 /// Starts clerks, each of which takes the number of turns for which the type stands.
 fn run_given<
     L: Ledger + Send + Sync,
@@ -136,23 +182,9 @@ fn run_given<
     let Crew { workers, turns } = crew;
     let jobs = vec![in alloc; TurnJob; turns]?;
     let mut counts = Vec::with_capacity(alloc, workers)?;
-    let mut places = Vec::with_capacity(alloc, workers)?;
-    for worker in 0..workers {
-        let mine = share.split_off(1, 0);
-        places.push_reserved(Mutex::new(Place::<L, N>::new(worker, mine)));
-    }
+    let places = make_places::<L, N>(alloc, share, workers)?;
     start_all(rt, book, gate, places.as_slice(), jobs.as_slice());
-    for place in places {
-        let Place { clerk, done, of: _ } = place.into_inner();
-        let Clerk {
-            worker: _,
-            share: mine,
-            passed: _,
-            ended: _,
-        } = clerk;
-        share.merge(mine);
-        counts.push_reserved(done);
-    }
+    gather(share, places, &mut counts);
     Ok(counts)
 }
 

@@ -30,7 +30,8 @@ Wrote Detect known old new = IfSome known (λ input. (text : List ℕ) × JobPri
 Wrote Sim known old new = IfSome known (λ input. (text : List ℕ) × JobPrints Sim input text × Appends old new text)
 Wrote (Cluster s) known old new = (text : List ℕ) × JobPrints (Cluster s) [] text × Appends old new text
 
--- A beginning of what the input prints was written, and nothing else; of a cluster what a fault leaves: a beginning of a report, or nothing.
+-- A beginning of what the input prints was written, and nothing else; of a cluster what a fault leaves: a beginning of
+-- a report, or nothing.
 abbrev pub WroteFront : Job → Option (List ℕ) → Option (List ℕ) → Option (List ℕ) → Type 0
 WroteFront Detect known old new = IfSome known (λ input. (text : List ℕ) × JobPrints Detect input text × AppendsFront old new text)
 WroteFront Sim known old new = IfSome known (λ input. (text : List ℕ) × JobPrints Sim input text × AppendsFront old new text)

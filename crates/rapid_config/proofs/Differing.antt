@@ -1,14 +1,11 @@
 -- Processes of which no two have one endpoint, one after another.
-use Rattle.std.proofs.Common.{◌≡◌, ℕ, ◌+◌, ◌<◌, Bool, true, false, not, ◌&&◌, ◌||◌, List, [], ◌∷◌, ◌++◌, length, take, drop, get_or, refl, sym, ap, subst, ◌∙◌, append-nil, append_assoc}
+use Rattle.std.proofs.Common.{◌≡◌, ℕ, ◌+◌, ◌<◌, Bool, true, false, cond, not, ◌&&◌, ◌||◌, List, [], ◌∷◌, ◌++◌, length, take, drop, get_or, refl, sym, ap, subst, ◌∙◌, append-nil, append_assoc}
 use Rattle.std.specs.List.{list_all, list_any}
-use Rattle.std.specs.Ordering.{is_eq}
-use Rattle.std.specs.BTreeSet.{BTreeSet, insert_key}
 use Rattle.std.proofs.lemmas.Bool.{and_left, and_right}
 use Rattle.std.proofs.lemmas.List.{take_more, take-append-drop}
 use Rattle.std.proofs.lemmas.Cmp.{eq_by_cmp_equiv}
-use Rattle.rapid_model.specs.Process.{Process, endpoint, bytes_cmp, same_bytes, same_endpoint}
+use Rattle.rapid_model.specs.Process.{Process, endpoint, same_bytes, same_endpoint}
 use Rattle.rapid_model.specs.Configuration.{endpoints_differ}
-use Rattle.rapid_model.proofs.InOrder.{any_insert}
 use Rattle.rapid_config.specs.Endpoints.{AreEndpointsOf}
 use Rattle.rapid_config.proofs.Ascending.{bytes_total}
 
@@ -72,11 +69,23 @@ any_push t (p ∷ ps) q = ap (λ b. t p || b) (any_push t ps q) ∙ swap (t p) (
     swap true false c = refl
     swap false b c = refl
 
--- the endpoints of one process more
-pub endpoints_push : (ps : List Process) (q : Process) (s n : BTreeSet (List ℕ)) → AreEndpointsOf ps s → n.keys ≡ insert_key bytes_cmp s.keys (endpoint q) → AreEndpointsOf (ps ++ q ∷ []) n
-endpoints_push ps q s n h e x =
-    ap (λ ks. list_any (λ k. is_eq (bytes_cmp x k)) ks) e ∙ any_insert bytes_cmp bytes_total s.keys (endpoint q) x
-    ∙ ap (λ b. same_bytes x (endpoint q) || b) (h x) ∙ sym (any_push (λ p. same_bytes x (endpoint p)) ps q)
+-- the set n has the endpoint x beside those of s
+abbrev pub Gains : List (List ℕ) → List (List ℕ) → List ℕ → Type 0
+Gains s n x = (e : List ℕ) → list_any (same_bytes e) n ≡ cond (same_bytes x e) true (list_any (same_bytes e) s)
 
-pub endpoints_more : (ps : List Process) (i : ℕ) (d : Process) (s n : BTreeSet (List ℕ)) → i < length ps → AreEndpointsOf (take i ps) s → n.keys ≡ insert_key bytes_cmp s.keys (endpoint (get_or ps i d)) → AreEndpointsOf (take (i + 1) ps) n
-endpoints_more ps i d s n l h e = subst (λ qs. AreEndpointsOf qs n) (sym (take_more ps i d l)) (endpoints_push (take i ps) (get_or ps i d) s n h e)
+-- what the set has then
+pub gained : (s n : List (List ℕ)) (x e : List ℕ) → Gains s n x → list_any (same_bytes e) n ≡ (same_bytes e x || list_any (same_bytes e) s)
+gained s n x e g = g e ∙ ap (λ b. cond b true (list_any (same_bytes e) s)) (same_flips x e) ∙ either (same_bytes e x) (list_any (same_bytes e) s)
+  where
+    either : (a b : Bool) → cond a true b ≡ (a || b)
+    either true b = refl
+    either false b = refl
+
+-- the endpoints of one process more
+pub endpoints_push : (ps : List Process) (q : Process) (s n : List (List ℕ)) → AreEndpointsOf ps s → Gains s n (endpoint q) → AreEndpointsOf (ps ++ q ∷ []) n
+endpoints_push ps q s n h g e =
+    gained s n (endpoint q) e g
+    ∙ ap (λ b. same_bytes e (endpoint q) || b) (h e) ∙ sym (any_push (λ p. same_bytes e (endpoint p)) ps q)
+
+pub endpoints_more : (ps : List Process) (i : ℕ) (d : Process) (s n : List (List ℕ)) → i < length ps → AreEndpointsOf (take i ps) s → Gains s n (endpoint (get_or ps i d)) → AreEndpointsOf (take (i + 1) ps) n
+endpoints_more ps i d s n l h g = subst (λ qs. AreEndpointsOf qs n) (sym (take_more ps i d l)) (endpoints_push (take i ps) (get_or ps i d) s n h g)

@@ -6,16 +6,14 @@ use Rattle.std.specs.List.Sorted.{IsBinarySearchResult}
 use Rattle.std.specs.declared.cmp.Ordering.{Ordering}
 use Rattle.std.specs.declared.cmp.Ordering.TheVariants.{Less, Equal, Greater}
 use Rattle.std.specs.Ordering.{is_lt, is_eq}
-use Rattle.std.specs.BTreeSet.{BTreeSet, insert_key}
 use Rattle.std.proofs.lemmas.Bool.{and_parts, and_from, lt-ltb, le-ltb, cases_lt}
 use Rattle.std.proofs.lemmas.List.Elements.{All-cons}
 use Rattle.rapid_model.specs.Process.{Process, IsProcess, identifier, endpoint, bytes_cmp, process_cmp, same_bytes, same_identifier, same_endpoint}
 use Rattle.rapid_model.specs.Configuration.{AreMembers, identifiers_ascend, endpoints_differ}
 use Rattle.rapid_model.specs.Apply.{collides, insert_process, with_joiners}
-use Rattle.rapid_model.proofs.InOrder.{any_insert}
 use Rattle.rapid_config.specs.Endpoints.{AreEndpointsOf}
 use Rattle.rapid_config.proofs.Ascending.{bytes_total, is_lt_trans, all_later, below_by_identifier, flipped}
-use Rattle.rapid_config.proofs.Differing.{same_flips}
+use Rattle.rapid_config.proofs.Differing.{Gains, gained, same_flips}
 use Rattle.rapid_config.proofs.Places.{by_identifier, rising, any_at, any_none}
 
 -- a process stands where a search for its identifier ends
@@ -137,10 +135,10 @@ members_insert j ps m x l n e = record {
 }
 
 -- the endpoints of the members with one more
-pub endpoints_insert : (j : Process) (ps : List Process) (s n : BTreeSet (List ℕ)) → AreEndpointsOf ps s → n.keys ≡ insert_key bytes_cmp s.keys (endpoint j) → AreEndpointsOf (insert_process j ps) n
-endpoints_insert j ps s n h e x =
-    ap (λ ks. list_any (λ k. is_eq (bytes_cmp x k)) ks) e ∙ any_insert bytes_cmp bytes_total s.keys (endpoint j) x
-    ∙ ap (λ b. same_bytes x (endpoint j) || b) (h x) ∙ sym (any_insert_process (λ p. same_bytes x (endpoint p)) j ps)
+pub endpoints_insert : (j : Process) (ps : List Process) (s n : List (List ℕ)) → AreEndpointsOf ps s → Gains s n (endpoint j) → AreEndpointsOf (insert_process j ps) n
+endpoints_insert j ps s n h g e =
+    gained s n (endpoint j) e g
+    ∙ ap (λ b. same_bytes e (endpoint j) || b) (h e) ∙ sym (any_insert_process (λ p. same_bytes e (endpoint p)) j ps)
 
 collides_is : (ps : List Process) (j : Process) → collides ps j ≡ (list_any (same_identifier j) ps || list_any (λ p. same_bytes (endpoint j) (endpoint p)) ps)
 collides_is [] j = refl

@@ -4,22 +4,23 @@ ghost use Rattle.std.specs.Prelude.{◌≡◌, true, false, IfOk, MatchOption};
 ghost use Rattle.rapid_model.specs.Configuration.{endpoints_differ};
 ghost use Rattle.rapid_config.specs.Endpoints.{AreEndpointsOf};
 
-use rapid_endpoint::{Endpoint, Process};
+use crate::endpoint_key::EndpointKey;
+use rapid_endpoint::Process;
 use std::alloc::{AllocError, Global};
-use std::collections::BTreeSet;
+use std::collections::HashSet;
 
 /// The endpoints of the processes; none if two have one.
 pub(crate) fn endpoints_of(
     alloc: Global,
     processes: &[Process],
-) -> Result<Option<BTreeSet<Endpoint>>, AllocError>
+) -> Result<Option<HashSet<EndpointKey>>, AllocError>
     ensures { IfOk result
         (λ o. MatchOption o (endpoints_differ processes.now ≡ false)
-        (λ set. (endpoints_differ processes.now ≡ true) × AreEndpointsOf processes.now set)) }
+        (λ set. (endpoints_differ processes.now ≡ true) × AreEndpointsOf processes.now set.keys)) }
 {
-    let mut seen = BTreeSet::new(alloc);
+    let mut seen = HashSet::with_capacity(alloc, processes.len())?;
     for process in processes {
-        if !seen.insert(process.endpoint())? {
+        if !seen.insert(EndpointKey::new(process.endpoint()))? {
             return Ok(None);
         }
     }

@@ -8,11 +8,12 @@ ghost use Rattle.rapid_model.specs.Configuration.{AreMembers, identifiers_ascend
 ghost use Rattle.rapid_model.specs.Apply.{collides, insert_process, with_joiners, next_members};
 ghost use Rattle.rapid_config.specs.Endpoints.{AreEndpointsOf};
 
+use crate::endpoint_key::EndpointKey;
 use crate::endpoints::endpoints_of;
 use crate::members::MOST_MEMBERS;
-use rapid_endpoint::{Endpoint, Process};
+use rapid_endpoint::Process;
 use std::alloc::{AllocError, Global};
-use std::collections::BTreeSet;
+use std::collections::HashSet;
 
 /// Whether the process is among these, which ascend.
 fn contains(processes: &[Process], process: &Process) -> bool
@@ -58,15 +59,15 @@ fn free_place(members: &[Process], joiner: &Process) -> Option<usize>
 /// Lets a joiner in if there is room and nobody holds its identifier or its endpoint.
 fn admit(
     members: &mut Vec<Process>,
-    endpoints: &mut BTreeSet<Endpoint>,
+    endpoints: &mut HashSet<EndpointKey>,
     joiner: &Process,
 ) -> Result<(), AllocError>
     requires members { AreMembers members.old.items }
-    requires endpoints { AreEndpointsOf members.old.items endpoints.old }
+    requires endpoints { AreEndpointsOf members.old.items endpoints.old.keys }
     ensures admitted { OnOk result
         (members.new.items ≡ (if not (collides members.old.items joiner.now) && nat_lt (length members.old.items) 1024 then insert_process joiner.now members.old.items else members.old.items)) }
     ensures members { OnOk result (AreMembers members.new.items) }
-    ensures endpoints { OnOk result (AreEndpointsOf members.new.items endpoints.new) }
+    ensures endpoints { OnOk result (AreEndpointsOf members.new.items endpoints.new.keys) }
 {
     if members.len() >= MOST_MEMBERS {
         return Ok(());
@@ -74,7 +75,7 @@ fn admit(
     let Some(place) = free_place(members.as_slice(), joiner) else {
         return Ok(());
     };
-    if !endpoints.insert(joiner.endpoint())? {
+    if !endpoints.insert(EndpointKey::new(joiner.endpoint()))? {
         return Ok(());
     }
     joiner.tell();

@@ -4,6 +4,7 @@
 mod config_id;
 mod configuration;
 mod cut;
+mod endpoint_key;
 mod endpoints;
 mod error;
 mod joining;

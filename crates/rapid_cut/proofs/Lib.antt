@@ -5,7 +5,6 @@ pub mod Passing
 pub mod Active
 pub mod Joiners
 pub mod Fresh
-pub mod Keeping
 pub mod Masks
 pub mod Counts
 pub mod Taking

@@ -96,7 +96,8 @@ unfolding IsStrictlySortedBy
 sorted_end [] ys s = s
 sorted_end (x ∷ xs) ys s = sorted_end xs ys s.1
 
--- found is in order, and before what is left of either list; with what is left of the first, it has the first and what was done of the second
+-- found is in order, and before what is left of either list; with what is left of the first, it has the first and what
+-- was done of the second
 pub record IsMerging (first done left found rest : List Process) : Type 0 where
   pub sorted : IsStrictlySortedBy process_cmp (found ++ rest)
   pub behind : IsStrictlySortedBy process_cmp (found ++ left)

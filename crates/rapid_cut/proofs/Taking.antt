@@ -1,5 +1,6 @@
 -- Taking the alerts of a batch one after another.
 use Rattle.std.proofs.Common.{◌≡◌, ℕ, zero, suc, ◌+◌, ◌≤◌, ◌<◌, Bool, true, false, cond, ◌&&◌, ◌||◌, List, [], ◌∷◌, length, map, drop, get_or, add-one, refl, sym, ap, subst, ◌∙◌, ◌⊎◌, inl, inr, arith, Option, Some, None, IsSome, nat_lt}
+use Rattle.std.specs.Prelude.{slice_get}
 use Rattle.std.specs.Option.{option_eq}
 use Rattle.std.specs.Ordering.{eq_by_cmp}
 use Rattle.std.specs.FinSet as set
@@ -102,19 +103,19 @@ pub record IsTaking (t : Observers) (start : Reports) (all : List Alert) (i : �
   pub limits : IsWithinLimits t start → IsWithinLimits t direct
   pub bound : count ≤ i
 
-pub drop_map : {A B : Type 0} (f : A → B) (xs : List A) (i : ℕ) (a : A) → i < length xs → a ≡ get_or xs i a → drop i (map f xs) ≡ f a ∷ drop (i + 1) (map f xs)
-drop_map f xs i a h e = drop_suc f xs i a h e ∙ ap (λ j. f a ∷ drop j (map f xs)) (sym (add-one i))
+pub drop_at : {A : Type 0} (xs : List A) (i : ℕ) (a : A) → slice_get xs i ≡ Some a → drop i xs ≡ a ∷ drop (i + 1) xs
+drop_at xs i a h = drop_suc xs i a h ∙ ap (λ j. a ∷ drop j xs) (sym (add-one i))
   where
-    drop_suc : {A B : Type 0} (f : A → B) (xs : List A) (i : ℕ) (a : A) → i < length xs → a ≡ get_or xs i a → drop i (map f xs) ≡ f a ∷ drop (suc i) (map f xs)
-    drop_suc f [] i a h e = absurd (omega arith)
-    drop_suc f (x ∷ xs) zero a h e = ap (λ y. f y ∷ map f xs) (sym e)
-    drop_suc f (x ∷ xs) (suc i) a h e = drop_suc f xs i a (omega (arith, h)) e
+    drop_suc : {A : Type 0} (xs : List A) (i : ℕ) (a : A) → slice_get xs i ≡ Some a → drop i xs ≡ a ∷ drop (suc i) xs
+    drop_suc [] i a h = cc
+    drop_suc (x ∷ xs) zero a h = let e : x ≡ a = cc in ap (λ y. y ∷ xs) e
+    drop_suc (x ∷ xs) (suc i) a h = drop_suc xs i a h
 
-pub drop_done : {A B : Type 0} (f : A → B) (xs : List A) (i : ℕ) → length xs ≤ i → drop i (map f xs) ≡ []
-drop_done f [] zero h = refl
-drop_done f [] (suc i) h = refl
-drop_done f (x ∷ xs) zero h = absurd (omega (arith, h))
-drop_done f (x ∷ xs) (suc i) h = drop_done f xs i (omega (arith, h))
+pub drop_past : {A : Type 0} (xs : List A) (i : ℕ) → length xs ≤ i → drop i xs ≡ []
+drop_past [] zero h = refl
+drop_past [] (suc i) h = refl
+drop_past (x ∷ xs) zero h = absurd (omega (arith, h))
+drop_past (x ∷ xs) (suc i) h = drop_past xs i (omega (arith, h))
 
 pub taking_none : (t : Observers) (start direct : Reports) (all : List Alert) (joined : ℕ) → direct ≡ start → joined ≡ length (joiners t start) → IsTaking t start all 0 direct joined 0
 taking_none t start direct all joined e j =

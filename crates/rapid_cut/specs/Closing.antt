@@ -20,7 +20,8 @@ pub record IsBetween (t : Observers) (direct known : Reports) : Type 0 where
   pub includes : Includes known direct
   pub implied : (x : Report) → set.contains known x ≡ true → (set.contains direct x ≡ true) ⊎ (is_implied t direct x ≡ true)
 
--- These are the direct reports with some of those that they imply. What misses is on the processes that are left, which have at least L direct reports.
+-- These are the direct reports with some of those that they imply. What misses is on the processes that are left, which
+-- have at least L direct reports.
 pub record IsPassing (t : Observers) (direct : Reports) (left : List Process) (all : Reports) : Type 0 where
   pub between : IsBetween t direct all
   pub low : (s : Process) → is_in left s ≡ true → reaches_low t direct (Some s) ≡ true
@@ -31,7 +32,8 @@ abbrev pub is_one_of : List Process → Option Process → Bool
 is_one_of ps None = false
 is_one_of ps (Some p) = is_in ps p
 
--- These have at least L direct reports. What the direct ones imply is known, unless it is on one of these, or one of these observes its subject.
+-- These have at least L direct reports. What the direct ones imply is known, unless it is on one of these, or one of
+-- these observes its subject.
 pub record HaveCome (t : Observers) (direct all : Reports) (grown : List Process) : Type 0 where
   pub low : (s : Process) → is_in grown s ≡ true → reaches_low t direct (Some s) ≡ true
   pub rest : (x : Report) → is_implied t direct x ≡ true → (set.contains all x ≡ true) ⊎ ((is_in grown x.0 ≡ true) ⊎ (is_one_of grown (t.observer x.1 x.0) ≡ true))

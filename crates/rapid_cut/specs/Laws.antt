@@ -21,14 +21,16 @@ HasHigh t direct s = t.params.h ≤ reports_on t direct s
 abbrev pub IsBetweenMarks : Observers → Reports → Process → Type 0
 IsBetweenMarks t direct s = (t.params.l ≤ reports_on t direct s) × (reports_on t direct s < t.params.h)
 
--- The stable processes are just those with at least H reports, the unstable ones just those with L to H - 1; both lists ascend.
+-- The stable processes are just those with at least H reports, the unstable ones just those with L to H - 1; both lists
+-- ascend.
 pub record AreListed (t : Observers) (direct : Reports) : Type 0 where
   pub each_stable : (s : Process) → Contains (stable t direct) s ↔ HasHigh t direct s
   pub each_unstable : (s : Process) → Contains (unstable t direct) s ↔ IsBetweenMarks t direct s
   pub stable_ascends : IsTrue (is_ascending (stable t direct))
   pub unstable_ascends : IsTrue (is_ascending (unstable t direct))
 
--- These processes are some, they ascend, they are just those with at least H reports, and no process has from L to H - 1.
+-- These processes are some, they ascend, they are just those with at least H reports, and no process has from L to
+-- H - 1.
 pub record AreAllStable (t : Observers) (direct : Reports) (v : Cut) : Type 0 where
   pub some : v ≢ []
   pub ascending : IsTrue (is_ascending v)
@@ -57,7 +59,8 @@ abbrev pub OrderAndRepeatsChangeNothing : Type 0
 OrderAndRepeatsChangeNothing =
     (r : Reports) (xs ys : List Alert) → ((a : Alert) → Contains xs a ↔ Contains ys a) → with_alerts r xs ≡ with_alerts r ys
 
--- Alerts that come one list after another make the set that they make in one list: into which batches they are cut does not matter.
+-- Alerts that come one list after another make the set that they make in one list: into which batches they are cut does
+-- not matter.
 abbrev pub BatchesAddUp : Type 0
 BatchesAddUp = (r : Reports) (xs ys : List Alert) → with_alerts (with_alerts r xs) ys ≡ with_alerts r (xs ++ ys)
 

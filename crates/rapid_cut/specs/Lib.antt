@@ -1,6 +1,5 @@
 pub mod Closing
 pub mod Growing
-pub mod Keeping
 pub mod Keys
 pub mod Known
 pub mod Laws

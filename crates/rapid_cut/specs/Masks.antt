@@ -8,10 +8,11 @@ use Rattle.std.specs.Map.{keys_of, lookup}
 use Rattle.std.specs.BTreeMap.{is_at}
 use Rattle.rapid_model.specs.Process.{Process, process_cmp}
 use Rattle.rapid_model.specs.Reports.{Report, Reports}
+use Rattle.rapid_model.specs.Limits.{most_rings}
 
 -- The mask has the bit of the ring.
 abbrev pub has_ring : ℕ → ℕ → Bool
-has_ring mask k = nat_lt k 16 && bit_at mask k == 1
+has_ring mask k = nat_lt k most_rings && bit_at mask k == 1
 
 -- The mask of a process, 0 if it has none.
 abbrev pub mask_of : List (Process × ℕ) → Process → ℕ
@@ -24,7 +25,7 @@ is_reported es x = has_ring (mask_of es x.0) x.1
 -- Each of these processes with each of sixteen rings.
 abbrev pub with_rings : List Process → List Report
 with_rings [] = []
-with_rings (s ∷ ss) = map (λ k. (s, k)) (range_with_len 0 16) ++ with_rings ss
+with_rings (s ∷ ss) = map (λ k. (s, k)) (range_with_len 0 most_rings) ++ with_rings ss
 
 -- The reports of processes with masks.
 unfoldable pub reports_in : List (Process × ℕ) → Reports

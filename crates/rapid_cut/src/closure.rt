@@ -2,20 +2,17 @@
 
 ghost use Rattle.std.specs.Prelude.{◌≡◌, ℕ, true, false, not, ◌&&◌, ◌||◌, ◌==◌, ◌<◌, count_by, nat_le, Some, IfOk, OnOk};
 ghost use Rattle.std.specs.List.Sorted.{IsStrictlySortedBy};
-ghost use Rattle.std.specs.Map.{lookup};
-ghost use Rattle.std.specs.BTreeMap.{is_at};
 ghost use Rattle.rapid_model.specs.Process.{Process as Bytes, process_cmp, is_in};
 ghost use Rattle.rapid_model.specs.Ring.{AreObservers, rings};
 ghost use Rattle.rapid_model.specs.Reports as model;
+ghost use Rattle.rapid_model.specs.Limits.{most_rings};
 ghost use Rattle.rapid_rings.specs.Observing.{ObservesNobody};
 ghost use Rattle.rapid_cut.specs.Closing.{AddsImplied, IsBetween, IsPassing, HaveCome, active as active_of};
 ghost use Rattle.rapid_cut.specs.Growing.{before};
-ghost use Rattle.rapid_cut.specs.Keeping.{AreKept};
 ghost use Rattle.rapid_cut.specs.Masks.{has_ring};
 
 use crate::ascending::merged;
 use crate::growing::GrowingReports;
-use crate::kept::KeptObservers;
 use crate::mask::{Masks, bit, count, has_bit, with};
 use crate::reports::KnownReports;
 use rapid_endpoint::Process;
@@ -67,17 +64,13 @@ fn reaches_low<T: ObserverTable>(table: &T, reports: &KnownReports, subject: &Pr
 /// Whether the process has an observer on the ring that has at least L direct reports.
 fn is_observer_low<T: ObserverTable>(
     table: &T,
-    kept: &KeptObservers,
     reports: &KnownReports,
     subject: &Process,
-    place: Option<usize>,
     ring: u8,
 ) -> bool
-    requires kept { AreKept (T.observers table.now) kept.now.places.entries kept.now.observers.items }
-    requires place { place ≡ lookup (is_at (process_cmp subject.now)) kept.now.places.entries }
     ensures { result ≡ model.reaches_low (T.observers table.now) reports.now.direct ((T.observers table.now).observer ring subject.now) }
 {
-    match kept.observer(table, subject, place, ring) {
+    match table.observer(ring, subject) {
         Some(observer) => reaches_low(table, reports, &observer),
         None => false,
     }
@@ -85,7 +78,7 @@ fn is_observer_low<T: ObserverTable>(
 
 /// The mask, with the ring added if it is to be.
 fn with_ring(mask: u16, ring: u8, is_added: bool) -> u16
-    requires { ring < 16 }
+    requires { ring < most_rings }
     ensures { (k : ℕ) → has_ring result k ≡ (has_ring mask k || (is_added && k == ring)) }
 {
     if is_added {
@@ -99,20 +92,16 @@ fn with_ring(mask: u16, ring: u8, is_added: bool) -> u16
 /// direct ones.
 fn implied_rings<T: ObserverTable>(
     table: &T,
-    kept: &KeptObservers,
     reports: &KnownReports,
     subject: &Process,
     mask: u16,
 ) -> u16
-    requires kept { AreKept (T.observers table.now) kept.now.places.entries kept.now.observers.items }
     requires low { model.reaches_low (T.observers table.now) reports.now.direct (Some subject.now) ≡ true }
     ensures { (k : ℕ) → has_ring result k ≡ (not (has_ring mask k) && model.is_implied (T.observers table.now) reports.now.direct (subject.now, k)) }
 {
-    let place = kept.place(subject);
     let mut implied = 0;
     for ring in 0..table.params().k() {
-        let is_added = !has_bit(mask, ring)
-            && is_observer_low(table, kept, reports, subject, place, ring);
+        let is_added = !has_bit(mask, ring) && is_observer_low(table, reports, subject, ring);
         implied = with_ring(implied, ring, is_added);
     }
     implied
@@ -121,18 +110,16 @@ fn implied_rings<T: ObserverTable>(
 /// Adds the reports on a process with at least L direct ones that the direct ones imply.
 fn add_implied<T: ObserverTable>(
     table: &T,
-    kept: &KeptObservers,
     subject: &Process,
     known: &mut GrowingReports,
 ) -> Result<(), AllocError>
-    requires kept { AreKept (T.observers table.now) kept.now.places.entries kept.now.observers.items }
     requires low { model.reaches_low (T.observers table.now) known.old.reports.direct (Some subject.now) ≡ true }
     ensures direct { OnOk result (known.new.reports.direct ≡ known.old.reports.direct) }
     ensures added { OnOk result (AddsImplied (T.observers table.now) known.old.reports.direct subject.now known.old.reports.all known.new.reports.all) }
     ensures before { before known.new ≡ before known.old }
 {
     let so_far = known.reports.on(subject);
-    let all = implied_rings(table, kept, &known.reports, subject, so_far.all);
+    let all = implied_rings(table, &known.reports, subject, so_far.all);
     if all == 0 {
         return Ok(());
     }
@@ -144,19 +131,17 @@ fn add_implied<T: ObserverTable>(
 /// whom reports miss, since what is implied goes only to processes with at least L direct reports.
 fn close<T: ObserverTable>(
     table: &T,
-    kept: &KeptObservers,
     subjects: &[Process],
     known: &mut GrowingReports,
 ) -> Result<(), AllocError>
     requires rules { AreObservers (T.observers table.now) }
-    requires kept { AreKept (T.observers table.now) kept.now.places.entries kept.now.observers.items }
     requires passing { IsPassing (T.observers table.now) known.old.reports.direct subjects.now known.old.reports.all }
     ensures direct { OnOk result (known.new.reports.direct ≡ known.old.reports.direct) }
     ensures all { OnOk result (known.new.reports.all ≡ model.reports (T.observers table.now) known.old.reports.direct) }
     ensures before { before known.new ≡ before known.old }
 {
     for subject in subjects {
-        add_implied(table, kept, subject, known)?;
+        add_implied(table, subject, known)?;
     }
     Ok(())
 }
@@ -177,13 +162,11 @@ fn may_any_observe<T: ObserverTable>(table: &T, processes: &[Process]) -> bool
 /// that have as many. If they observe nobody, what misses is on them alone.
 pub fn close_grown<T: ObserverTable>(
     table: &T,
-    kept: &KeptObservers,
     active: &[Process],
     grown: &[Process],
     known: &mut GrowingReports,
 ) -> Result<(), AllocError>
     requires rules { AreObservers (T.observers table.now) }
-    requires kept { AreKept (T.observers table.now) kept.now.places.entries kept.now.observers.items }
     requires active { active.now ≡ active_of (T.observers table.now) known.old.reports.direct }
     requires grown { HaveCome (T.observers table.now) known.old.reports.direct known.old.reports.all grown.now }
     requires known { IsBetween (T.observers table.now) known.old.reports.direct known.old.reports.all }
@@ -192,8 +175,8 @@ pub fn close_grown<T: ObserverTable>(
     ensures before { before known.new ≡ before known.old }
 {
     if may_any_observe(table, grown) {
-        close(table, kept, active, known)
+        close(table, active, known)
     } else {
-        close(table, kept, grown, known)
+        close(table, grown, known)
     }
 }

@@ -8,19 +8,18 @@ ghost use Rattle.rapid_model.specs.Process.{Process as Bytes, is_in, process_cmp
 ghost use Rattle.rapid_model.specs.Ring.{AreObservers};
 ghost use Rattle.rapid_model.specs.Detector as detector;
 ghost use Rattle.rapid_model.specs.Detector.{empty_detector, after_batch, batch_cut};
-ghost use Rattle.rapid_alerts.specs.Alerts.{alert_of};
+ghost use Rattle.rapid_alerts.specs.Alerts.{alert_of, alerts_in};
 ghost use Rattle.rapid_cut.specs.Closing.{IsBetween, HaveCome, active as active_of};
 ghost use Rattle.rapid_cut.specs.Growing.{before};
-ghost use Rattle.rapid_cut.specs.Keeping.{AreKept};
 ghost use Rattle.rapid_cut.specs.Limits.{IsDetecting, IsKept, IsWithinLimits};
 
 use crate::ascending::ascending;
 use crate::closure::{active_with, close_grown, tally};
 use crate::growing::GrowingReports;
-use crate::kept::KeptObservers;
+use crate::in_turn::{EachAlert, InTurn};
 use crate::reports::KnownReports;
-use crate::taken::{Taken, take_all};
-use rapid_alerts::Alert;
+use crate::taken::{TakenAlerts, take_all};
+use rapid_alerts::{Alert, AlertList};
 use rapid_config::{ConfigError, Cut};
 use rapid_endpoint::Process;
 use rapid_rings::ObserverTable;
@@ -129,13 +128,11 @@ struct Advance {
 fn settle<T: ObserverTable>(
     alloc: Global,
     table: &T,
-    kept: &KeptObservers,
     known: &mut GrowingReports,
     active: &mut Vec<Process>,
     grown: &[Process],
 ) -> Result<Option<Cut>, AllocError>
     requires rules { AreObservers (T.observers table.now) }
-    requires kept { AreKept (T.observers table.now) kept.now.places.entries kept.now.observers.items }
     requires known { IsBetween (T.observers table.now) known.old.reports.direct known.old.reports.all }
     requires limits { IsWithinLimits (T.observers table.now) known.old.reports.direct }
     requires low { (q : Bytes) → model.reaches_low (T.observers table.now) known.old.reports.direct (Some q) ≡ (is_in active.old.items q || is_in grown.now q) }
@@ -156,42 +153,39 @@ fn settle<T: ObserverTable>(
         return cut_of(alloc, table, &known.reports, active);
     }
     let more = active_with(alloc, table, &known.reports, active, grown)?;
-    close_grown(table, kept, &more, grown, known)?;
+    close_grown(table, &more, grown, known)?;
     let cut = cut_of(alloc, table, &known.reports, &more)?;
     *active = more;
     Ok(cut)
 }
 
 /// Takes a batch of alerts: the reports, those that have at least L, and the cut.
-fn take_batch<T: ObserverTable>(
+fn take_batch<T: ObserverTable, A: InTurn>(
     alloc: Global,
     table: &T,
-    kept: &mut KeptObservers,
     known: &mut GrowingReports,
     active: &mut Vec<Process>,
     joiners: usize,
-    alerts: &[Alert],
+    alerts: &A,
 ) -> Result<Advance, AllocError>
     requires detecting { IsDetecting (T.observers table.now) known.old.reports.direct known.old.reports.all }
     requires active { active.old.items ≡ active_of (T.observers table.now) known.old.reports.direct }
     requires joiners { joiners ≡ length (detector.joiners (T.observers table.now) known.old.reports.direct) }
-    requires kept { AreKept (T.observers table.now) kept.old.places.entries kept.old.observers.items }
-    ensures kept { AreKept (T.observers table.now) kept.new.places.entries kept.new.observers.items }
-    ensures direct { OnOk result (known.new.reports.direct ≡ detector.with_alerts known.old.reports.direct (detector.taken (T.observers table.now) known.old.reports.direct (map alert_of alerts.now))) }
+    ensures direct { OnOk result (known.new.reports.direct ≡ detector.with_alerts known.old.reports.direct (detector.taken (T.observers table.now) known.old.reports.direct (A.alerts alerts.now))) }
     ensures known { IfOk result (λ advance. IsKept (T.observers table.now) known.new.reports.direct known.new.reports.all active.new.items advance.joiners (is_some advance.cut)) }
     ensures cut { IfOk result (λ advance. advance.cut ≡ model.cut_of (T.observers table.now) known.new.reports.direct) }
-    ensures count { IfOk result (λ advance. advance.count ≡ length (detector.taken (T.observers table.now) known.old.reports.direct (map alert_of alerts.now))) }
-    ensures bound { IfOk result (λ advance. advance.count ≤ length alerts.now) }
+    ensures count { IfOk result (λ advance. advance.count ≡ length (detector.taken (T.observers table.now) known.old.reports.direct (A.alerts alerts.now))) }
+    ensures bound { IfOk result (λ advance. advance.count ≤ length (A.alerts alerts.now)) }
     ensures active { OnErr result (active.new.items ≡ active.old.items) }
     ensures before { before known.new ≡ before known.old }
 {
-    let Taken {
+    let TakenAlerts {
         joiners,
         count,
         grown,
-    } = take_all(alloc, table, kept, known, joiners, alerts)?;
+    } = take_all(alloc, table, known, joiners, alerts)?;
     let grown = ascending(grown);
-    let cut = settle(alloc, table, kept, known, active, &grown)?;
+    let cut = settle(alloc, table, known, active, &grown)?;
     Ok(Advance {
         cut,
         joiners,
@@ -212,7 +206,6 @@ pub struct Detector<T: ObserverTable> {
     known: GrowingReports,
     active: Vec<Process>,
     joiners: usize,
-    kept: KeptObservers,
     closed: bool,
     skipped: usize,
     alloc: Global,
@@ -222,7 +215,6 @@ impl<T: ObserverTable> Model for Detector<T> {
     ghost use Rattle.std.specs.Prelude.{◌≡◌};
     ghost use Rattle.rapid_cut.specs.Watching.{Watching, watching_code};
     ghost use Rattle.rapid_cut.specs.Growing.{before};
-    ghost use Rattle.rapid_cut.specs.Keeping.{AreKept};
     ghost use Rattle.rapid_cut.specs.Limits.{IsKept};
 
     ghost Value = { Watching T };
@@ -231,7 +223,7 @@ impl<T: ObserverTable> Model for Detector<T> {
 
     ghost view = { λ d. record { table = d.table; detector = record { direct = d.known.reports.direct; closed = d.closed; skipped = d.skipped } } };
 
-    ghost invariant = { λ d. IsKept (T.observers d.table) d.known.reports.direct d.known.reports.all d.active.items d.joiners d.closed × AreKept (T.observers d.table) d.kept.places.entries d.kept.observers.items × (before d.known ≡ d.known.reports) };
+    ghost invariant = { λ d. IsKept (T.observers d.table) d.known.reports.direct d.known.reports.all d.active.items d.joiners d.closed × (before d.known ≡ d.known.reports) };
 }
 
 impl<T: ObserverTable> Detector<T> {
@@ -246,7 +238,6 @@ impl<T: ObserverTable> Detector<T> {
             known: GrowingReports::new(alloc),
             active: Vec::new(alloc),
             joiners: 0,
-            kept: KeptObservers::new(alloc),
             closed: false,
             skipped: 0,
             alloc,
@@ -256,10 +247,30 @@ impl<T: ObserverTable> Detector<T> {
     /// Takes a batch of alerts; the cut of all that were taken, at the first batch that has one.
     /// After that the detector is closed: it answers `None` and takes nothing. If out of memory the
     /// detector is as it was.
-    #[tactic(auto, unfolding(rapid_model::specs::Detector::after_batch, rapid_model::specs::Detector::batch_cut))]
     pub fn batch(&mut self, alerts: &[Alert]) -> Result<Option<Cut>, AllocError>
         ensures taken { OnOk result (self.new.detector ≡ after_batch (T.observers self.old.table) self.old.detector (map alert_of alerts.now)) }
         ensures cut { IfOk result (λ cut. cut ≡ batch_cut (T.observers self.old.table) self.old.detector (map alert_of alerts.now)) }
+        ensures table { self.new.table ≡ self.old.table }
+        ensures unchanged { OnErr result (self.new ≡ self.old) }
+    {
+        self.take(&EachAlert { alerts })
+    }
+
+    /// Takes the alerts of a list as [`Detector::batch`] takes a batch.
+    pub fn batch_of(&mut self, alerts: &AlertList) -> Result<Option<Cut>, AllocError>
+        ensures taken { OnOk result (self.new.detector ≡ after_batch (T.observers self.old.table) self.old.detector (alerts_in alerts.now)) }
+        ensures cut { IfOk result (λ cut. cut ≡ batch_cut (T.observers self.old.table) self.old.detector (alerts_in alerts.now)) }
+        ensures table { self.new.table ≡ self.old.table }
+        ensures unchanged { OnErr result (self.new ≡ self.old) }
+    {
+        self.take(alerts)
+    }
+
+    /// Takes alerts in turn, as one batch.
+    #[tactic(auto, unfolding(rapid_model::specs::Detector::after_batch, rapid_model::specs::Detector::batch_cut))]
+    fn take<A: InTurn>(&mut self, alerts: &A) -> Result<Option<Cut>, AllocError>
+        ensures taken { OnOk result (self.new.detector ≡ after_batch (T.observers self.old.table) self.old.detector (A.alerts alerts.now)) }
+        ensures cut { IfOk result (λ cut. cut ≡ batch_cut (T.observers self.old.table) self.old.detector (A.alerts alerts.now)) }
         ensures table { self.new.table ≡ self.old.table }
         ensures unchanged { OnErr result (self.new ≡ self.old) }
     {
@@ -270,7 +281,6 @@ impl<T: ObserverTable> Detector<T> {
         let advance = take_batch(
             self.alloc,
             &self.table,
-            &mut self.kept,
             &mut self.known,
             &mut self.active,
             self.joiners,
@@ -280,7 +290,7 @@ impl<T: ObserverTable> Detector<T> {
             Ok(advance) => {
                 self.known.keep();
                 self.joiners = advance.joiners;
-                self.skipped = alerts.len() - advance.count;
+                self.skipped = alerts.count() - advance.count;
                 self.closed = advance.cut.is_some();
                 Ok(advance.cut)
             }
@@ -327,7 +337,6 @@ impl<T: ObserverTable> Detector<T> {
             known: self.known.try_copy(self.alloc)?,
             active: self.active.clone()?,
             joiners: self.joiners,
-            kept: self.kept.try_copy()?,
             closed: self.closed,
             skipped: self.skipped,
             alloc: self.alloc,

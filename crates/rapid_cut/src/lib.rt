@@ -8,7 +8,7 @@ mod ascending;
 mod closure;
 mod detector;
 mod growing;
-mod kept;
+mod in_turn;
 mod mask;
 mod reports;
 mod subject_key;

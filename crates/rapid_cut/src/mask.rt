@@ -2,6 +2,7 @@
 
 ghost use Rattle.std.specs.Prelude.{◌≡◌, ◌<◌, ℕ, not, ◌&&◌, ◌||◌, ◌==◌, count_by};
 ghost use Rattle.std.specs.List.{list_any, range_with_len};
+ghost use Rattle.rapid_model.specs.Limits.{most_rings};
 ghost use Rattle.rapid_cut.specs.Masks.{has_ring};
 
 /// The rings of the reports on a process.
@@ -46,7 +47,7 @@ pub fn has_bit(mask: u16, ring: u8) -> bool
 
 /// The mask of one ring.
 pub fn bit(ring: u8) -> u16
-    requires { ring < 16 }
+    requires { ring < most_rings }
     ensures { (k : ℕ) → has_ring result k ≡ k == ring }
 {
     1 << ring
@@ -80,7 +81,7 @@ pub fn count(mask: u16, rings: u8) -> usize
 
 /// Whether the mask has one of sixteen rings.
 pub fn has_any(mask: u16) -> bool
-    ensures { result ≡ list_any (has_ring mask) (range_with_len 0 16) }
+    ensures { result ≡ list_any (has_ring mask) (range_with_len 0 most_rings) }
 {
     mask != 0
 }

@@ -1,21 +1,21 @@
 // The alerts that are taken.
 
-ghost use Rattle.std.specs.Prelude.{◌≡◌, ◌≤◌, ◌<◌, ℕ, true, not, ◌&&◌, ◌||◌, ◌∷◌, [], ◌++◌, map, length, count_by, nat_le, IfOk, OnOk, if◌then◌else◌};
+ghost use Rattle.std.specs.Prelude.{◌≡◌, ◌≤◌, ◌<◌, ℕ, true, not, ◌&&◌, ◌||◌, ◌∷◌, [], ◌++◌, length, count_by, nat_le, IfOk, OnOk, if◌then◌else◌};
 ghost use Rattle.std.specs.FinSet as set;
 ghost use Rattle.rapid_model.specs.Alert as model;
 ghost use Rattle.rapid_model.specs.Process.{is_in};
 ghost use Rattle.rapid_model.specs.Ring.{rings};
 ghost use Rattle.rapid_model.specs.Reports.{Reports, Includes, report_of, subjects};
 ghost use Rattle.rapid_model.specs.Detector as detector;
+ghost use Rattle.rapid_model.specs.Limits.{most_joiners, most_rings};
 ghost use Rattle.rapid_alerts.specs.Alerts.{alert_of};
 ghost use Rattle.rapid_cut.specs.Growing.{before, HaveGrown};
-ghost use Rattle.rapid_cut.specs.Keeping.{AreKept};
 ghost use Rattle.rapid_cut.specs.Limits.{IsWithinLimits};
 ghost use Rattle.rapid_cut.specs.Masks.{has_ring};
 
 use crate::closure::is_low;
 use crate::growing::GrowingReports;
-use crate::kept::KeptObservers;
+use crate::in_turn::InTurn;
 use crate::mask::{Masks, bit, has_any, has_bit, with};
 use crate::reports::KnownReports;
 use rapid_alerts::{Alert, Kind};
@@ -29,13 +29,12 @@ const JOINERS: usize = 512;
 /// Whether the alert is well-formed: its ring exists, its observer is that ring's, its
 /// configuration is the table's, and its kind is Remove exactly if the subject is a member. Also
 /// whether the subject is a member.
-fn check<T: ObserverTable>(table: &T, kept: &KeptObservers, alert: &Alert) -> (bool, bool)
-    requires { AreKept (T.observers table.now) kept.now.places.entries kept.now.observers.items }
+fn check<T: ObserverTable>(table: &T, alert: &Alert) -> (bool, bool)
     ensures value { result.0 ≡ model.is_well_formed (T.observers table.now) (alert_of alert.now) }
-    ensures ring { result.0 ≡ true → alert.now.ring < 16 }
+    ensures ring { result.0 ≡ true → alert.now.ring < most_rings }
     ensures member { result.1 ≡ (T.observers table.now).is_member alert.now.subject }
 {
-    let (member, observer) = kept.member_and_observer(table, alert.ring, &alert.subject);
+    let (member, observer) = table.member_and_observer(alert.ring, &alert.subject);
     let fits = match alert.kind {
         Kind::Remove => member,
         Kind::Join => !member,
@@ -95,7 +94,7 @@ fn joiners_with<T: ObserverTable>(
 ) -> usize
     requires counted { counted ≡ ((T.observers table.now).is_member subject.now || is_in (subjects reports.now.direct) subject.now) }
     requires joiners { joiners ≡ length (detector.joiners (T.observers table.now) reports.now.direct) }
-    requires room { joiners ≤ 512 }
+    requires room { joiners ≤ most_joiners }
     ensures { (ring : ℕ) → result ≡ length (detector.joiners (T.observers table.now) (set.insert reports.now.direct (subject.now, ring))) }
 {
     let _ = table;
@@ -132,7 +131,7 @@ fn put<T: ObserverTable>(
     ring: u8,
     so_far: Masks,
 ) -> Result<(), AllocError>
-    requires ring { ring < 16 }
+    requires ring { ring < most_rings }
     requires direct { (k : ℕ) → set.contains known.old.reports.direct (subject, k) ≡ has_ring so_far.direct k }
     requires all { (k : ℕ) → set.contains known.old.reports.all (subject, k) ≡ has_ring so_far.all k }
     ensures direct { OnOk result (known.new.reports.direct ≡ set.insert known.old.reports.direct (subject, ring)) }
@@ -154,17 +153,14 @@ fn put<T: ObserverTable>(
 /// Takes the alert or leaves it; whether it was taken.
 fn take<T: ObserverTable>(
     table: &T,
-    kept: &mut KeptObservers,
     known: &mut GrowingReports,
     joiners: &mut usize,
     grown: &mut Vec<Process>,
     alert: &Alert,
 ) -> Result<bool, AllocError>
     requires joiners { joiners.old ≡ length (detector.joiners (T.observers table.now) known.old.reports.direct) }
-    requires room { joiners.old ≤ 512 }
-    requires kept { AreKept (T.observers table.now) kept.old.places.entries kept.old.observers.items }
+    requires room { joiners.old ≤ most_joiners }
     requires known { Includes known.old.reports.all known.old.reports.direct }
-    ensures kept { AreKept (T.observers table.now) kept.new.places.entries kept.new.observers.items }
     ensures taken { IfOk result (λ taken. taken ≡ detector.is_taken (T.observers table.now) known.old.reports.direct (alert_of alert.now)) }
     ensures direct { IfOk result (λ taken. known.new.reports.direct ≡ (if taken then set.insert known.old.reports.direct (report_of (alert_of alert.now)) else known.old.reports.direct)) }
     ensures all { IfOk result (λ taken. known.new.reports.all ≡ (if taken then set.insert known.old.reports.all (report_of (alert_of alert.now)) else known.old.reports.all)) }
@@ -172,7 +168,7 @@ fn take<T: ObserverTable>(
     ensures grown { OnOk result ((start : Reports) → HaveGrown (T.observers table.now) start known.old.reports.direct grown.old.items → HaveGrown (T.observers table.now) start known.new.reports.direct grown.new.items) }
     ensures before { before known.new ≡ before known.old }
 {
-    let (well_formed, member) = check(table, kept, alert);
+    let (well_formed, member) = check(table, alert);
     if !well_formed {
         return Ok(false);
     }
@@ -185,9 +181,6 @@ fn take<T: ObserverTable>(
     if !has_room(table, &known.reports, *joiners, alert, counted) {
         return Ok(false);
     }
-    if !member {
-        kept.keep(table, subject)?;
-    }
     *joiners = joiners_with(table, &known.reports, *joiners, subject, counted);
     put(table, known, grown, alert.subject, alert.ring, so_far)?;
     Ok(true)
@@ -195,7 +188,7 @@ fn take<T: ObserverTable>(
 
 /// What is known of the alerts that are taken of a batch.
 #[derive(Debug, Drop)]
-pub struct Taken {
+pub struct TakenAlerts {
     /// How many joiners are reported on.
     pub joiners: usize,
     /// How many alerts are taken.
@@ -205,24 +198,21 @@ pub struct Taken {
 }
 
 /// Takes the alerts of a batch after these reports.
-pub fn take_all<T: ObserverTable>(
+pub fn take_all<T: ObserverTable, A: InTurn>(
     alloc: Global,
     table: &T,
-    kept: &mut KeptObservers,
     known: &mut GrowingReports,
     joiners: usize,
-    alerts: &[Alert],
-) -> Result<Taken, AllocError>
+    alerts: &A,
+) -> Result<TakenAlerts, AllocError>
     requires joiners { joiners ≡ length (detector.joiners (T.observers table.now) known.old.reports.direct) }
     requires limits { IsWithinLimits (T.observers table.now) known.old.reports.direct }
-    requires kept { AreKept (T.observers table.now) kept.old.places.entries kept.old.observers.items }
     requires known { Includes known.old.reports.all known.old.reports.direct }
-    ensures kept { AreKept (T.observers table.now) kept.new.places.entries kept.new.observers.items }
-    ensures direct { OnOk result (known.new.reports.direct ≡ detector.with_alerts known.old.reports.direct (detector.taken (T.observers table.now) known.old.reports.direct (map alert_of alerts.now))) }
-    ensures all { OnOk result (known.new.reports.all ≡ detector.with_alerts known.old.reports.all (detector.taken (T.observers table.now) known.old.reports.direct (map alert_of alerts.now))) }
+    ensures direct { OnOk result (known.new.reports.direct ≡ detector.with_alerts known.old.reports.direct (detector.taken (T.observers table.now) known.old.reports.direct (A.alerts alerts.now))) }
+    ensures all { OnOk result (known.new.reports.all ≡ detector.with_alerts known.old.reports.all (detector.taken (T.observers table.now) known.old.reports.direct (A.alerts alerts.now))) }
     ensures joiners { IfOk result (λ taken. taken.joiners ≡ length (detector.joiners (T.observers table.now) known.new.reports.direct)) }
-    ensures count { IfOk result (λ taken. taken.count ≡ length (detector.taken (T.observers table.now) known.old.reports.direct (map alert_of alerts.now))) }
-    ensures bound { IfOk result (λ taken. taken.count ≤ length alerts.now) }
+    ensures count { IfOk result (λ taken. taken.count ≡ length (detector.taken (T.observers table.now) known.old.reports.direct (A.alerts alerts.now))) }
+    ensures bound { IfOk result (λ taken. taken.count ≤ length (A.alerts alerts.now)) }
     ensures limits { OnOk result (IsWithinLimits (T.observers table.now) known.new.reports.direct) }
     ensures grown { IfOk result (λ taken. HaveGrown (T.observers table.now) known.old.reports.direct known.new.reports.direct taken.grown.items) }
     ensures before { before known.new ≡ before known.old }
@@ -230,12 +220,13 @@ pub fn take_all<T: ObserverTable>(
     let mut joiners = joiners;
     let mut count = 0;
     let mut grown = Vec::new(alloc);
-    for alert in alerts {
-        if take(table, kept, known, &mut joiners, &mut grown, alert)? {
+    for place in 0..alerts.count() {
+        let alert = alerts.at(place);
+        if take(table, known, &mut joiners, &mut grown, &alert)? {
             count += 1;
         }
     }
-    Ok(Taken {
+    Ok(TakenAlerts {
         joiners,
         count,
         grown,

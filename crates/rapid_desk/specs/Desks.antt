@@ -7,6 +7,7 @@ use Rattle.rapid_model.specs.Configuration.{Configuration, Stamp, stamp}
 use Rattle.rapid_model.specs.Node as model
 use Rattle.rapid_model.specs.NodeStep.{node_step}
 use Rattle.rapid_model.specs.Journal.{JournalRecord, is_full_for}
+use Rattle.rapid_model.specs.Limits.{most_entries, most_views}
 use Rattle.rapid_node.specs.Steps.{IsFault}
 use Rattle.rapid_view.specs.Seen.{Publishing, last_height}
 use Rattle.rapid_view.specs.declared.error.ViewError.{ViewError}
@@ -75,7 +76,7 @@ AreMarked (s ∷ subscriptions) = (mark_of s.put ≢ mark.Open) × AreMarked sub
 -- Why a view of this height was not published.
 abbrev pub NotPublished : List Stamp → ℕ → ViewError → Type 0
 NotPublished published height view.NotNext = height ≢ last_height published + 1
-NotPublished published height view.CellFull = length published ≡ 65536
+NotPublished published height view.CellFull = length published ≡ most_views
 NotPublished published height view.NoPlace = published ≡ []
 NotPublished published height view.OutOfMemory = Unit {0}
 NotPublished published height (view.Behind s) = ⊥
@@ -99,8 +100,8 @@ JoinsEmpty n = no_installs_in n.phase n.installed
 pub record Keeps (s : DeskState) : Type 0 where
   pub desk : IsDesk s
   pub joins : JoinsEmpty s.node
-  pub few : length s.journal ≤ 65536
-  pub full : s.full ≡ true → length s.journal ≡ 65536
+  pub few : length s.journal ≤ most_entries
+  pub full : s.full ≡ true → length s.journal ≡ most_entries
 
 -- The desk after a step that went well: what is installed is published, and the journal has the event, or begins anew
 -- if a configuration was entered.
@@ -152,7 +153,8 @@ Follows old event new = (o : model.Outcome) × (node_step old event ≡ Some o) 
 abbrev pub Installs : model.Node → model.Event → model.Node → Type 0
 Installs old event new = Follows old event new × (model.has_installed old new ≡ true)
 
--- The step was made: the journal takes the event, the node had not halted, and the next node is what the event makes of it.
+-- The step was made: the journal takes the event, the node had not halted, and the next node is what the event makes of
+-- it.
 abbrev pub Tried : HeldValue → model.Event → Type 0
 Tried held event = (is_refused held.full held.journal event ≡ false) × (model.is_halted held.node ≡ false) × Follows held.node event held.next
 
@@ -177,10 +179,12 @@ NotEntered old new BadCapacity = ⊥
 
 -- Why an event was refused, and what the desk is then.
 abbrev pub Refused : DeskState → model.Event → DeskState → DeskError → Type 0
-Refused old event new JournalFull = (is_journal_full old event ≡ true) × (length old.journal ≡ 65536) × (new ≡ record old { full = true })
+Refused old event new JournalFull = (is_journal_full old event ≡ true) × (length old.journal ≡ most_entries)
+    × (new ≡ record old { full = true })
 Refused old event new OutOfMemory = (is_journal_full old event ≡ false) × (new ≡ old)
 Refused old event new (Node fault) = (is_journal_full old event ≡ false) × IsFault old.node event new.node fault × (new ≡ record old { node = new.node })
-Refused old event new Unpublished = (is_journal_full old event ≡ false) × (length old.published < 65536) × ((n : model.Node) × Installs old.node event n × (new ≡ record old { node = model.halt n }))
+Refused old event new Unpublished = (is_journal_full old event ≡ false) × (length old.published < most_views)
+    × ((n : model.Node) × Installs old.node event n × (new ≡ record old { node = model.halt n }))
 Refused old event new TooManySubscribers = ⊥
 Refused old event new BadCapacity = ⊥
 

@@ -55,12 +55,14 @@ pub record Served : Type 0 where
 abbrev pub with_notice : Served → Notice → Served
 with_notice s x = record { queue = s.queue; since = s.since; capacity = s.capacity; put = s.put ++ x ∷ []; known = s.known }
 
--- Why a change was not put. The queue was full: at one moment at least as many changes as may wait were still to be taken. Or a growth was refused.
+-- Why a change was not put. The queue was full: at one moment at least as many changes as may wait were still to be
+-- taken. Or a growth was refused.
 abbrev pub IsLost : Served → Loss → Type 0
 IsLost s Full = (n : ℕ) × (s.capacity ≤ n) × Untaken s.put s.known n
 IsLost s Memory = Unit {0}
 
--- The view is put as the next after those before it, or a mark in its place, which says why it is lost; behind a mark nothing is.
+-- The view is put as the next after those before it, or a mark in its place, which says why it is lost; behind a mark
+-- nothing is.
 abbrev pub OfferedIn : State → Configuration → Served → Served → Type 0
 OfferedIn Open view old new =
     ((new ≡ with_notice old (Change view)) × IsNextFrom old.since old.put view.height) ⊎ ((loss : Loss) × (new ≡ with_notice old (Lag loss)) × IsLost old loss)

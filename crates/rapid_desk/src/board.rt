@@ -24,13 +24,18 @@ pub struct Board<R: Wait + Copy + Drop> {
 
 impl<R: Wait + Copy + Drop> Model for Board<R> {
     ghost use Rattle.std.specs.Prelude.{◌≡◌, ◌≤◌, ◌<◌, length, vec_len, All, is_some, IsSome, IfSome};
+    ghost use Rattle.rapid_model.specs.Limits.{most_views};
     ghost use Rattle.rapid_desk.specs.Desks.{BoardValue, seen_by, shown_height};
 
     ghost Value = { BoardValue };
 
     ghost view = { λ b. record { published = seen_by b.writer; seats = is_some b.seats; count = b.count } };
 
-    ghost invariant = { λ b. (0 < b.count) × (b.count ≤ 64) × IfSome b.writer (λ w. (0 < length w.seen) × (w.room ≡ 65536)) × IfSome b.seats (λ all. (vec_len all ≡ b.count) × IsSome b.writer × All (λ s. IfSome b.writer (λ w. s.cell ≡ w.cell)) all.items) × (b.height ≡ shown_height (seen_by b.writer)) };
+    ghost invariant = { λ b. (0 < b.count) × (b.count ≤ 64)
+        × IfSome b.writer (λ w. (0 < length w.seen) × (w.room ≡ most_views))
+        × IfSome b.seats (λ all. (vec_len all ≡ b.count) × IsSome b.writer
+        × All (λ s. IfSome b.writer (λ w. s.cell ≡ w.cell)) all.items)
+        × (b.height ≡ shown_height (seen_by b.writer)) };
 }
 
 impl<R: Wait + Copy + Drop> Board<R> {

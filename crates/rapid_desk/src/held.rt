@@ -4,6 +4,7 @@ ghost use Rattle.std.specs.Prelude.{◌≡◌, ◌≤◌, [], true, false, lengt
 ghost use Rattle.rapid_model.specs.Journal.{with_event};
 ghost use Rattle.rapid_model.specs.Node as model;
 ghost use Rattle.rapid_model.specs.NodeStep.{node_step};
+ghost use Rattle.rapid_model.specs.Limits.{most_entries};
 ghost use Rattle.rapid_node.specs.Steps.{event_of, HasOutcome};
 ghost use Rattle.rapid_desk.specs.Records.{records};
 ghost use Rattle.rapid_desk.specs.Desks.{is_refused, HasNoRoom, NotTaken, NoCheckpoint};
@@ -54,7 +55,7 @@ fn get_room(
     full: &mut bool,
     event: &Event,
 ) -> Result<(), DeskError>
-    requires { vec_len journal.old ≤ 65536 }
+    requires { vec_len journal.old ≤ most_entries }
     ensures same { journal.new.items ≡ journal.old.items }
     ensures free { OnOk result ((is_refused full.old (records journal.old.items) (event_of event.now) ≡ false) × (full.new ≡ full.old)) }
     ensures refused { IfErr result (HasNoRoom full.old (records journal.old.items) (event_of event.now) full.new) }
@@ -98,7 +99,7 @@ impl Held {
 
     /// Makes the step in a copy of the node. If the copy has halted it takes the node's place.
     pub(crate) fn prepare(&mut self, event: &Event) -> Result<Outputs, DeskError>
-        requires { length self.old.journal ≤ 65536 }
+        requires { length self.old.journal ≤ most_entries }
         ensures same { (self.new.entry ≡ self.old.entry) × (self.new.journal ≡ self.old.journal) }
         ensures ok { OnOk result ((is_refused self.old.full self.old.journal (event_of event.now) ≡ false) × (self.new.full ≡ self.old.full) × (self.new.node ≡ self.old.node) × (model.is_halted self.old.node ≡ false)) }
         ensures outputs { IfOk result (λ sent. HasOutcome self.old.node.me (node_step self.old.node (event_of event.now)) self.new.next sent.items) }

@@ -5,13 +5,13 @@ use Rattle.rapid_model.specs.Detector.{empty_detector}
 use Rattle.rapid_model.specs.DetectText.{Run, Asked, after, printed}
 use Rattle.rapid_alerts.specs.Alerts.{alert_of}
 use Rattle.rapid_detect.specs.Replies.{reply_text}
-use Rattle.rapid_detect.specs.declared.reply.Reply.{Reply}
-use Rattle.rapid_detect.specs.declared.detect.Phase.{Phase}
-use Rattle.rapid_detect.specs.declared.detect.Phase.TheVariants.{Unmarked, Building, Reporting}
+use Rattle.rapid_detect.specs.declared.reply.DetectReply.{DetectReply}
+use Rattle.rapid_detect.specs.declared.detect.DetectPhase.{DetectPhase}
+use Rattle.rapid_detect.specs.declared.detect.DetectPhase.TheVariants.{Unmarked, Building, Reporting}
 use Rattle.rapid_detect.specs.declared.detect.DetectRun.{DetectRun}
 
 -- What a phase and the numbers of lines and the alerts beside it make.
-abbrev pub run_by : Phase → ℕ → ℕ → List model.Alert → Run
+abbrev pub run_by : DetectPhase → ℕ → ℕ → List model.Alert → Run
 run_by Unmarked joiners edges alerts = None
 run_by (Building t) joiners edges alerts =
     Some (record { table = t; joiner_lines = joiners; edge_lines = edges; is_reporting = false; detector = empty_detector; alerts = alerts })
@@ -28,12 +28,12 @@ reporting None = None
 reporting (Some d) = Some (record d { is_reporting = true })
 
 -- The phase is that in which the table is made.
-abbrev pub is_building : Phase → Bool
+abbrev pub is_building : DetectPhase → Bool
 is_building Unmarked = false
 is_building (Building t) = true
 is_building (Reporting d) = false
 
 -- The state after what a line asks for, and what it prints.
-pub record Obeys (old new : DetectRun) (asked : Asked) (reply : Reply) : Type 0 where
+pub record Obeys (old new : DetectRun) (asked : Asked) (reply : DetectReply) : Type 0 where
   pub state : run_of new ≡ after (run_of old) asked
   pub text : reply_text reply ≡ printed (run_of old) asked

@@ -23,7 +23,7 @@ pub struct Place {
 
 /// What a command asks for.
 #[derive(Clone, Copy, Debug)]
-pub enum Command {
+pub enum DetectCommand {
     /// The numbers K, H and L, which may be out of order.
     Watermarks(u8, u8, u8),
     /// That a process is no member.
@@ -38,13 +38,13 @@ pub enum Command {
 
 /// What a line asks for.
 #[derive(Clone, Copy, Debug)]
-pub enum Asked {
+pub enum DetectAsked {
     /// Nothing: the line is skipped.
     Nothing,
     /// Nothing that is known.
     Unknown,
     /// A command.
-    Taken(Command),
+    Taken(DetectCommand),
 }
 
 /// The ring, the observer and the subject that the words of a line name.
@@ -60,50 +60,50 @@ fn place_named(line: &[u8]) -> Option<Place>
 }
 
 /// The numbers K, H and L that the words of a line spell.
-fn watermarks(line: &[u8]) -> Option<Command>
+fn watermarks(line: &[u8]) -> Option<DetectCommand>
     ensures { option_map command_of result ≡ option_map model.Watermarks (marks_in (words line.now)) }
 {
     let (k, h, l) = three_words(line)?;
-    Some(Command::Watermarks(byte(k)?, byte(h)?, byte(l)?))
+    Some(DetectCommand::Watermarks(byte(k)?, byte(h)?, byte(l)?))
 }
 
 /// The joiner that the word of a line names.
-fn joiner(line: &[u8]) -> Option<Command>
+fn joiner(line: &[u8]) -> Option<DetectCommand>
     ensures { option_map command_of result ≡ option_map model.Joiner (process_in (words line.now)) }
 {
-    Some(Command::Joiner(process(one_word(line)?)?))
+    Some(DetectCommand::Joiner(process(one_word(line)?)?))
 }
 
 /// The edge that the words of a line name.
-fn edge(line: &[u8]) -> Option<Command>
+fn edge(line: &[u8]) -> Option<DetectCommand>
     ensures { option_map command_of result ≡ option_and_then edge_at (place_in (words line.now)) }
 {
     let place = place_named(line)?;
     if place.observer == place.subject {
         return None;
     }
-    Some(Command::Edge(place))
+    Some(DetectCommand::Edge(place))
 }
 
 /// The alert of a kind that the words of a line name.
-fn report(kind: Kind, line: &[u8]) -> Option<Command>
+fn report(kind: Kind, line: &[u8]) -> Option<DetectCommand>
     ensures { option_map command_of result ≡ option_map (model.Report (kind_of kind)) (place_in (words line.now)) }
 {
-    Some(Command::Report(kind, place_named(line)?))
+    Some(DetectCommand::Report(kind, place_named(line)?))
 }
 
 /// A batch, if no words follow its name.
-fn batch(line: &[u8]) -> Option<Command>
+fn batch(line: &[u8]) -> Option<DetectCommand>
     ensures { option_map command_of result ≡ batch_in (words line.now) }
 {
     match split_word(line) {
         Some(_) => None,
-        None => Some(Command::Batch),
+        None => Some(DetectCommand::Batch),
     }
 }
 
 /// The command of a name and the words after it.
-fn command_by(name: &[u8], rest: &[u8]) -> Option<Command>
+fn command_by(name: &[u8], rest: &[u8]) -> Option<DetectCommand>
     ensures { option_map command_of result ≡ command_named name.now (words rest.now) }
 {
     if name == b"watermarks".as_slice() {
@@ -125,20 +125,20 @@ fn command_by(name: &[u8], rest: &[u8]) -> Option<Command>
 
 /// What a line asks for.
 #[tactic(auto, unfolding(rapid_model::specs::DetectText::asked))]
-pub fn read_line(line: &[u8]) -> Asked
+pub fn read_line(line: &[u8]) -> DetectAsked
     ensures { asked_of result ≡ asked line.now }
 {
     if !is_plain(line) {
-        return Asked::Unknown;
+        return DetectAsked::Unknown;
     }
     if let [b'#', ..] = line {
-        return Asked::Nothing;
+        return DetectAsked::Nothing;
     }
     let Some((name, rest)) = split_word(line) else {
-        return Asked::Nothing;
+        return DetectAsked::Nothing;
     };
     match command_by(name, rest) {
-        Some(command) => Asked::Taken(command),
-        None => Asked::Unknown,
+        Some(command) => DetectAsked::Taken(command),
+        None => DetectAsked::Unknown,
     }
 }

@@ -10,8 +10,8 @@ ghost use Rattle.rapid_detect.specs.Commands.{place_of, command_of, asked_of};
 ghost use Rattle.rapid_detect.specs.Phases.{run_by, run_of, reporting, is_building, Obeys};
 ghost use Rattle.rapid_text.specs.Underway.{AppendsFront};
 
-use crate::command::{Asked, Command, Place, read_line};
-use crate::reply::{Refusal, Reply, write_reply};
+use crate::command::{DetectAsked, DetectCommand, Place, read_line};
+use crate::reply::{DetectRefusal, DetectReply, write_reply};
 use rapid_alerts::{Alert, Kind};
 use rapid_config::{ConfigId, Cut, Params};
 use rapid_cut::Detector;
@@ -30,7 +30,7 @@ const MOST_ALERTS: usize = 16_384;
 
 /// How far a run has come.
 #[derive(Drop)]
-enum Phase {
+enum DetectPhase {
     /// `watermarks` was not taken yet.
     Unmarked,
     /// The table is made.
@@ -43,31 +43,31 @@ enum Phase {
 #[derive(Drop)]
 pub struct DetectRun {
     alloc: Global,
-    phase: Phase,
+    phase: DetectPhase,
     joiner_lines: usize,
     edge_lines: usize,
     alerts: Vec<Alert>,
 }
 
 /// From here on alerts and batches are taken, if `watermarks` was.
-fn start(alloc: Global, phase: &mut Phase)
+fn start(alloc: Global, phase: &mut DetectPhase)
     ensures state { (joiners edges : ℕ) (alerts : List alert.Alert) → run_by phase.new joiners edges alerts ≡ reporting (run_by phase.old joiners edges alerts) }
     ensures started { is_building phase.new ≡ false }
 {
-    if let Phase::Building(_) = phase {
+    if let DetectPhase::Building(_) = phase {
         end_building(alloc, phase);
     }
 }
 
 /// The same, if the table is made: its phase is moved here and at no alert.
 #[inline(never)]
-fn end_building(alloc: Global, phase: &mut Phase)
+fn end_building(alloc: Global, phase: &mut DetectPhase)
     ensures state { (joiners edges : ℕ) (alerts : List alert.Alert) → run_by phase.new joiners edges alerts ≡ reporting (run_by phase.old joiners edges alerts) }
     ensures started { is_building phase.new ≡ false }
 {
-    let before = mem::replace(phase, Phase::Unmarked);
+    let before = mem::replace(phase, DetectPhase::Unmarked);
     *phase = match before {
-        Phase::Building(table) => Phase::Reporting(Detector::new(alloc, table)),
+        DetectPhase::Building(table) => DetectPhase::Reporting(Detector::new(alloc, table)),
         other => other,
     };
 }
@@ -80,7 +80,7 @@ impl DetectRun {
     {
         DetectRun {
             alloc,
-            phase: Phase::Unmarked,
+            phase: DetectPhase::Unmarked,
             joiner_lines: 0,
             edge_lines: 0,
             alerts: Vec::new(alloc),
@@ -88,61 +88,65 @@ impl DetectRun {
     }
 
     /// Takes the numbers K, H and L.
-    fn watermarks(&mut self, k: u8, h: u8, l: u8) -> Reply
+    fn watermarks(&mut self, k: u8, h: u8, l: u8) -> DetectReply
         ensures { Obeys self.old self.new (model.Command (line.Watermarks (record { k = k; h = h; l = l }))) result }
     {
-        let Phase::Unmarked = self.phase else {
-            return Reply::Refused(Refusal::BadLine);
+        let DetectPhase::Unmarked = self.phase else {
+            return DetectReply::Refused(DetectRefusal::BadLine);
         };
         match Params::new(k, h, l) {
             Ok(params) => {
-                self.phase = Phase::Building(Table::new(self.alloc, params));
+                self.phase = DetectPhase::Building(Table::new(self.alloc, params));
                 self.joiner_lines = 0;
                 self.edge_lines = 0;
                 self.alerts.clear();
-                Reply::Silent
+                DetectReply::Silent
             }
-            Err(_) => Reply::Refused(Refusal::BadParams),
+            Err(_) => DetectReply::Refused(DetectRefusal::BadParams),
         }
     }
 
     /// Takes a joiner.
-    fn joiner(&mut self, process: Process) -> Result<Reply, AllocError>
+    fn joiner(&mut self, process: Process) -> Result<DetectReply, AllocError>
         ensures { IfOk result (Obeys self.old self.new (model.Command (line.Joiner process))) }
     {
         match &mut self.phase {
-            Phase::Unmarked => Ok(Reply::Refused(Refusal::NoWatermarks)),
-            Phase::Reporting(_) => Ok(Reply::Refused(Refusal::TooLate)),
-            Phase::Building(table) => {
+            DetectPhase::Unmarked => Ok(DetectReply::Refused(DetectRefusal::NoWatermarks)),
+            DetectPhase::Reporting(_) => Ok(DetectReply::Refused(DetectRefusal::TooLate)),
+            DetectPhase::Building(table) => {
                 if self.joiner_lines >= Cut::MOST_JOINERS {
-                    return Ok(Reply::Refused(Refusal::TooMany));
+                    return Ok(DetectReply::Refused(DetectRefusal::TooMany));
                 }
                 table.joiner(process)?;
                 self.joiner_lines += 1;
-                Ok(Reply::Silent)
+                Ok(DetectReply::Silent)
             }
         }
     }
 
     /// Takes an edge of the table.
-    fn edge(&mut self, place: Place) -> Result<Reply, AllocError>
+    fn edge(&mut self, place: Place) -> Result<DetectReply, AllocError>
         ensures { IfOk result (Obeys self.old self.new (model.Command (line.Edge (place_of place)))) }
     {
         match &mut self.phase {
-            Phase::Unmarked => Ok(Reply::Refused(Refusal::NoWatermarks)),
-            Phase::Reporting(_) => Ok(Reply::Refused(Refusal::TooLate)),
-            Phase::Building(table) => {
+            DetectPhase::Unmarked => Ok(DetectReply::Refused(DetectRefusal::NoWatermarks)),
+            DetectPhase::Reporting(_) => Ok(DetectReply::Refused(DetectRefusal::TooLate)),
+            DetectPhase::Building(table) => {
                 if self.edge_lines >= MOST_EDGES {
-                    return Ok(Reply::Refused(Refusal::TooMany));
+                    return Ok(DetectReply::Refused(DetectRefusal::TooMany));
                 }
                 match table.add(place.ring, place.observer, place.subject) {
                     Ok(()) => {
                         self.edge_lines += 1;
-                        Ok(Reply::Silent)
+                        Ok(DetectReply::Silent)
                     }
-                    Err(TableError::TooMany) => Ok(Reply::Refused(Refusal::TooMany)),
-                    Err(TableError::RingRange) => Ok(Reply::Refused(Refusal::RingRange)),
-                    Err(TableError::EdgeTwice) => Ok(Reply::Refused(Refusal::EdgeTwice)),
+                    Err(TableError::TooMany) => Ok(DetectReply::Refused(DetectRefusal::TooMany)),
+                    Err(TableError::RingRange) => Ok(DetectReply::Refused(
+                        DetectRefusal::RingRange,
+                    )),
+                    Err(TableError::EdgeTwice) => Ok(DetectReply::Refused(
+                        DetectRefusal::EdgeTwice,
+                    )),
                     Err(TableError::OutOfMemory) => Err(AllocError),
                 }
             }
@@ -150,14 +154,14 @@ impl DetectRun {
     }
 
     /// Takes an alert for the next batch.
-    fn report(&mut self, kind: Kind, place: Place) -> Result<Reply, AllocError>
+    fn report(&mut self, kind: Kind, place: Place) -> Result<DetectReply, AllocError>
         ensures { IfOk result (Obeys self.old self.new (model.Command (line.Report (kind_of kind) (place_of place)))) }
     {
-        if let Phase::Unmarked = self.phase {
-            return Ok(Reply::Refused(Refusal::NoWatermarks));
+        if let DetectPhase::Unmarked = self.phase {
+            return Ok(DetectReply::Refused(DetectRefusal::NoWatermarks));
         }
         if self.alerts.len() >= MOST_ALERTS {
-            return Ok(Reply::Refused(Refusal::TooMany));
+            return Ok(DetectReply::Refused(DetectRefusal::TooMany));
         }
         self.alerts.push(Alert {
             observer: place.observer,
@@ -167,48 +171,48 @@ impl DetectRun {
             config: ConfigId::zero(),
         })?;
         start(self.alloc, &mut self.phase);
-        Ok(Reply::Silent)
+        Ok(DetectReply::Silent)
     }
 
     /// Gives the batch to the detector.
-    fn batch(&mut self) -> Result<Reply, AllocError>
+    fn batch(&mut self) -> Result<DetectReply, AllocError>
         ensures { IfOk result (Obeys self.old self.new (model.Command line.Batch)) }
     {
         start(self.alloc, &mut self.phase);
         match &mut self.phase {
-            Phase::Unmarked => Ok(Reply::Refused(Refusal::NoWatermarks)),
-            Phase::Building(_) => unreachable!(),
-            Phase::Reporting(detector) => {
+            DetectPhase::Unmarked => Ok(DetectReply::Refused(DetectRefusal::NoWatermarks)),
+            DetectPhase::Building(_) => unreachable!(),
+            DetectPhase::Reporting(detector) => {
                 // the alerts go only once the detector has taken them
                 let cut = detector.batch(self.alerts.as_slice())?;
                 let skipped = detector.skipped();
                 self.alerts.clear();
-                Ok(Reply::Batch(cut, skipped))
+                Ok(DetectReply::Batch(cut, skipped))
             }
         }
     }
 
     /// Takes a command, or refuses it.
-    fn obey(&mut self, command: Command) -> Result<Reply, AllocError>
+    fn obey(&mut self, command: DetectCommand) -> Result<DetectReply, AllocError>
         ensures { IfOk result (Obeys self.old self.new (model.Command (command_of command))) }
     {
         match command {
-            Command::Watermarks(k, h, l) => Ok(self.watermarks(k, h, l)),
-            Command::Joiner(process) => self.joiner(process),
-            Command::Edge(place) => self.edge(place),
-            Command::Report(kind, place) => self.report(kind, place),
-            Command::Batch => self.batch(),
+            DetectCommand::Watermarks(k, h, l) => Ok(self.watermarks(k, h, l)),
+            DetectCommand::Joiner(process) => self.joiner(process),
+            DetectCommand::Edge(place) => self.edge(place),
+            DetectCommand::Report(kind, place) => self.report(kind, place),
+            DetectCommand::Batch => self.batch(),
         }
     }
 
     /// Does what a line asks for.
-    fn respond(&mut self, asked: Asked) -> Result<Reply, AllocError>
+    fn respond(&mut self, asked: DetectAsked) -> Result<DetectReply, AllocError>
         ensures { IfOk result (Obeys self.old self.new (asked_of asked)) }
     {
         match asked {
-            Asked::Nothing => Ok(Reply::Silent),
-            Asked::Unknown => Ok(Reply::Refused(Refusal::BadLine)),
-            Asked::Taken(command) => self.obey(command),
+            DetectAsked::Nothing => Ok(DetectReply::Silent),
+            DetectAsked::Unknown => Ok(DetectReply::Refused(DetectRefusal::BadLine)),
+            DetectAsked::Taken(command) => self.obey(command),
         }
     }
 }

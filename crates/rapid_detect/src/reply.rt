@@ -12,7 +12,7 @@ use std::alloc::AllocError;
 
 /// Why a line is refused.
 #[derive(Clone, Copy, Debug)]
-pub enum Refusal {
+pub enum DetectRefusal {
     /// It is not in the grammar, or `watermarks` was taken before.
     BadLine,
     /// `watermarks` was not taken yet.
@@ -31,27 +31,27 @@ pub enum Refusal {
 
 /// What a command prints.
 #[derive(Debug, Drop)]
-pub enum Reply {
+pub enum DetectReply {
     /// Nothing.
     Silent,
     /// Why it is refused.
-    Refused(Refusal),
+    Refused(DetectRefusal),
     /// The cut of a batch, if it has one, and how many alerts were skipped.
     Batch(Option<Cut>, usize),
 }
 
 /// The line that a refused line prints.
-fn refused_line(refusal: Refusal) -> &'static [u8]
+fn refused_line(refusal: DetectRefusal) -> &'static [u8]
     ensures { result.now ≡ refusal_line (refusal_of refusal) }
 {
     match refusal {
-        Refusal::BadLine => b"refused BadLine\n",
-        Refusal::NoWatermarks => b"refused NoWatermarks\n",
-        Refusal::BadParams => b"refused BadParams\n",
-        Refusal::TooLate => b"refused TooLate\n",
-        Refusal::TooMany => b"refused TooMany\n",
-        Refusal::RingRange => b"refused RingRange\n",
-        Refusal::EdgeTwice => b"refused EdgeTwice\n",
+        DetectRefusal::BadLine => b"refused BadLine\n",
+        DetectRefusal::NoWatermarks => b"refused NoWatermarks\n",
+        DetectRefusal::BadParams => b"refused BadParams\n",
+        DetectRefusal::TooLate => b"refused TooLate\n",
+        DetectRefusal::TooMany => b"refused TooMany\n",
+        DetectRefusal::RingRange => b"refused RingRange\n",
+        DetectRefusal::EdgeTwice => b"refused EdgeTwice\n",
     }
 }
 
@@ -111,14 +111,14 @@ fn write_batch(cut: &Option<Cut>, skipped: usize, output: &mut Vec<u8>) -> Resul
 
 /// Appends a reply; for a refusal nothing is allocated if the output has room. If out of memory the
 /// output is as it was.
-pub fn write_reply(reply: &Reply, output: &mut Vec<u8>) -> Result<(), AllocError>
+pub fn write_reply(reply: &DetectReply, output: &mut Vec<u8>) -> Result<(), AllocError>
     ensures ok { OnOk result (output.new.items ≡ output.old.items ++ reply_text reply.now) }
     ensures unchanged { OnErr result (output.new.items ≡ output.old.items) }
 {
     match reply {
-        Reply::Silent => Ok(()),
-        Reply::Refused(refusal) => output.extend_from_slice(refused_line(*refusal)),
-        Reply::Batch(cut, skipped) => {
+        DetectReply::Silent => Ok(()),
+        DetectReply::Refused(refusal) => output.extend_from_slice(refused_line(*refusal)),
+        DetectReply::Batch(cut, skipped) => {
             let mut text = Vec::new(*output.allocator());
             write_batch(cut, *skipped, &mut text)?;
             output.extend_from_slice(text.as_slice())

@@ -6,6 +6,7 @@ use Rattle.std.specs.FinSet as set
 use Rattle.rapid_model.specs.Cut.{Cut}
 use Rattle.rapid_model.specs.FastRound.{FastRound, count_of, fresh_round, hear_vote}
 use Rattle.rapid_model.specs.Codes.{fast_code}
+use Rattle.rapid_model.specs.Limits.{most_members}
 
 -- A fast round and the member's own position in it.
 pub record OwnRound : Type 0 where
@@ -27,5 +28,5 @@ after_vote r p v = record { position = r.position; round = hear_vote r.round p v
 
 -- There are at most 1,024 members, and no cut has more votes than there are voters.
 pub record IsRound (r : OwnRound) : Type 0 where
-  pub few : r.round.size ≤ 1024
+  pub few : r.round.size ≤ most_members
   pub counted : (v : Cut) → count_of r.round.counts v ≤ set.len r.round.heard

@@ -5,6 +5,7 @@ ghost use Rattle.std.specs.FinMap as map;
 ghost use Rattle.std.specs.List.Sorted.{IsSearchInRange, IsBinarySearchResult};
 ghost use Rattle.rapid_model.specs.Cut.{cut_cmp};
 ghost use Rattle.rapid_model.specs.FastRound.{count_of, one_more};
+ghost use Rattle.rapid_model.specs.Limits.{most_members};
 
 use rapid_config::Cut;
 use std::alloc::{AllocError, Global};
@@ -83,7 +84,7 @@ impl CutCounts {
 
     /// Counts one more for a cut. If out of memory the counters are as they were.
     pub fn add(&mut self, cut: &Cut) -> Result<(), AllocError>
-        requires room { count_of self.old cut.now ≤ 1024 }
+        requires room { count_of self.old cut.now ≤ most_members }
         ensures ok { OnOk result (self.new ≡ one_more self.old cut.now) }
         ensures unchanged { OnErr result (self.new ≡ self.old) }
     {
@@ -95,7 +96,7 @@ impl CutCounts {
     /// Counts one more for a cut; the cut, if there are then exactly this many. If out of memory
     /// the counters are as they were.
     pub fn add_up_to(&mut self, cut: &Cut, enough: usize) -> Result<Option<Cut>, AllocError>
-        requires room { count_of self.old cut.now ≤ 1024 }
+        requires room { count_of self.old cut.now ≤ most_members }
         ensures ok { OnOk result (self.new ≡ one_more self.old cut.now) }
         ensures reached { IfOk result (λ reached. reached ≡
             (if count_of self.old cut.now + 1 == enough then Some cut.now else None)) }

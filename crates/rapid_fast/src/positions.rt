@@ -1,6 +1,7 @@
 // Sets of positions.
 ghost use Rattle.std.specs.Prelude.{◌≡◌, ◌≤◌, ◌<◌, IfOk, IsOk};
 ghost use Rattle.std.specs.FinSet as set;
+ghost use Rattle.rapid_model.specs.Limits.{most_members};
 
 use std::alloc::AllocError;
 use std::marker::Model;
@@ -45,23 +46,23 @@ impl PositionSet {
     /// How many positions are in the set, at most 1,024.
     pub fn len(&self) -> usize
         ensures value { result ≡ set.len self.now }
-        ensures few { set.len self.now ≤ 1024 }
+        ensures few { set.len self.now ≤ most_members }
     {
         self.len
     }
 
     /// Whether a position is in the set.
     pub fn contains(&self, position: usize) -> bool
-        requires { position < 1024 }
+        requires { position < most_members }
         ensures value { result ≡ set.contains self.now position }
-        ensures few { set.len self.now ≤ 1024 }
+        ensures few { set.len self.now ≤ most_members }
     {
         (self.words[position / 64] >> (position % 64)) & 1 == 1
     }
 
     /// Puts a position into the set.
     pub fn insert(&mut self, position: usize)
-        requires { position < 1024 }
+        requires { position < most_members }
         ensures { self.new ≡ set.insert self.old position }
     {
         if self.contains(position) {

@@ -2,6 +2,7 @@
 ghost use Rattle.std.specs.Prelude.{◌≡◌, ◌≤◌, ◌<◌, ℕ, true, None, IfOk, OnOk, OnErr, IfErr};
 ghost use Rattle.rapid_model.specs.Cut.{Cut as ModelCut};
 ghost use Rattle.rapid_model.specs.FastRound.{fast_decision};
+ghost use Rattle.rapid_model.specs.Limits.{most_members};
 ghost use Rattle.rapid_fast.specs.OwnRound.{fresh_own, after_vote};
 ghost use Rattle.rapid_fast.specs.Refusals.{IsHearRefusal, hear_code};
 
@@ -60,7 +61,7 @@ impl FastRound {
     /// The round of `size` members, at most 1,024, as the one at `position` keeps it; no vote is
     /// there.
     pub fn new(alloc: Global, size: usize, position: usize) -> FastRound
-        requires { size ≤ 1024 }
+        requires { size ≤ most_members }
         ensures { result ≡ fresh_own size position }
     {
         FastRound {

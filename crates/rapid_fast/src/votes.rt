@@ -3,6 +3,7 @@ ghost use Rattle.std.specs.Prelude.{◌≡◌, ◌≤◌, ◌+◌, ◌==◌, Som
 ghost use Rattle.std.specs.Prelude.{IfOk, OnOk, OnErr};
 ghost use Rattle.std.specs.FinMap as map;
 ghost use Rattle.rapid_model.specs.FastRound.{count_of, one_more};
+ghost use Rattle.rapid_model.specs.Limits.{most_members};
 
 use crate::CutCounts;
 use crate::counts::copy_if;
@@ -49,7 +50,7 @@ impl VoteCounts {
     /// memory the counters are as they were.
     #[inline(always)]
     pub(crate) fn add(&mut self, cut: &Cut, enough: usize) -> Result<Option<Cut>, AllocError>
-        requires room { count_of self.old cut.now ≤ 1024 }
+        requires room { count_of self.old cut.now ≤ most_members }
         ensures ok { OnOk result (self.new ≡ one_more self.old cut.now) }
         ensures reached { IfOk result (λ reached. reached ≡
             (if count_of self.old cut.now + 1 == enough then Some cut.now else None)) }

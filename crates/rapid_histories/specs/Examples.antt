@@ -30,7 +30,8 @@ two_and_two =
     ((low_ballot, one_cut), 0) ∷ ((low_ballot, one_cut), 0) ∷ ((low_ballot, one_cut), 3) ∷ ((high_ballot, other_cut), 3)
     ∷ ((high_ballot, other_cut), 4) ∷ []
 
--- Members 0 and 3 of five promise the low ballot, one of them twice, and both report the fast vote; member 4 promises another.
+-- Members 0 and 3 of five promise the low ballot, one of them twice, and both report the fast vote; member 4 promises
+-- another.
 abbrev pub two_promises : List Given
 two_promises =
     (0, (low_ballot, Some (record { ballot = fast_ballot; value = one_cut })))

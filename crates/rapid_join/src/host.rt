@@ -9,6 +9,7 @@ ghost use Rattle.rapid_model.specs.Host as model;
 ghost use Rattle.rapid_model.specs.Configuration.{identifiers_ascend, is_member};
 ghost use Rattle.rapid_model.specs.Process.{same_identifier};
 ghost use Rattle.rapid_model.specs.Ring.{observers_of, observes};
+ghost use Rattle.rapid_model.specs.Limits.{most_joiners};
 ghost use Rattle.rapid_join.specs.Answers.{host_answer_of, answered_of, safe_for, AnswersObservers};
 ghost use Rattle.rapid_join.specs.Hosts.{fresh_host};
 
@@ -39,6 +40,7 @@ impl Model for Host {
     ghost use Rattle.std.specs.Arc.{arc_value};
     ghost use Rattle.std.specs.FinSet as set;
     ghost use Rattle.rapid_model.specs.JoinSides.{HostSide};
+    ghost use Rattle.rapid_model.specs.Limits.{most_joiners};
     ghost use Rattle.rapid_join.specs.Endpoints.{endpoints_of};
     ghost use Rattle.rapid_join.specs.Hosts.{host_code};
 
@@ -48,7 +50,8 @@ impl Model for Host {
 
     ghost view = { λ h. record { config = h.configuration; me = h.me; pending = h.pending } };
 
-    ghost invariant = { λ h. (arc_value h.rings ≡ h.configuration) × (set.len h.pending ≤ 512) × (h.endpoints ≡ endpoints_of h.configuration.members) };
+    ghost invariant = { λ h. (arc_value h.rings ≡ h.configuration) × (set.len h.pending ≤ most_joiners)
+        × (h.endpoints ≡ endpoints_of h.configuration.members) };
 }
 
 impl Host {
@@ -129,7 +132,7 @@ impl Host {
           pending = model.pending_after (model.join_request self.old.config self.old.me self.old.pending joiner.now id ring) self.old.pending joiner.now;
         }) }
         ensures unchanged { OnErr result (self.new ≡ self.old) }
-        ensures few { set.len self.new.pending ≤ 512 }
+        ensures few { set.len self.new.pending ≤ most_joiners }
     {
         if self.configuration.is_member(joiner) {
             self.confirm()

@@ -4,6 +4,7 @@ ghost use Rattle.std.specs.Prelude.{◌≡◌, ◌≤◌, ◌++◌, length, IfOk
 ghost use Rattle.std.specs.Arc.{arc_slice_items};
 ghost use Rattle.std.specs.Option.{option_to_list};
 ghost use Rattle.rapid_model.specs.Host.{observers_for};
+ghost use Rattle.rapid_model.specs.Limits.{most_rings};
 
 use rapid_config::Params;
 use rapid_endpoint::Process;
@@ -22,12 +23,13 @@ impl Model for RingObservers {
     ghost use Rattle.std.specs.Prelude.{◌≤◌, List, length};
     ghost use Rattle.std.specs.Arc.{arc_slice_items};
     ghost use Rattle.rapid_model.specs.Process.{Process as ModelProcess};
+    ghost use Rattle.rapid_model.specs.Limits.{most_rings};
 
     ghost Value = { List ModelProcess };
 
     ghost view = { λ o. arc_slice_items o.observers };
 
-    ghost invariant = { λ o. length (arc_slice_items o.observers) ≤ 16 };
+    ghost invariant = { λ o. length (arc_slice_items o.observers) ≤ most_rings };
 }
 
 impl RingObservers {
@@ -36,7 +38,7 @@ impl RingObservers {
 
     /// These observers, from ring 0 on.
     pub fn new(observers: Vec<Process>) -> Result<RingObservers, AllocError>
-        requires { length observers.items ≤ 16 }
+        requires { length observers.items ≤ most_rings }
         ensures { IfOk result (λ made. made ≡ observers.items) }
     {
         let observers = ArcSlice::from_vec(observers)?;
@@ -62,7 +64,7 @@ impl RingObservers {
     /// The observers, from ring 0 on.
     pub fn as_slice(&self) -> &[Process]
         ensures value { result.now ≡ self.now }
-        ensures few { length self.now ≤ 16 }
+        ensures few { length self.now ≤ most_rings }
     {
         self.observers.as_slice()
     }

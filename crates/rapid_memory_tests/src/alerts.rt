@@ -103,7 +103,7 @@ fn alerts(alloc: Global, many: usize) -> Result<Vec<Alert>, AllocError> {
 
 /// Whether a copy of a batch of two alerts has two.
 fn copy_has_two(alloc: Global) -> Result<bool, BatchError> {
-    let batch = Batch::new(alerts(alloc, 2)?)?;
+    let batch = Batch::new(alloc, &alerts(alloc, 2)?)?;
     Ok(batch.try_copy(alloc)?.alerts().len() == 2)
 }
 

@@ -8,6 +8,8 @@
 #[cfg(test)]
 mod alerts;
 #[cfg(test)]
+mod changes;
+#[cfg(test)]
 mod clerks;
 #[cfg(test)]
 mod config;

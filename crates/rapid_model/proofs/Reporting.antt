@@ -142,7 +142,8 @@ both : (b : Bool) (rs : List WorldReport) → rs ≡ cond b rs rs
 both true rs = refl
 both false rs = refl
 
-installs : (n new : Node) (c : Option Configuration) → reports_of (map (entry n) (install_acts n new c)) ≡ cond (has_installed n new) (installed_report n c) []
+-- what the acts of an install report
+pub installs : (n new : Node) (c : Option Configuration) → reports_of (map (entry n) (install_acts n new c)) ≡ cond (has_installed n new) (installed_report n c) []
 installs n new None = both (has_installed n new) []
 installs n new (Some c) = by (has_installed n new)
   where

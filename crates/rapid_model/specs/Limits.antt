@@ -1,5 +1,5 @@
--- The numbers of the service, each once. Positions take ten bits and counts on the wire two bytes; the rest is chosen so that a
--- process, whatever its peers send, keeps a bounded amount.
+-- The numbers of the service, each once. Positions take ten bits and counts on the wire two bytes; the rest is chosen
+-- so that a process, whatever its peers send, keeps a bounded amount.
 use Rattle.std.specs.Prelude.{ℕ}
 
 -- How many members a configuration has at most: positions in ballots are below it.
@@ -26,6 +26,14 @@ most_rings = 16
 abbrev pub most_rounds : ℕ
 most_rounds = 250
 
+-- How many of an edge's last results its window keeps.
+abbrev pub probe_window : ℕ
+probe_window = 10
+
+-- How many of these failed if the edge goes down.
+abbrev pub down_failures : ℕ
+down_failures = 4
+
 -- How many decisions are kept for those who are behind.
 abbrev pub kept_decisions : ℕ
 kept_decisions = 64
@@ -33,6 +41,10 @@ kept_decisions = 64
 -- How many views a node installs at most.
 abbrev pub most_views : ℕ
 most_views = 65536
+
+-- How many events a world accepts at most.
+abbrev pub most_events : ℕ
+most_events = 1000000
 
 -- How many entries the journal of a desk has at most.
 abbrev pub most_entries : ℕ

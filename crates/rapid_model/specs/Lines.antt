@@ -26,7 +26,8 @@ abbrev pub ends_here : Text → Bool
 ends_here [] = false
 ends_here (x ∷ xs) = x == line_feed
 
--- The lines of an input: a line feed ends a line, the last line may lack it, and one carriage return before it is dropped.
+-- The lines of an input: a line feed ends a line, the last line may lack it, and one carriage return before it is
+-- dropped.
 abbrev pub lines : Text → List Line
 lines [] = []
 lines (x ∷ xs) =

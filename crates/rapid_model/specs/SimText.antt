@@ -71,7 +71,8 @@ world_in s = world_of s.world
 abbrev pub packets_sent : Simulation → ℕ
 packets_sent s = length (world_in s).packets
 
--- Why a command is refused before parameters were taken: the first that holds. No packet was sent that could be dropped.
+-- Why a command is refused before parameters were taken: the first that holds. No packet was sent that could be
+-- dropped.
 abbrev pub blank_refusal : SimLine → Option SimRefusal
 blank_refusal (Parameters params) = if are_params params then None else Some BadParams
 blank_refusal (Drop k) = Some BadLine
@@ -84,7 +85,8 @@ prepared_refusal (Found founders) = None
 prepared_refusal (Drop k) = Some BadLine
 prepared_refusal _ = Some NoParams
 
--- Why a command is refused once founders were taken: the first that holds. Of the other lines the world may refuse an event.
+-- Why a command is refused once founders were taken: the first that holds. Of the other lines the world may refuse an
+-- event.
 abbrev pub underway_refusal : Simulation → SimLine → Option SimRefusal
 underway_refusal s (Parameters params) = Some BadLine
 underway_refusal s (Found founders) = Some BadLine
@@ -133,8 +135,8 @@ rings_between w observer id = filter (observes_on id (peer_at w (running_under w
 abbrev pub failing : Identifier → ℕ → List WorldEvent
 failing observer k = replicate 4 (world.Probe observer k false)
 
--- The probes by which all that run lose the member of this identifier: four that fail on each ring on which it is observed, by
--- observer and ring.
+-- The probes by which all that run lose the member of this identifier: four that fail on each ring on which it is
+-- observed, by observer and ring.
 unfoldable pub losing : World → Identifier → List WorldEvent
 losing w id = flat_map (λ observer. flat_map (failing observer) (rings_between w observer id)) (running w)
 

@@ -1,9 +1,9 @@
 -- A world as it is kept: how it was founded, and the events that it accepted.
-use Rattle.std.specs.Prelude.{◌≡◌, ◌⊎◌, ℕ, suc, ◌+◌, ◌-◌, Bool, true, false, List, [], ◌∷◌, ◌++◌, length, slice_get, IsTrue, is_some, if◌then◌else◌, Option, Some, None}
+use Rattle.std.specs.Prelude.{◌≡◌, ℕ, suc, ◌+◌, ◌-◌, Bool, true, false, List, [], ◌∷◌, ◌++◌, length, slice_get, IsTrue, is_some, if◌then◌else◌, Option, Some, None}
 use Rattle.std.specs.List.{list_any}
 use Rattle.rapid_model.specs.Configuration.{Configuration}
 use Rattle.rapid_model.specs.World.{World, WorldEvent, MarkedEvent}
-use Rattle.rapid_model.specs.Refusal.{WorldRefusal, NotObserved, refusal_after}
+use Rattle.rapid_model.specs.Refusal.{WorldRefusal, refusal_after}
 use Rattle.rapid_model.specs.Run.{WorldReport, ReportInstalled, ReportHalted, run, founded, step_reports}
 
 -- What a world stores.
@@ -59,15 +59,14 @@ wants_of false = 0
 
 -- Events lead from one world to another. The two numbers are how many were accepted, and how often memory ran out. Each
 -- event is accepted with some mark, or is refused and skipped, or the world itself is out of memory and skips an event
--- that it would not refuse. One that it would refuse because a node observes no process may be skipped too: to see this
--- takes memory.
+-- that it would not refuse.
 pub data RunsTo : StoredWorld → List WorldEvent → ℕ → ℕ → StoredWorld → Type 0 where
   ends : (s : StoredWorld) → RunsTo s [] 0 0 s
   accepts : (s next t : StoredWorld) (e : WorldEvent) (reports : List WorldReport) (es : List WorldEvent) (n wanted : ℕ) (stores : StoresEvent s next e reports) →
       RunsTo next es n wanted t → RunsTo s (e ∷ es) (suc n) (wants_of stores.halts + wanted) t
   refuses : (s t : StoredWorld) (e : WorldEvent) (r : WorldRefusal) (es : List WorldEvent) (n wanted : ℕ) → event_refusal s e ≡ Some r →
       RunsTo s es n wanted t → RunsTo s (e ∷ es) n wanted t
-  lacks_memory : (s t : StoredWorld) (e : WorldEvent) (es : List WorldEvent) (n wanted : ℕ) → (event_refusal s e ≡ None) ⊎ (event_refusal s e ≡ Some NotObserved) →
+  lacks_memory : (s t : StoredWorld) (e : WorldEvent) (es : List WorldEvent) (n wanted : ℕ) → event_refusal s e ≡ None →
       RunsTo s es n wanted t → RunsTo s (e ∷ es) n (suc wanted) t
 
 -- The world after an event for which there is memory: it is stored without a mark, unless it is refused.

@@ -1,5 +1,6 @@
 -- Clauses of public calls cite this file.
--- The rule of a board: a word for each edge, which only the seat of its owner changes, and watchers that know edges that are down.
+-- The rule of a board: a word for each edge, which only the seat of its owner changes, and watchers that know edges
+-- that are down.
 use Rattle.std.specs.Prelude.{◌≡◌, ℕ, ◌<◌, ◌≤◌, List, [], ◌∷◌, ◌++◌, map, length, slice_index, Bool, true, false, ◌⊎◌, if◌then◌else◌, IsTrue}
 use mathlib.Core.Option.{some}
 use lib.ListN.{get_elem?}
@@ -37,7 +38,8 @@ pub record Role : Type 0 where
 abbrev pub role_of : Known → Role
 role_of v = record { makes = v.makes; next = v.next; owns = v.owns; edge = v.edge }
 
--- No edge has two owners. No two seats make owners, and of the edges from the next one on there is no owner and no result yet.
+-- No edge has two owners. No two seats make owners, and of the edges from the next one on there is no owner and no
+-- result yet.
 pub record Roles (roles : List Role) (history : ℕ → List Bool) : Type 0 where
   pub one : (i j : ℕ) (r s : Role) → get_elem? roles i ≡ some r → get_elem? roles j ≡ some s → r.owns ≡ true → s.owns ≡ true → r.edge ≡ s.edge → i ≡ j
   pub one_maker : (i j : ℕ) (r s : Role) → get_elem? roles i ≡ some r → get_elem? roles j ≡ some s → r.makes ≡ true → s.makes ≡ true → i ≡ j

@@ -1,6 +1,7 @@
 -- Clauses of public calls cite this file.
 -- What the watchers and the seats of a board show.
 use Rattle.std.specs.Prelude.{ℕ, Bool, true, false, ◌≤◌, List, [], if◌then◌else◌}
+use Rattle.rapid_model.specs.Limits.{most_members}
 use Rattle.atomic_table.specs.Seated.{TableId}
 use Rattle.rapid_monitor.specs.BoardRule.{is_down_after}
 use Rattle.rapid_monitor.specs.declared.edge.Verdict.{Verdict}
@@ -8,7 +9,8 @@ use Rattle.rapid_monitor.specs.declared.edge.Verdict.TheVariants.{Up, Down}
 use Rattle.rapid_monitor.specs.declared.board_error.BoardError.{BoardError}
 use Rattle.rapid_monitor.specs.declared.board_error.BoardError.TheVariants.{BadSize, OutOfMemory}
 
--- Which board a watcher looks at, how many edges that has, and which of them the watcher knows to be down, since it answered so or was told.
+-- Which board a watcher looks at, how many edges that has, and which of them the watcher knows to be down, since it
+-- answered so or was told.
 pub record Watching : Type 0 where
   pub board : TableId
   pub edges : ℕ
@@ -39,7 +41,7 @@ is_down_verdict Down = true
 
 -- There are boards with as many edges and watchers.
 abbrev pub IsSize : ℕ → ℕ → Type 0
-IsSize edges watchers = (1 ≤ edges) × (edges ≤ 1024) × (1 ≤ watchers) × (watchers ≤ 64)
+IsSize edges watchers = (1 ≤ edges) × (edges ≤ most_members) × (1 ≤ watchers) × (watchers ≤ 64)
 
 -- Why there is no board with as many edges and watchers.
 abbrev pub IsRefusal : ℕ → ℕ → BoardError → Type 0

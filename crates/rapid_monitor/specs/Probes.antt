@@ -25,7 +25,8 @@ book_when subjects begun acks = record { edges = map (watched_when acks) subject
 abbrev pub part_of : ℕ → ℕ → List (ℕ × Process) → List (ℕ × Process)
 part_of part parts subjects = filter (λ x. x.0 % parts == part) subjects
 
--- What a round says of an observed edge: whether its subject is among those who have acknowledged since the last round, if there was one.
+-- What a round says of an observed edge: whether its subject is among those who have acknowledged since the last round,
+-- if there was one.
 abbrev pub probing_when : Bool → List Process → ℕ × Process → Probing
 probing_when begun acks x = record { ring = x.0; subject = x.1; answered = if begun then Some (is_in acks x.1) else None }
 
@@ -61,8 +62,8 @@ abbrev pub goes_down : Owned → Option Bool → Bool
 goes_down s None = false
 goes_down s (Some ok) = is_down_after (s.results ++ ok ∷ []) && not (is_down_after s.results)
 
--- A sink, by what it is and what a probe and an edge that goes down make of it, after it was told of one edge of a round: that it goes
--- down, if it does, and then to probe its subject.
+-- A sink, by what it is and what a probe and an edge that goes down make of it, after it was told of one edge of a
+-- round: that it goes down, if it does, and then to probe its subject.
 abbrev pub told_of : {X : Type 0} → (X → ℕ → Process → X) → (X → ℕ → Process → X) → X → Owned → Probing → X
 told_of probed went_down x s p = probed (if goes_down s p.answered then went_down x p.ring p.subject else x) p.ring p.subject
 

@@ -45,12 +45,14 @@ pub struct Edge {
 impl Model for Edge {
     ghost use Rattle.std.specs.Prelude.{◌≡◌, ◌≤◌, length};
     ghost use Rattle.rapid_model.specs.Edge.{Edge as ModelEdge, failures as failures_in};
+    ghost use Rattle.rapid_model.specs.Limits.{probe_window};
 
     ghost Value = { ModelEdge };
 
     ghost view = { λ e. record { window = e.window.items; is_down = e.is_down } };
 
-    ghost invariant = { λ e. (e.window.capacity ≡ 10) × (length e.window.items ≤ 10) × (e.failures ≡ failures_in e.window.items) };
+    ghost invariant = { λ e. (e.window.capacity ≡ probe_window) × (length e.window.items ≤ probe_window)
+        × (e.failures ≡ failures_in e.window.items) };
 }
 
 impl Edge {

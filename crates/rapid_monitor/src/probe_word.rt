@@ -1,6 +1,7 @@
 // The word of an edge: its probe window as one number.
 
 ghost use Rattle.std.specs.Prelude.{◌≡◌, ◌++◌, [], ◌∷◌, ◌||◌, List, Bool, nat_le, count_ones, if◌then◌else◌};
+ghost use Rattle.rapid_model.specs.Limits.{down_failures};
 ghost use Rattle.rapid_monitor.specs.ProbeWord.{word_after, is_down_word};
 
 use crate::edge::{FAILURES, WINDOW};
@@ -23,7 +24,7 @@ pub(crate) fn is_down(word: u64) -> bool
 
 /// Whether an edge is down that had this word, and has this window now.
 fn goes_down(word: u64, window: u64) -> bool
-    ensures { result ≡ (is_down_word word || nat_le 4 (count_ones window)) }
+    ensures { result ≡ (is_down_word word || nat_le down_failures (count_ones window)) }
 {
     // down is final: it stays when the failures have left the window
     is_down(word) || window.count_ones() >= u32::from(FAILURES)

@@ -42,8 +42,8 @@ at n p w None new before mid after e h = (h.0, nothing_more n.me w before mid af
 at n p w (Some v) new before mid after e h =
     put n.me w (install n w.state v) (is_history_full n.installed w.state.config) new before mid after e h
 
--- What follows from the state and the decision that work reached, after its own outputs, follows from the work, whatever
--- the phase of the node was.
+-- What follows from the state and the decision that work reached, after its own outputs, follows from the work,
+-- whatever the phase of the node was.
 pub settles : (n : Node) (p : Phase) (w : Work) (s : MemberState) (d : Option Cut) (new : Node) (before mid after : List Output) →
     s ≡ w.state → d ≡ w.decided → mid ≡ before ++ outputs n.me w.effects →
     Continues n.me (settle n (reached s d)) new mid after →

@@ -39,9 +39,6 @@ use std::marker::Model;
 use std::mem;
 use std::sync::Arc;
 
-/// How many views a node installs at most.
-const MOST_VIEWS: usize = 65536;
-
 /// One node of the service: a process that joins, is a member, was removed or has halted. It does
 /// no input or output: it takes events, one [`Node::step`] each, and answers what is to be sent.
 #[derive(Debug, Drop)]
@@ -76,6 +73,9 @@ fn subject_on(rings: &Rings, me: &Process, ring: u8) -> Option<Process>
 }
 
 impl Node {
+    /// How many views a node installs at most.
+    pub const MOST_VIEWS: usize = 65_536;
+
     /// The node of these parts.
     fn of(alloc: Global, me: Process, state: State, past: Past) -> Result<Node, AllocError>
         requires { IsState me past.shown state }
@@ -329,7 +329,7 @@ impl Node {
             self.be_member(member);
             return Ok(());
         };
-        if self.past.installed.as_slice().len() >= MOST_VIEWS
+        if self.past.installed.as_slice().len() >= Node::MOST_VIEWS
             || member.configuration().height() == u64::MAX
         {
             return Err(NodeFault::HistoryFull);

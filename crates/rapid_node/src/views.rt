@@ -1,6 +1,7 @@
 // Views that the nodes of one process share.
 
-ghost use Rattle.std.specs.Prelude.{◌≡◌, ◌<◌, ◌-◌, ◌^◌, [], true, IfOk, IfSome};
+ghost use Rattle.std.specs.Prelude.{◌≡◌, ◌<◌, ◌-◌, ◌^◌, [], true, length, slice_get, IfOk, IfSome};
+ghost use Rattle.std.specs.Option.{option_map};
 ghost use Rattle.std.specs.Arc.{arc_value};
 ghost use Rattle.rapid_model.specs.Apply.{apply};
 ghost use Rattle.rapid_node.specs.Views.{LeadsTo};
@@ -176,6 +177,13 @@ impl Known {
         is_same(&**self.view.configuration(), configuration)
     }
 
+    /// The configuration of the view.
+    fn configuration(&self) -> &Configuration
+        ensures { result.now ≡ self.now }
+    {
+        self.view.configuration()
+    }
+
     /// The view, shared.
     fn share(&self) -> Result<ViewWithRings, AllocError>
         ensures { IfOk result (λ view. view ≡ self.now) }
@@ -214,6 +222,16 @@ impl Views {
             known: Vec::new(alloc),
             most,
             alloc,
+        }
+    }
+
+    /// The configuration of the view that was entered last; none if no view is kept.
+    pub fn newest(&self) -> Option<&Configuration>
+        ensures { option_map (λ c. c.now) result ≡ slice_get self.now (length self.now - 1) }
+    {
+        match self.known.last() {
+            Some(known) => Some(known.configuration()),
+            None => None,
         }
     }
 

@@ -4,6 +4,7 @@ ghost use Rattle.std.specs.List.{find};
 ghost use Rattle.std.specs.Option.{option_map};
 ghost use Rattle.std.specs.FinSet as set;
 ghost use Rattle.rapid_model.specs.Coordinator as model;
+ghost use Rattle.rapid_model.specs.Limits.{most_members};
 ghost use Rattle.rapid_paxos.specs.Reported.{last_of};
 
 use crate::{Ballot, Promise, classic_size};
@@ -97,7 +98,7 @@ fn reported_by(entries: &[(Cut, usize)], enough: usize) -> Option<&Cut>
 impl Coordinator {
     /// The coordinator at `position` among `size` members, at most 1,024; it has begun no ballot.
     pub fn new(alloc: Global, size: usize, position: usize) -> Coordinator
-        requires few { size ≤ 1024 }
+        requires few { size ≤ most_members }
         requires member { position < size }
         ensures { result ≡ model.fresh_coordinator size position }
     {
@@ -190,7 +191,7 @@ impl Coordinator {
     fn report(&mut self, position: usize, vote: &Option<(Ballot, Cut)>) -> Result<(), AllocError>
         requires member { position < self.old.size }
         requires new { set.contains self.old.heard position ≡ false }
-        requires few { set.len self.old.heard ≤ 1024 }
+        requires few { set.len self.old.heard ≤ most_members }
         ensures ok { OnOk result (self.new ≡ model.with_report (record self.old { heard = set.insert self.old.heard position }) (last_of vote.now)) }
         ensures unchanged { OnErr result (self.new ≡ self.old) }
         ensures size { self.new.size ≡ self.old.size }

@@ -1,6 +1,7 @@
 // The learner of one member.
 ghost use Rattle.std.specs.Prelude.{◌≡◌, ◌≤◌, ◌<◌, IfOk, OnOk, OnErr};
 ghost use Rattle.rapid_model.specs.Learner as model;
+ghost use Rattle.rapid_model.specs.Limits.{most_members};
 
 use crate::notices::NoticeSet;
 use crate::{Ballot, classic_size};
@@ -20,6 +21,7 @@ pub struct Learner {
 impl Model for Learner {
     ghost use Rattle.std.specs.Prelude.{◌≤◌};
     ghost use Rattle.rapid_model.specs.Learner.{Learner as ModelLearner};
+    ghost use Rattle.rapid_model.specs.Limits.{most_members};
     ghost use Rattle.rapid_paxos.specs.Codes.{learner_code};
 
     ghost Value = { ModelLearner };
@@ -28,13 +30,13 @@ impl Model for Learner {
 
     ghost view = { λ l. record { size = l.size; notices = l.notices; decided = l.decided } };
 
-    ghost invariant = { λ l. l.size ≤ 1024 };
+    ghost invariant = { λ l. l.size ≤ most_members };
 }
 
 impl Learner {
     /// A learner among `size` members, at most 1,024, that has heard nothing.
     pub fn new(alloc: Global, size: usize) -> Learner
-        requires { size ≤ 1024 }
+        requires { size ≤ most_members }
         ensures { result ≡ model.fresh_learner size }
     {
         Learner {

@@ -3,6 +3,7 @@ ghost use Rattle.std.specs.Prelude.{◌≡◌, ◌≤◌, ◌<◌, IfOk, OnOk, O
 ghost use Rattle.std.specs.FinSet as set;
 ghost use Rattle.std.specs.List.Sorted.{IsSearchInRange, IsBinarySearchResult};
 ghost use Rattle.rapid_model.specs.Learner.{notice_count};
+ghost use Rattle.rapid_model.specs.Limits.{most_members};
 ghost use Rattle.rapid_paxos.specs.Notices.{key_cmp};
 
 use crate::Ballot;
@@ -59,7 +60,7 @@ impl NoticeSet {
 
     /// How many positions give notice of a cut at a ballot, once this one does.
     pub fn count_with(&self, position: usize, ballot: Ballot, cut: &Cut) -> usize
-        requires { position < 1024 }
+        requires { position < most_members }
         ensures { result ≡ notice_count (set.insert self.now ((ballot, cut.now), position)) ballot cut.now }
     {
         match place(&self.entries, ballot, cut) {
@@ -77,7 +78,7 @@ impl NoticeSet {
 
     /// Adds a notice. If out of memory the set is as it was.
     pub fn insert(&mut self, position: usize, ballot: Ballot, cut: &Cut) -> Result<(), AllocError>
-        requires { position < 1024 }
+        requires { position < most_members }
         ensures ok { OnOk result (self.new ≡ set.insert self.old ((ballot, cut.now), position)) }
         ensures unchanged { OnErr result (self.new ≡ self.old) }
     {

@@ -1,6 +1,6 @@
 -- Finite sets of processes: how large they are, and which sets and maps of the program they are.
 use Rattle.std.proofs.Common.{◌≡◌, zero, suc, ◌+◌, ◌-◌, ◌≤◌, Bool, true, false, cond, not, ◌&&◌, ◌||◌, List, [], ◌∷◌, length, refl, sym, ap, subst, ◌∙◌, Some, arith}
-use Rattle.std.specs.List.{list_all, AllByRecursion}
+use Rattle.std.specs.List.{list_all, AllByRecursion, IsDistinct}
 use Rattle.std.specs.List.Sorted.{IsStrictlySortedBy}
 use Rattle.std.specs.declared.cmp.Ordering.{Ordering}
 use Rattle.std.specs.declared.cmp.Ordering.TheVariants.{Less, Equal, Greater}
@@ -11,7 +11,7 @@ use Rattle.std.specs.FinMap as finmap
 use Rattle.std.specs.BTreeMap.{is_at}
 use Rattle.std.specs.Map.{lookup}
 use Rattle.rapid_model.specs.Process.{Process, ProcessSet, process_cmp, same_bytes, is_in}
-use Rattle.std.proofs.lemmas.Map.Keys.{sorted_head, sorted_tail}
+use Rattle.std.proofs.lemmas.Map.Keys.{sorted_head, sorted_tail, IsDistinct-head, IsDistinct-tail}
 use Rattle.rapid_model.specs.Cut.{is_ascending}
 use Rattle.rapid_model.proofs.Orders.{processes_total, processes_exact, same_bytes_decides}
 
@@ -119,6 +119,19 @@ len-sorted [] h = set.len-empty process_cmp
 len-sorted (k ∷ ks) h =
     let new : set.contains (set.from_list {R = process_cmp} ks) k ≡ false = set.contains-from_list processes_total ks k ∙ none_of_sorted k ks (sorted_head process_cmp k ks h) in
     let rest = len-sorted ks (sorted_tail process_cmp k ks h) in
+    let len = set.len-insert processes_total (set.from_list ks) k ∙ ap (λ b. cond b (set.len (set.from_list {R = process_cmp} ks)) (set.len (set.from_list {R = process_cmp} ks) + 1)) new in
+    omega (arith, rest, len)
+
+none_of_apart : (p : Process) (ks : List Process) → AllByRecursion (λ q. same_bytes p q ≡ false) ks → is_in ks p ≡ false
+none_of_apart p [] h = refl
+none_of_apart p (k ∷ ks) h = ap (λ b. b || is_in ks p) h.0 ∙ none_of_apart p ks h.1
+
+-- distinct keys are as many as their set has
+pub len-distinct : (ks : List Process) → IsDistinct same_bytes ks → set.len (set.from_list {R = process_cmp} ks) ≡ length ks
+len-distinct [] h = set.len-empty process_cmp
+len-distinct (k ∷ ks) h =
+    let new : set.contains (set.from_list {R = process_cmp} ks) k ≡ false = set.contains-from_list processes_total ks k ∙ none_of_apart k ks (IsDistinct-head same_bytes k ks h) in
+    let rest = len-distinct ks (IsDistinct-tail same_bytes k ks h) in
     let len = set.len-insert processes_total (set.from_list ks) k ∙ ap (λ b. cond b (set.len (set.from_list {R = process_cmp} ks)) (set.len (set.from_list {R = process_cmp} ks) + 1)) new in
     omega (arith, rest, len)
 

@@ -63,7 +63,8 @@ last_of_three a true c p h = cc
 last_of_three true false true p h = cc
 last_of_three false false true p h = cc
 
--- s comes after the first c seats, and before the others: between the seat with the rank before c, going round, and s is none
+-- s comes after the first c seats, and before the others: between the seat with the rank before c, going round, and s
+-- is none
 pub none_between : (xs : List Seat) (s : Seat) (c : ℕ) (d : Seat) → Ascend xs → 0 < length xs → c ≤ length xs
     → ((k : ℕ) → k < c → is_below (get_or xs k d) s ≡ true) → ((k : ℕ) → c ≤ k → k < length xs → is_below (get_or xs k d) s ≡ false)
     → (q : Seat) → set.contains (set.from_list {R = seat_cmp} xs) q ≡ true → sits_between (get_or xs (rank_before c (length xs)) d) q s ≡ false

@@ -7,8 +7,10 @@
 
 mod edge_key;
 mod edge_map;
+mod known_keys;
 mod observer_table;
 mod places;
+mod process_key;
 mod process_set;
 mod ring;
 mod rings;

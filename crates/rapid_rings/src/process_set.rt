@@ -3,15 +3,16 @@
 ghost use Rattle.std.specs.Prelude.{◌≡◌, not, OnOk, OnErr, IfOk};
 ghost use Rattle.std.specs.FinSet as set;
 
+use crate::process_key::ProcessKey;
 use rapid_endpoint::Process;
 use std::alloc::{AllocError, Global};
-use std::collections::BTreeSet;
+use std::collections::HashSet;
 use std::marker::Model;
 
 /// A set of processes.
 #[derive(Debug, Drop)]
 pub(crate) struct ProcessSet {
-    processes: BTreeSet<Process>,
+    processes: HashSet<ProcessKey>,
 }
 
 impl Model for ProcessSet {
@@ -32,7 +33,7 @@ impl ProcessSet {
         ensures { result ≡ set.empty }
     {
         ProcessSet {
-            processes: BTreeSet::new(alloc),
+            processes: HashSet::new(alloc),
         }
     }
 
@@ -47,7 +48,7 @@ impl ProcessSet {
     pub(crate) fn contains(&self, process: &Process) -> bool
         ensures { result ≡ set.contains self.now process.now }
     {
-        self.processes.contains(process)
+        self.processes.contains(&ProcessKey::new(*process))
     }
 
     /// Adds a process; whether it was new. If out of memory the set is as it was.
@@ -56,13 +57,13 @@ impl ProcessSet {
         ensures added { IfOk result (λ added. added ≡ not (set.contains self.old process)) }
         ensures unchanged { OnErr result (self.new ≡ self.old) }
     {
-        Ok(self.processes.insert(process)?)
+        Ok(self.processes.insert(ProcessKey::new(process))?)
     }
 
     /// Takes a process out, if it is there.
     pub(crate) fn remove(&mut self, process: &Process)
         ensures { self.new ≡ set.remove self.old process.now }
     {
-        self.processes.remove(process);
+        self.processes.remove(&ProcessKey::new(*process));
     }
 }

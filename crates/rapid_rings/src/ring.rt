@@ -10,7 +10,8 @@ ghost use Rattle.rapid_model.specs.Ring as model;
 ghost use Rattle.rapid_rings.specs.Seats.{IsOrder, member_below, place_at, other_at, rank_before, rank_after, member_if_any};
 ghost use Rattle.rapid_rings.specs.Following.{places_of_new};
 
-use crate::seats::{Seat, add_seats, ring_key, seats_at, seats_moved};
+use crate::known_keys::KnownKeys;
+use crate::seats::{Seat, add_seats, seats_at, seats_moved};
 use rapid_endpoint::Process;
 use std::alloc::{AllocError, Global};
 use std::marker::Model;
@@ -47,7 +48,7 @@ impl Ring {
         requires ascend { IsTrue (identifiers_ascend members.now) }
         ensures { IfOk result (λ ring. IsOrder number members.now ring) }
     {
-        let mut seats = seats_at(alloc, number, members, places)?;
+        let mut seats = seats_at(alloc, number, members, places, &KnownKeys::none(alloc))?;
         seats.sort_unstable();
         ranked(alloc, seats, members.len())
     }
@@ -61,6 +62,7 @@ impl Ring {
         members: &[Process],
         places: &[Option<u16>],
         newcomers: &[u16],
+        keys: &KnownKeys,
     ) -> Result<Ring, AllocError>
         requires ascend { IsTrue (identifiers_ascend members.now) }
         requires before { (before : List ModelProcess) × IsOrder number before self.now
@@ -68,7 +70,7 @@ impl Ring {
         ensures { IfOk result (λ ring. IsOrder number members.now ring) }
     {
         let mut seats = seats_moved(alloc, self.seats.as_slice(), places, newcomers.len())?;
-        let more = seats_at(alloc, number, members, newcomers)?;
+        let more = seats_at(alloc, number, members, newcomers, keys)?;
         add_seats(&mut seats, more.as_slice())?;
         ranked(alloc, seats, members.len())
     }
@@ -81,6 +83,7 @@ impl Ring {
         members: &[Process],
         place: Option<usize>,
         process: &Process,
+        keys: &KnownKeys,
     ) -> Option<Process>
         requires order { IsOrder number members.now self.now }
         requires ascend { IsTrue (identifiers_ascend members.now) }
@@ -89,7 +92,7 @@ impl Ring {
     {
         match place {
             Some(place) => member_at(members, self.place_before(place)),
-            None => self.observer_of_stranger(number, members, process),
+            None => self.observer_of_stranger(number, members, process, keys),
         }
     }
 
@@ -109,13 +112,14 @@ impl Ring {
         number: u8,
         members: &[Process],
         process: &Process,
+        keys: &KnownKeys,
     ) -> Option<Process>
         requires order { IsOrder number members.now self.now }
         requires ascend { IsTrue (identifiers_ascend members.now) }
         requires stranger { position (same_bytes process.now) members.now ≡ None }
         ensures { result ≡ model.ring_observer members.now number process.now }
     {
-        let below = self.count_below(members, &(ring_key(number, process), *process));
+        let below = self.count_below(members, &(keys.key(number, process), *process));
         member_at(members, self.place(previous(below, self.count())))
     }
 

@@ -9,6 +9,7 @@ ghost use Rattle.rapid_model.specs.Configuration.{AreMembers, position_of};
 ghost use Rattle.rapid_model.specs.Ring.{observers_of, subject_on, subjects_of};
 
 use crate::ObserverTable;
+use crate::known_keys::KnownKeys;
 use crate::places::{places_below, places_in, places_of_strangers};
 use crate::ring::Ring;
 use rapid_config::{ConfigId, Configuration, Params};
@@ -18,12 +19,14 @@ use std::marker::Model;
 
 /// The rings of a configuration: on each of them the members are ordered by their keys, and each
 /// process is observed by the member next before it, going round. Rings never change: they are
-/// shared by an `Arc`.
+/// shared by an `Arc`. The keys of up to 1,024 processes that are no members are hashed once for all
+/// who share them, and for the rings that follow.
 #[derive(Debug, Drop)]
 pub struct Rings {
     configuration: Configuration,
     // by number
     rings: Vec<Ring>,
+    keys: KnownKeys,
 }
 
 impl Model for Rings {
@@ -51,10 +54,12 @@ impl Rings {
         Ok(Rings {
             configuration: configuration.try_copy(alloc)?,
             rings,
+            keys: KnownKeys::new(alloc, configuration.params().k())?,
         })
     }
 
-    /// The rings of a configuration that follows: keys are computed of newcomers only.
+    /// The rings of a configuration that follows: keys are computed of newcomers only, if they are
+    /// not known yet.
     pub fn next(&self, alloc: Global, configuration: &Configuration) -> Result<Rings, AllocError>
         ensures { IfOk result (λ rings. rings ≡ configuration.now) }
     {
@@ -71,6 +76,7 @@ impl Rings {
         Ok(Rings {
             configuration: configuration.try_copy(alloc)?,
             rings,
+            keys: KnownKeys::new(alloc, params.k())?,
         })
     }
 
@@ -90,7 +96,7 @@ impl Rings {
         ensures { IfOk result (λ ring. IsOrder number members.now ring) }
     {
         match self.rings.get(usize::from(number)) {
-            Some(ring) => ring.next(alloc, number, members, places, newcomers),
+            Some(ring) => ring.next(alloc, number, members, places, newcomers, &self.keys),
             None => {
                 let places = places_below(alloc, members.len())?;
                 Ring::new(alloc, number, members, places.as_slice())
@@ -155,7 +161,13 @@ impl Rings {
         ensures { result ≡ (observers_of self.now).observer ring process.now }
     {
         match self.rings.get(usize::from(ring)) {
-            Some(seats) => seats.observer(ring, self.configuration.members(), place, process),
+            Some(seats) => seats.observer(
+                ring,
+                self.configuration.members(),
+                place,
+                process,
+                &self.keys,
+            ),
             None => None,
         }
     }

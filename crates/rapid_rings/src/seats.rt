@@ -7,6 +7,7 @@ ghost use Rattle.std.specs.Option.{option_map, option_to_list};
 ghost use Rattle.rapid_model.specs.Ring as model;
 ghost use Rattle.rapid_rings.specs.Seats.{placed, placed_cmp, moved, move_to, PlacedAscend};
 
+use crate::known_keys::KnownKeys;
 use rapid_endpoint::Process;
 use sha2::{Digest, Sha256};
 use std::alloc::{AllocError, Global};
@@ -30,12 +31,13 @@ pub(crate) fn ring_key(ring: u8, process: &Process) -> [u8; 32]
     hasher.finalize()
 }
 
-/// The seats of the members at these places.
+/// The seats of the members at these places. Keys that are known are not hashed anew.
 pub(crate) fn seats_at(
     alloc: Global,
     ring: u8,
     members: &[Process],
     places: &[u16],
+    keys: &KnownKeys,
 ) -> Result<Vec<Seat>, AllocError>
     requires { All (λ place. place < length members.now) places.now }
     ensures { IfOk result (λ seats. seats.items ≡ map (placed ring members.now) places.now) }
@@ -43,7 +45,7 @@ pub(crate) fn seats_at(
     let mut seats = Vec::with_capacity(alloc, places.len())?;
     for place in places {
         let member = &members[usize::from(*place)];
-        seats.push((ring_key(ring, member), *place))?;
+        seats.push((keys.key(ring, member), *place))?;
     }
     Ok(seats)
 }

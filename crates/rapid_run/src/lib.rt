@@ -2,9 +2,7 @@
 //! clock, each in threads of their own.
 #![tactic(auto)]
 
-mod arrivals;
 mod polled;
-mod posts;
 mod run;
 mod threads;
 mod until;

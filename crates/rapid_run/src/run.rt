@@ -1,10 +1,8 @@
 // A node, from its options to its end.
 
-use crate::posts::Posts;
-use crate::threads::{Start, Streams, run_threads, tell};
-use rapid_endpoint::Process;
-use rapid_service::{NodeOptions, Post, RunningFault, Service, Shared, identify};
-use rapid_transport::{ListenError, Peers, SenderEnd};
+use crate::threads::{Streams, run_threads, tell};
+use rapid_agent::Agent;
+use rapid_service::{NodeOptions, RunningFault};
 use std::alloc::Global;
 use std::io::{Read, Write};
 use std::net::{Net, TcpListener, TcpStream};
@@ -12,78 +10,7 @@ use std::random::RandomSource;
 use std::sync::Wait;
 use std::sync::atomic::{AtomicBool, Ordering};
 use std::thread::Threads;
-use std::time::{Clock, Duration};
-
-/// Listens at the endpoint of the node.
-fn listen<R>(
-    rt: &R,
-    alloc: Global,
-    options: &NodeOptions,
-) -> Result<(Peers, Vec<SenderEnd>), RunningFault>
-where
-    R: Net<Listener = TcpListener, Stream = TcpStream>,
-{
-    match Peers::listen(rt, alloc, options.listen) {
-        Ok(heard) => Ok(heard),
-        Err(ListenError::NoPort) => Err(RunningFault::NoPort),
-        Err(ListenError::OutOfMemory) => Err(RunningFault::OutOfMemory),
-    }
-}
-
-/// The service of a process that founds a cluster or joins one.
-fn open<'a, 'b, R: Wait>(
-    rt: &'a R,
-    alloc: Global,
-    options: &NodeOptions,
-    me: Process,
-    peers: &'b Peers,
-) -> Result<Service<&'a R, Posts<'b>>, RunningFault> {
-    let posts = Posts { peers };
-    match options.join {
-        None => Service::found(rt, alloc, options.params, me, posts),
-        Some(seed) => Service::join(rt, alloc, me, seed, posts),
-    }
-}
-
-/// Prints the view with which the node begins, if there is one.
-fn print_first<O: Write>(lines: &[u8], writer: &mut O) -> Result<(), RunningFault> {
-    if writer.write_all(lines).is_err() || writer.flush().is_err() {
-        return Err(RunningFault::Write);
-    }
-    Ok(())
-}
-
-/// Runs the node of a service until it ends. The view with which it begins is printed first.
-fn serve<W, R, P, I, O, E>(
-    rt: &W,
-    start: Start,
-    peers: &Peers,
-    mut service: Service<R, P>,
-    streams: Streams<&mut I, &mut O, &mut E>,
-    told: &AtomicBool,
-) -> Result<(), RunningFault>
-where
-    W: Net<Listener = TcpListener, Stream = TcpStream> + Threads + Wait + Clock + Sync,
-    R: Wait + Copy + Drop + Send + Sync,
-    P: Post + Drop + Send + Sync,
-    I: Read + Send,
-    O: Write + Send,
-    E: Write + Send,
-{
-    let Streams {
-        reader,
-        writer,
-        err,
-    } = streams;
-    print_first(service.take_lines().as_slice(), writer)?;
-    let shared = Shared::new(start.alloc, service, start.probers)?;
-    let streams = Streams {
-        reader: &mut *reader,
-        writer: &mut *writer,
-        err: &mut *err,
-    };
-    run_threads(rt, start, peers, &shared, streams, told)
-}
+use std::time::Clock;
 
 /// Runs a node until it ends. If a fault was reported meanwhile, `told` is true then.
 fn run<R, S, I, O, E>(
@@ -101,19 +28,23 @@ where
     O: Write + Send,
     E: Write + Send,
 {
-    let id = identify(options.id, source)?;
-    let me = Process::new(id, options.listen);
-    let (peers, ends) = listen(rt, alloc, &options)?;
-    let start = Start {
+    let agent = Agent::open_printing(rt, alloc, &options, source)?;
+    let Streams {
+        reader,
+        writer,
+        err,
+    } = streams;
+    run_threads(
+        rt,
         alloc,
-        ends,
-        period: Duration::from_millis(u64::from(options.tick_ms)),
-        probers: options.probers.min(16),
-    };
-    match open(rt, alloc, &options, me, &peers) {
-        Ok(service) => serve(rt, start, &peers, service, streams, told),
-        Err(fault) => Err(fault),
-    }
+        &agent,
+        Streams {
+            reader,
+            writer,
+            err,
+        },
+        told,
+    )
 }
 
 /// Runs a node over loopback TCP until it ends: by the line `quit`, at the end of the input, or by

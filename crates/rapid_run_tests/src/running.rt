@@ -1,5 +1,7 @@
 // Tests of running nodes.
 
+mod agents;
+mod changes;
 mod clusters;
 mod consoles;
 mod devices;

@@ -5,13 +5,13 @@ use Rattle.std.specs.FinSet as set
 use Rattle.rapid_safety.proofs.Values.{Process, Cut, Configuration, configuration_id, position_of, classic_size, Ballot, Vote, Message, Prepare, Promise, Accept}
 use Rattle.rapid_safety.proofs.Parts.{Coordinator, last_round, next_round, next_ballot, is_ballot, begun, counts_promise, after_report, accept_cut}
 use Rattle.rapid_safety.proofs.Working.{MemberState, Others, Says, Proposes, fresh_member, place, current_id}
-use Rattle.rapid_safety.proofs.Worlds.{Act, Did, World, Entry, AsksOnce}
+use Rattle.rapid_safety.proofs.Worlds.{Act, Did, Entry}
 use Rattle.rapid_agreement.specs.Asking.{Report, after_promises}
 use Rattle.rapid_agreement.proofs.Promises.{ignored, taken, size_kept}
 use Rattle.rapid_agreement.proofs.Asking.{completes}
 use Rattle.rapid_safety.proofs.Atoms.{push, message, taken_in, Atom, marks, begins, proposes, hears_promise, asks, Lives, enters, does, leaves, atom_config, atom_me, lives_config, lives_me, lives_placed}
-use Rattle.rapid_safety.proofs.Voting.{Said, body_of, said_body, mark_body, batch_open, taken_more, VoteKept, lives_vote, said_in}
-use Rattle.rapid_safety.proofs.Histories.{acts_at, PastLife, was_not, was, Lived}
+use Rattle.rapid_safety.proofs.Voting.{Said, body_of, said_body, mark_body, batch_open, taken_more, VoteKept, lives_vote}
+use Rattle.rapid_safety.proofs.Histories.{acts_at, PastLife, was_not, was}
 use Rattle.rapid_safety.proofs.Members.{one_place}
 
 -- a promise, and who gave it
@@ -309,9 +309,3 @@ pub asked_once : (log : List Entry) (p q : Process) (c : Configuration) (b : Bal
 asked_once log p q c b v u l m h g =
     let same : q ≡ p = one_place q p c.members b.position (asks_at_place log q c b u m g) (asks_at_place log p c b v l h) in
     (asks_of log p c l).once b v u h (subst (λ x. Said (acts_at log x c) (Accept (configuration_id c) b u)) same g)
-
-pub asks_once : (w : World) → Lived w → AsksOnce w
-asks_once w lived c p q b v u h g =
-    let x = said_in w c p _ h in
-    let y = said_in w c q _ g in
-    asked_once w.log p q c b v u (life_of w.log p c _ (lived.past p c) x) (life_of w.log q c _ (lived.past q c) y) x y

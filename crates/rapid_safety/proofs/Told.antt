@@ -359,7 +359,8 @@ told_by n (Halted c) (Receive m) o at h = from_questions n (idle n) o tt (subst 
 pub step_tells : (n : Node) (e : Event) (o : Outcome) → node_step n e ≡ Some o → AllSay (IsTold n o) o.effects
 step_tells n e o = told_by n n.phase e o refl
 
--- ---- what is told in a run: a Confirm names what its sender installed, and a Decision what its sender left, by its cut
+-- ---- what is told in a run: a Confirm names what its sender installed, and a Decision what its sender left, by its
+-- cut
 
 -- ---- Confirms
 

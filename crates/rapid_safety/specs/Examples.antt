@@ -41,8 +41,8 @@ guest_asks =
     happens (Start guest (endpoint host)) ∷ happens (Tick (identifier guest)) ∷ happens (Deliver 1) ∷ happens (Deliver 2)
     ∷ happens (Deliver 3) ∷ happens (Tick (identifier host)) ∷ []
 
--- The other votes too. The host hears its vote and decides; the vote comes once more, and is answered with the decision, by
--- which the other decides. Last, the guest hears its Confirm.
+-- The other votes too. The host hears its vote and decides; the vote comes once more, and is answered with the
+-- decision, by which the other decides. Last, the guest hears its Confirm.
 abbrev pub guest_run : List MarkedEvent
 guest_run =
     guest_asks
@@ -52,8 +52,9 @@ guest_run =
 abbrev pub second_ballot : Ballot
 second_ballot = record { round = 2; position = 0 }
 
--- The other hears the host's vote and never its batch, so that it has nothing to vote for. At its twentieth tick it begins a
--- classic ballot, asks for the cut for which the host voted, and both accept it. Each decides by the other's notice.
+-- The other hears the host's vote and never its batch, so that it has nothing to vote for. At its twentieth tick it
+-- begins a classic ballot, asks for the cut for which the host voted, and both accept it. Each decides by the other's
+-- notice.
 abbrev pub recovered_run : List MarkedEvent
 recovered_run =
     guest_asks ++ happens (Deliver 5) ∷ replicate 20 (happens (Tick (identifier other)))

@@ -11,7 +11,8 @@ use Rattle.rapid_model.specs.History.{Sent, Received, acts_in}
 use Rattle.rapid_model.specs.Chosen.{Chosen}
 use Rattle.rapid_safety.specs.Evidence.{Evidence}
 
--- Why a configuration was installed: it is the founding one, it was confirmed to a joiner, or a member left by a cut for which it had evidence.
+-- Why a configuration was installed: it is the founding one, it was confirmed to a joiner, or a member left by a cut
+-- for which it had evidence.
 pub data HasGrounds (w : World) (e : Entry) (d : Configuration) : Type 0 where
   founds : e.at ≡ None → d ≡ w.founding → HasGrounds w e d
   joins : e.at ≡ None → (p : Process) → Sent w p (Confirm d) → IsTrue (is_member d e.who) → HasGrounds w e d

@@ -8,3 +8,6 @@ pub mod Remembering
 pub mod Asking
 pub mod PartRounds
 pub mod Stepping
+pub mod Endings
+pub mod NoteText
+pub mod Edges

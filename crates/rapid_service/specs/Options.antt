@@ -1,11 +1,12 @@
 -- Clauses of public calls cite this file.
--- What the words of `node` are read as.
+-- What the words of `node` are read as, and what its options are if nothing is said.
 use Rattle.std.specs.Prelude.{◌≡◌, if◌then◌else◌, Option, Some, None, Result, Ok, Err}
 use Rattle.rapid_model.specs.Bytes.{Identifier, Endpoint, Text}
 use Rattle.rapid_model.specs.Configuration.{Params, AreParams}
 use Rattle.rapid_endpoint.specs.Texts.{endpoint_from, identifier_from}
 use Rattle.rapid_endpoint.specs.declared.parse_error.ParseError.{ParseError}
 use Rattle.rapid_transport.specs.Local.{is_local}
+use Rattle.rapid_service.specs.declared.options.NodeOptions.{NodeOptions}
 use Rattle.rapid_service.specs.declared.options.OptionsError.{OptionsError}
 use Rattle.rapid_service.specs.declared.options.OptionsError.TheVariants.{BadParams, Unreadable, NotLocal}
 
@@ -63,3 +64,7 @@ pub record AreRead (listen : Text) (join id : Option Text) (place : Endpoint) (s
   pub listens : local_from listen ≡ Ok place
   pub joins : endpoint_of join ≡ Ok seed
   pub goes_by : identifier_of id ≡ Ok identifier
+
+-- The options of a node at this endpoint of which nothing else is said.
+abbrev pub options_at : Endpoint → NodeOptions
+options_at e = record { listen = e; id = None; join = None; params = record { k = 10; h = 9; l = 3 }; tick_ms = 100; probers = 1 }

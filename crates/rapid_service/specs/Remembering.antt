@@ -25,7 +25,8 @@ pub record IsPlaced (c : Configuration) (of_members : Bool) (e : (Process × Kin
   pub member : of_members ≡ true → is_member c e.0.0 ≡ true
 
 -- In this configuration, which was entered this many ticks ago, these messages were let through. All that is kept is of
--- these and stands in its place, and it is at most a batch and a fast vote of each member, and 4,096 messages of others.
+-- these and stands in its place, and it is at most a batch and a fast vote of each member, and 4,096 messages of
+-- others.
 pub record Remembers (r : Filter) (c : Configuration) (now : ℕ) (passed : List Passed) : Type 0 where
   pub configuration : r.configuration ≡ c
   pub ticks : r.ticks ≡ now

@@ -1,9 +1,12 @@
 // What is printed, as whole lines.
 
-ghost use Rattle.std.specs.Prelude.{◌≡◌, ◌⊎◌, ◌+◌, ◌≤◌, ◌<◌, ◌++◌, length, nat_le, IfErr, OnOk, OnErr};
+ghost use Rattle.std.specs.Prelude.{◌≡◌, ◌⊎◌, ◌+◌, ◌≤◌, ◌<◌, ◌==◌, ◌&&◌, ◌++◌, [], true, false, not, length, vec_len, nat_le, if◌then◌else◌, IfErr, IfSome, IfNone, OnOk, OnErr};
+ghost use Rattle.std.specs.Io.KnownBytes.{Appends};
+ghost use Rattle.rapid_text.specs.Underway.{AppendsFront};
 ghost use Rattle.rapid_service.specs.declared.fault.RunningFault.TheVariants.{OutOfMemory, Write as CannotWrite};
 
 use crate::fault::RunningFault;
+use rapid_text::write_text;
 use std::alloc::Global;
 use std::io::Write;
 use std::mem;
@@ -26,6 +29,7 @@ pub struct Console {
 struct Pending {
     lines: Vec<u8>,
     closed: bool,
+    ghost few: { vec_len lines ≤ 1048576 },
 }
 
 /// Whether lines of this length may wait beside those that wait.
@@ -36,13 +40,26 @@ fn has_room(waiting: usize, added: usize) -> bool
 }
 
 impl Pending {
-    /// Adds lines, if there is room for them.
+    /// Nothing waits, and more may come.
+    fn new(alloc: Global) -> Pending
+        ensures { (result.lines.items ≡ []) × (result.closed ≡ false) }
+    {
+        Pending {
+            lines: Vec::new(alloc),
+            closed: false,
+        }
+    }
+
+    /// Adds lines, if no end was told and there is room for them.
     fn add(&mut self, lines: &[u8]) -> Result<(), RunningFault>
-        ensures waits { OnOk result ((self.new.lines.items ≡ self.old.lines.items ++ lines.now) × (length self.new.lines.items ≤ 1048576)) }
-        ensures refused { IfErr result (λ e. ((e ≡ CannotWrite) × (1048576 < length self.old.lines.items + length lines.now)) ⊎ (e ≡ OutOfMemory)) }
+        ensures waits { OnOk result (self.new.lines.items ≡ (if self.old.closed then self.old.lines.items else self.old.lines.items ++ lines.now)) }
+        ensures refused { IfErr result (λ e. (self.old.closed ≡ false) × (((e ≡ CannotWrite) × (1048576 < length self.old.lines.items + length lines.now)) ⊎ (e ≡ OutOfMemory))) }
         ensures unchanged { OnErr result (self.new.lines.items ≡ self.old.lines.items) }
         ensures open { self.new.closed ≡ self.old.closed }
     {
+        if self.closed {
+            return Ok(());
+        }
         if !has_room(self.lines.len(), lines.len()) {
             return Err(RunningFault::Write);
         }
@@ -52,10 +69,40 @@ impl Pending {
         }
     }
 
-    /// Takes the lines out.
-    fn take(&mut self, alloc: Global) -> Vec<u8> {
-        mem::replace(&mut self.lines, Vec::new(alloc))
+    /// No more lines come.
+    fn close(&mut self)
+        ensures { (self.new.lines.items ≡ self.old.lines.items) × (self.new.closed ≡ true) }
+    {
+        self.closed = true;
     }
+
+    /// Whether who prints waits: there are no lines, and more may come.
+    fn is_idle(&self) -> bool
+        ensures { result ≡ ((vec_len self.now.lines == 0) && not self.now.closed) }
+    {
+        self.lines.is_empty() && !self.closed
+    }
+
+    /// Takes the lines out, if there are any.
+    fn take(&mut self, alloc: Global) -> Option<Vec<u8>>
+        ensures all { IfSome result (λ lines. (lines.items ≡ self.old.lines.items) × (0 < vec_len lines) × (vec_len lines ≤ 1048576)) }
+        ensures none { IfNone result (self.old.lines.items ≡ []) }
+        ensures rest { self.new.lines.items ≡ [] }
+        ensures open { self.new.closed ≡ self.old.closed }
+    {
+        if self.lines.is_empty() {
+            return None;
+        }
+        Some(mem::replace(&mut self.lines, Vec::new(alloc)))
+    }
+}
+
+/// Prints lines; whether all could be written.
+fn print_all<W: Write>(writer: &mut W, lines: &[u8]) -> bool
+    ensures all { result ≡ true → Appends (W.contents writer.old) (W.contents writer.new) lines.now }
+    ensures begun { result ≡ false → AppendsFront (W.contents writer.old) (W.contents writer.new) lines.now }
+{
+    write_text(writer, lines).is_ok()
 }
 
 impl Console {
@@ -63,10 +110,7 @@ impl Console {
     pub fn new(alloc: Global) -> Console {
         Console {
             alloc,
-            pending: Mutex::new(Pending {
-                lines: Vec::new(alloc),
-                closed: false,
-            }),
+            pending: Mutex::new(Pending::new(alloc)),
             changed: Condvar::new(),
         }
     }
@@ -78,9 +122,7 @@ impl Console {
             return Ok(());
         }
         let mut pending = self.pending.lock(rt);
-        if !pending.closed {
-            pending.add(lines)?;
-        }
+        pending.add(lines)?;
         drop(pending);
         self.changed.notify_all();
         Ok(())
@@ -89,21 +131,20 @@ impl Console {
     /// No more lines come. What was added is still printed.
     pub fn close<R: Wait>(&self, rt: &R) {
         let mut pending = self.pending.lock(rt);
-        pending.closed = true;
+        pending.close();
         drop(pending);
         self.changed.notify_all();
     }
 
     /// Waits for lines, and takes them; none if no more come.
-    fn next<R: Wait>(&self, rt: &R) -> Option<Vec<u8>> {
+    fn next<R: Wait>(&self, rt: &R) -> Option<Vec<u8>>
+        ensures { IfSome result (λ lines. (0 < vec_len lines) × (vec_len lines ≤ 1048576)) }
+    {
         let pending = self.pending.lock(rt);
-        let mut pending = self.changed.wait_while(rt, pending, |pending| {
-            pending.lines.is_empty() && !pending.closed
-        });
-        if pending.lines.is_empty() {
-            return None;
-        }
-        Some(pending.take(self.alloc))
+        let mut pending = self
+            .changed
+            .wait_while(rt, pending, |pending| pending.is_idle());
+        pending.take(self.alloc)
     }
 
     /// Prints the lines as they are added, until the console is closed; whether all could be
@@ -113,7 +154,7 @@ impl Console {
             let Some(lines) = self.next(rt) else {
                 return true;
             };
-            if writer.write_all(lines.as_slice()).is_err() || writer.flush().is_err() {
+            if !print_all(writer, lines.as_slice()) {
                 return false;
             }
         }

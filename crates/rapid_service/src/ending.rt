@@ -1,5 +1,8 @@
 // The end of a node.
 
+ghost use Rattle.std.specs.Prelude.{◌≡◌, Some, None, IfErr, OnOk};
+ghost use Rattle.rapid_service.specs.Endings.{ended_by, has_ended, fault_in};
+
 use crate::fault::RunningFault;
 use std::sync::{Condvar, Mutex, Wait};
 use std::time::{Clock, Duration};
@@ -11,6 +14,38 @@ enum State {
     Running,
     /// It ends, by a fault or as it was told to.
     Ending(Option<RunningFault>),
+}
+
+impl State {
+    /// Ends the node. The first that ends it says why.
+    fn end(&mut self, fault: Option<RunningFault>)
+        ensures { self.new ≡ ended_by self.old fault }
+    {
+        if let State::Running = *self {
+            *self = State::Ending(fault);
+        }
+    }
+
+    /// Whether the node ends.
+    fn has_ended(self) -> bool
+        ensures { result ≡ has_ended self }
+    {
+        match self {
+            State::Running => false,
+            State::Ending(_) => true,
+        }
+    }
+
+    /// The fault by which the node ends, if any.
+    fn outcome(self) -> Result<(), RunningFault>
+        ensures ok { OnOk result (fault_in self ≡ None) }
+        ensures fault { IfErr result (λ fault. fault_in self ≡ Some fault) }
+    {
+        match self {
+            State::Running | State::Ending(None) => Ok(()),
+            State::Ending(Some(fault)) => Err(fault),
+        }
+    }
 }
 
 /// Whether a node goes on, and why it ends: the threads of a node share it.
@@ -32,9 +67,7 @@ impl Ending {
     /// Ends the node, by a fault or as it was told to. The first that ends it says why.
     pub fn end<R: Wait>(&self, rt: &R, fault: Option<RunningFault>) {
         let mut state = self.state.lock(rt);
-        if let State::Running = *state {
-            *state = State::Ending(fault);
-        }
+        state.end(fault);
         drop(state);
         self.changed.notify_all();
     }
@@ -42,10 +75,7 @@ impl Ending {
     /// Whether the node ends.
     pub fn has_come<R: Wait>(&self, rt: &R) -> bool {
         let state = self.state.lock(rt);
-        match *state {
-            State::Running => false,
-            State::Ending(_) => true,
-        }
+        state.has_ended()
     }
 
     /// Waits until the node ends, at most this long; the answer is whether it ends.
@@ -53,32 +83,22 @@ impl Ending {
         let state = self.state.lock(rt);
         let (state, _) = self
             .changed
-            .wait_timeout_while(rt, state, duration, |state| match *state {
-                State::Running => true,
-                State::Ending(_) => false,
-            });
-        match *state {
-            State::Running => false,
-            State::Ending(_) => true,
-        }
+            .wait_timeout_while(rt, state, duration, |state| !state.has_ended());
+        state.has_ended()
     }
 
     /// Waits until the node ends.
     pub fn await_it<R: Wait>(&self, rt: &R) {
         let state = self.state.lock(rt);
-        let state = self.changed.wait_while(rt, state, |state| match *state {
-            State::Running => true,
-            State::Ending(_) => false,
-        });
+        let state = self
+            .changed
+            .wait_while(rt, state, |state| !state.has_ended());
         drop(state);
     }
 
     /// Why the node ended.
     pub fn outcome<R: Wait>(&self, rt: &R) -> Result<(), RunningFault> {
         let state = self.state.lock(rt);
-        match *state {
-            State::Running | State::Ending(None) => Ok(()),
-            State::Ending(Some(fault)) => Err(fault),
-        }
+        state.outcome()
     }
 }

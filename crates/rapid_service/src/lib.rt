@@ -2,6 +2,7 @@
 #![tactic(auto)]
 
 mod asking;
+mod bell;
 mod command;
 mod console;
 mod dealer;
@@ -26,6 +27,7 @@ mod shared;
 mod ticker;
 mod view_text;
 
+pub use bell::Bell;
 pub use command::{Asked, Command, read_line};
 pub use console::Console;
 pub use dealer::Dealer;

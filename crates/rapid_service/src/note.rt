@@ -1,11 +1,11 @@
 // What a node reports while it goes on, beside its views.
 
-ghost use Rattle.std.specs.Prelude.{◌≡◌, ◌⊎◌, ◌≤◌, ◌++◌, [], ◌∷◌, vec_len};
+ghost use Rattle.std.specs.Prelude.{◌≡◌, ◌≤◌, ◌++◌, [], ◌∷◌, Some, vec_len, nat_le, if◌then◌else◌, OnOk, OnErr};
 ghost use Rattle.rapid_service.specs.Asking.{answer_of};
 
 use rapid_endpoint::Endpoint;
 use rapid_join::Reply;
-use std::alloc::Global;
+use std::alloc::{AllocError, Global};
 use std::{fmt, mem};
 
 /// How many notes wait at most.
@@ -41,6 +41,10 @@ impl Answer {
 }
 
 impl fmt::Display for Answer {
+    ghost use Rattle.rapid_service.specs.NoteText.{answer_text};
+
+    ghost output = { λ answer. Some (answer_text answer) };
+
     fn fmt<W: fmt::Write>(&self, f: &mut fmt::Formatter<W>) -> fmt::Result {
         f.write_str(match self {
             Answer::Nothing => "none; see that a member runs there",
@@ -73,6 +77,10 @@ pub enum Note {
 }
 
 impl fmt::Display for Note {
+    ghost use Rattle.rapid_service.specs.NoteText.{note_text};
+
+    ghost output = { λ note. Some (note_text note) };
+
     fn fmt<W: fmt::Write>(&self, f: &mut fmt::Formatter<W>) -> fmt::Result {
         match self {
             Note::InVain(asked) => {
@@ -113,13 +121,19 @@ impl Notes {
         }
     }
 
-    /// Adds a note; not if 64 wait, or there is no memory for it.
-    pub(crate) fn add(&mut self, note: Note)
-        ensures { (self.new.waiting.items ≡ self.old.waiting.items ++ note ∷ []) ⊎ (self.new.waiting.items ≡ self.old.waiting.items) }
+    /// Adds a note behind those that wait, unless 64 do.
+    ///
+    /// # Errors
+    ///
+    /// There is no memory for it: it is not added.
+    pub(crate) fn add(&mut self, note: Note) -> Result<(), AllocError>
+        ensures added { OnOk result (self.new.waiting.items ≡ (if nat_le 64 (vec_len self.old.waiting) then self.old.waiting.items else self.old.waiting.items ++ note ∷ [])) }
+        ensures unchanged { OnErr result (self.new.waiting.items ≡ self.old.waiting.items) }
     {
         if self.waiting.len() < MOST_NOTES {
-            let _ = self.waiting.push(note);
+            self.waiting.push(note)?;
         }
+        Ok(())
     }
 
     /// Takes out the notes that wait, from the oldest on.

@@ -1,7 +1,9 @@
 // The members that a node observes in its current view.
 
-ghost use Rattle.std.specs.Prelude.{◌≡◌, ◌<◌, IfOk};
+ghost use Rattle.std.specs.Prelude.{◌≡◌, ◌<◌, List, map, vec_len, Some, false, IfOk};
 ghost use Rattle.rapid_model.specs.Ring.{subjects_of};
+ghost use Rattle.rapid_monitor.specs.Boards.{Owned};
+ghost use Rattle.rapid_service.specs.Edges.{IsBoard};
 
 use crate::edge_text::EdgeState;
 use crate::fault::RunningFault;
@@ -30,7 +32,9 @@ pub struct ObservedEdges {
 }
 
 /// The seats, each to be taken by itself.
-fn loose(alloc: Global, seats: Vec<EdgeSeat>) -> Result<Vec<Option<EdgeSeat>>, AllocError> {
+fn loose(alloc: Global, seats: Vec<EdgeSeat>) -> Result<Vec<Option<EdgeSeat>>, AllocError>
+    ensures { IfOk result (λ loose. loose.items ≡ map Some seats.items) }
+{
     let mut loose = Vec::with_capacity(alloc, seats.len())?;
     for seat in seats {
         loose.push(Some(seat))?;
@@ -39,7 +43,9 @@ fn loose(alloc: Global, seats: Vec<EdgeSeat>) -> Result<Vec<Option<EdgeSeat>>, A
 }
 
 /// A board of this many edges, and a seat for each; no board if there are no edges.
-fn board_of(alloc: Global, edges: usize) -> Result<(Option<EdgeBoard>, Vec<EdgeSeat>), AllocError> {
+fn board_of(alloc: Global, edges: usize) -> Result<(Option<EdgeBoard>, Vec<EdgeSeat>), AllocError>
+    ensures { IfOk result (λ made. IsBoard edges made.0 made.1.items) }
+{
     match EdgeBoard::new(alloc, edges, 1) {
         Ok((mut boards, seats)) => Ok((boards.pop(), seats)),
         // There are at most 16 edges, so only a board without edges is refused.
@@ -55,7 +61,8 @@ impl ObservedEdges {
         configuration: &Configuration,
         me: &Process,
     ) -> Result<ObservedEdges, AllocError>
-        ensures { IfOk result (λ w. w.edges.items ≡ subjects_of configuration.now me.now) }
+        ensures edges { IfOk result (λ w. w.edges.items ≡ subjects_of configuration.now me.now) }
+        ensures made { IfOk result (λ w. (w.rings ≡ configuration.now) × (w.me ≡ me.now) × (w.parted ≡ false)) }
     {
         let rings = Rings::new(alloc, configuration)?;
         ObservedEdges::over(alloc, rings, me)
@@ -64,7 +71,8 @@ impl ObservedEdges {
     /// Of the process in a configuration that follows. The rings are made of the current ones, so
     /// keys are hashed for newcomers only.
     pub fn next(&self, configuration: &Configuration) -> Result<ObservedEdges, AllocError>
-        ensures { IfOk result (λ w. w.edges.items ≡ subjects_of configuration.now self.now.me) }
+        ensures edges { IfOk result (λ w. w.edges.items ≡ subjects_of configuration.now self.now.me) }
+        ensures made { IfOk result (λ w. (w.rings ≡ configuration.now) × (w.me ≡ self.now.me) × (w.parted ≡ false)) }
     {
         let rings = self.rings.next(self.alloc, configuration)?;
         ObservedEdges::over(self.alloc, rings, &self.me)
@@ -72,7 +80,9 @@ impl ObservedEdges {
 
     /// Of a process in the configuration of these rings.
     fn over(alloc: Global, rings: Rings, me: &Process) -> Result<ObservedEdges, AllocError>
-        ensures { IfOk result (λ w. w.edges.items ≡ subjects_of rings me.now) }
+        ensures edges { IfOk result (λ w. w.edges.items ≡ subjects_of rings me.now) }
+        ensures made { IfOk result (λ w. (w.rings ≡ rings) × (w.me ≡ me.now) × (w.parted ≡ false)) }
+        ensures seats { IfOk result (λ w. (seats : List Owned) × IsBoard (vec_len w.edges) w.board seats × (w.seats.items ≡ map Some seats)) }
     {
         let edges = rings.subjects_of(alloc, me)?;
         let (board, seats) = board_of(alloc, edges.len())?;

@@ -1,13 +1,19 @@
 // What the words of `node` ask for.
 
-ghost use Rattle.std.specs.Prelude.{◌≡◌, IfOk, IfErr, OnOk, Ok, Err};
+ghost use Rattle.std.specs.Prelude.{◌≡◌, true, IfOk, IfErr, OnOk, Ok, Err, None, Some};
+ghost use Rattle.std.specs.Result.{OkIff};
 ghost use Rattle.std.specs.Option.{option_map};
-ghost use Rattle.rapid_service.specs.Options.{local_from, identifier_of, endpoint_of, IsRefusal, AreRead};
+ghost use Rattle.rapid_service.specs.Options.{local_from, identifier_of, endpoint_of, IsRefusal, AreRead, options_at};
+ghost use Rattle.rapid_service.specs.declared.options.OptionsError.TheVariants.{NotLocal};
+ghost use Rattle.rapid_transport.specs.Local.{is_local};
 
 use rapid_config::Params;
 use rapid_endpoint::{Endpoint, ParseError, ProcessId};
 use rapid_transport::is_local;
 use thiserror::Error;
+
+/// How many milliseconds lie between two ticks if it is not said.
+const DEFAULT_TICK_MS: u16 = 100;
 
 /// The values of the options of `node`. The numbers are in their ranges.
 #[derive(Clone, Copy, Debug)]
@@ -59,6 +65,85 @@ pub enum OptionsError {
     /// An endpoint is not 127.x.x.x with a port from 1.
     #[error("an endpoint is not 127.x.x.x with a port from 1")]
     NotLocal,
+}
+
+impl NodeOptions {
+    /// The options of a node at this endpoint. It founds a cluster with K = 10, H = 9 and L = 3, draws
+    /// its identifier, ticks every 100 milliseconds and probes in one thread, unless they are told
+    /// otherwise.
+    ///
+    /// # Errors
+    ///
+    /// `NotLocal` if the endpoint is not 127.x.x.x with a port from 1.
+    pub fn at(listen: Endpoint) -> Result<NodeOptions, OptionsError>
+        ensures ok { OkIff result (is_local listen ≡ true) (options_at listen) }
+        ensures refused { IfErr result (λ e. e ≡ NotLocal) }
+    {
+        let Ok(params) = Params::new(10, 9, 3) else {
+            unreachable!()
+        };
+        if !is_local(listen) {
+            return Err(OptionsError::NotLocal);
+        }
+        Ok(NodeOptions {
+            listen,
+            id: None,
+            join: None,
+            params,
+            tick_ms: DEFAULT_TICK_MS,
+            probers: 1,
+        })
+    }
+
+    /// The node joins a cluster by the member at this endpoint, in place of founding one.
+    ///
+    /// # Errors
+    ///
+    /// `NotLocal` if the endpoint is not 127.x.x.x with a port from 1.
+    pub fn join(self, seed: Endpoint) -> Result<NodeOptions, OptionsError>
+        ensures ok { OkIff result (is_local seed ≡ true) (record self { join = Some seed }) }
+        ensures refused { IfErr result (λ e. e ≡ NotLocal) }
+    {
+        if !is_local(seed) {
+            return Err(OptionsError::NotLocal);
+        }
+        Ok(NodeOptions {
+            join: Some(seed),
+            ..self
+        })
+    }
+
+    /// The node has this identifier, which no node had before.
+    pub fn identifier(self, id: ProcessId) -> NodeOptions
+        ensures { result ≡ record self { id = Some id } }
+    {
+        NodeOptions {
+            id: Some(id),
+            ..self
+        }
+    }
+
+    /// A cluster that the node founds has this K, H and L.
+    pub fn params(self, params: Params) -> NodeOptions
+        ensures { result ≡ record self { params = params } }
+    {
+        NodeOptions { params, ..self }
+    }
+
+    /// So many milliseconds lie between two ticks of the node; at 0 nothing ticks it. All nodes of a
+    /// cluster have the same number.
+    pub fn tick_ms(self, tick_ms: u16) -> NodeOptions
+        ensures { result ≡ record self { tick_ms = tick_ms } }
+    {
+        NodeOptions { tick_ms, ..self }
+    }
+
+    /// So many threads probe the observed members, 1 to 16.
+    pub fn probers(self, probers: u8) -> NodeOptions
+        ensures { result ≡ record self { probers = probers } }
+    {
+        NodeOptions { probers, ..self }
+    }
 }
 
 /// The endpoint that a text spells, if a node can be at it.

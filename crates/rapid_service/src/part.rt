@@ -1,6 +1,6 @@
 // A part of the probes of a node, and what a round of it asks for.
 
-ghost use Rattle.std.specs.Prelude.{◌≡◌, ℕ, Bool, true, List, [], ◌∷◌, length, vec_len, slice_set, Some, IfSome, IfOk, OnOk};
+ghost use Rattle.std.specs.Prelude.{◌≡◌, ◌≢◌, ℕ, Bool, true, List, [], ◌∷◌, length, vec_len, slice_set, Some, IfSome, IfNone, IfOk, OnOk};
 ghost use Rattle.rapid_model.specs.Process.{Process as ModelProcess};
 ghost use Rattle.rapid_monitor.specs.Probes.{book_when, round_when, all_judged, all_told};
 ghost use Rattle.rapid_service.specs.PartRounds.{blank_round, with_probe, with_down};
@@ -66,7 +66,8 @@ impl Part {
     /// A part in the configuration with this identifier; none if there are not as many seats as the
     /// book has edges.
     pub fn new(id: ConfigId, book: ProbeBook, seats: Vec<EdgeSeat>) -> Option<Part>
-        ensures { IfSome result (λ p. (p.id ≡ id) × (p.book ≡ book) × (p.seats.items ≡ seats.items)) }
+        ensures part { IfSome result (λ p. (p.id ≡ id) × (p.book ≡ book) × (p.seats.items ≡ seats.items)) }
+        ensures none { IfNone result (vec_len seats ≢ length book.edges) }
     {
         if seats.len() != book.len() {
             return None;

@@ -54,7 +54,7 @@ fn are_same(one: &Batch, other: &Batch) -> bool
     ensures same { result ≡ true → one.now ≡ other.now }
     ensures told { one.now ≡ other.now → result ≡ true }
 {
-    one.alerts() == other.alerts()
+    one.alerts().says_same(other.alerts())
 }
 
 /// Whether two bodies of the kinds that are kept say the same.

@@ -1,6 +1,9 @@
 // One node at its desk, with its probes.
 
-ghost use Rattle.std.specs.Prelude.{◌≡◌, ◌<◌, [], false, Ok, IfOk, IfErr, IsSomeAnd, OnOk, OnErr};
+ghost use Rattle.std.specs.Prelude.{◌≡◌, ◌<◌, ◌≤◌, [], false, Ok, length, IfOk, IfErr, IsSomeAnd, OnOk, OnErr};
+ghost use Rattle.std.specs.Option.{option_map};
+ghost use Rattle.rapid_desk.specs.Desks.{NotSubscribed};
+ghost use Rattle.rapid_node.specs.Phases.{name_of};
 ghost use Rattle.rapid_model.specs.Node as model;
 ghost use Rattle.rapid_node.specs.Steps.{event_of};
 ghost use Rattle.rapid_service.specs.Remembering.{IsRepeatFor};
@@ -21,7 +24,7 @@ use crate::rounds::Rounds;
 use crate::view_text::write_view;
 use bytes::Bytes;
 use rapid_config::{ConfigId, Configuration, Params};
-use rapid_desk::{Desk, Subscription, Taken};
+use rapid_desk::{Desk, DeskError, Subscription, Taken};
 use rapid_endpoint::{Endpoint, Process};
 use rapid_join::Reply;
 use rapid_message::{Body, Destination, Message, Output, Outputs};
@@ -35,6 +38,9 @@ use std::sync::Wait;
 /// How many changes of the view wait for the service: it takes each at once.
 const CHANGES: usize = 4;
 
+/// How many seats there are at the published view.
+const SEATS: usize = 8;
+
 /// A node at its desk, with the probes of those whom it observes in its current view. It is kept
 /// under a lock, and whoever holds the lock gives it ticks and messages.
 #[derive(Drop)]
@@ -47,7 +53,8 @@ pub struct Service<R: Wait + Copy + Drop, P: Post + Drop> {
     /// Its questions while it has no view.
     asking: Option<Asking>,
     present: Option<Present>,
-    seat: Option<ViewSeat>,
+    /// The seats that were not taken, from when there is a view.
+    seats: Vec<ViewSeat>,
     rounds: Rounds,
     /// The lines of the views that were entered since they were last taken.
     lines: Vec<u8>,
@@ -126,7 +133,7 @@ impl<R: Wait + Copy + Drop, P: Post + Drop> Service<R, P> {
             changes,
             asking: None,
             present: None,
-            seat: None,
+            seats: Vec::new(alloc),
             rounds: Rounds::new(),
             lines: Vec::new(alloc),
             notes: Notes::new(alloc),
@@ -150,7 +157,7 @@ impl<R: Wait + Copy + Drop, P: Post + Drop> Service<R, P> {
             return Err(RunningFault::Halted);
         }
         // The only reason why a first view is not published is that there is no memory for it.
-        let Ok(desk) = Desk::seed(rt, alloc, &configuration, me, 1) else {
+        let Ok(desk) = Desk::seed(rt, alloc, &configuration, me, SEATS) else {
             return Err(RunningFault::OutOfMemory);
         };
         let mut service = Service::at(rt, alloc, me, desk, post)?;
@@ -166,7 +173,7 @@ impl<R: Wait + Copy + Drop, P: Post + Drop> Service<R, P> {
         seed: Endpoint,
         post: P,
     ) -> Result<Service<R, P>, RunningFault> {
-        let desk = Desk::joiner(rt, alloc, me, seed, 1)?;
+        let desk = Desk::joiner(rt, alloc, me, seed, SEATS)?;
         let mut service = Service::at(rt, alloc, me, desk, post)?;
         service.asking = Some(Asking::new(seed));
         Ok(service)
@@ -265,7 +272,8 @@ impl<R: Wait + Copy + Drop, P: Post + Drop> Service<R, P> {
         if let Some(asking) = &mut self.asking
             && let Some(note) = asking.tick()
         {
-            self.notes.add(note);
+            // without memory it is not reported
+            let _ = self.notes.add(note);
         }
     }
 
@@ -281,9 +289,55 @@ impl<R: Wait + Copy + Drop, P: Post + Drop> Service<R, P> {
         }
     }
 
-    /// A seat at the published view, once there is a view.
-    pub fn take_seat(&mut self) -> Option<ViewSeat> {
-        self.seat.take()
+    /// A seat at the published view: one of eight, from when there is a view.
+    pub fn take_seat(&mut self) -> Option<ViewSeat>
+        ensures { (self.new.desk ≡ self.old.desk) × (self.new.me ≡ self.old.me) }
+    {
+        self.seats.pop()
+    }
+
+    /// The process that the node is.
+    pub fn process(&self) -> Process
+        ensures { result ≡ self.now.me }
+    {
+        self.me
+    }
+
+    /// The phase of the node.
+    pub fn phase(&self) -> Phase
+        ensures { result ≡ name_of self.now.desk.state.node.phase }
+    {
+        self.desk.phase()
+    }
+
+    /// A subscription to the views that come after the current one, with room for `capacity` of them
+    /// to wait, and the current one.
+    ///
+    /// # Errors
+    ///
+    /// Those of `Desk::subscribe`. After `OutOfMemory` a subscription more may count.
+    pub fn subscribe(&mut self, capacity: usize) -> Result<(Subscription, Option<View>), DeskError>
+        ensures state { (self.new.desk.state ≡ self.old.desk.state) × (self.new.me ≡ self.old.me) }
+        ensures ok { OnOk result ((0 < capacity) × (capacity ≤ 1024) × (length self.old.desk.subscriptions < 64)) }
+        ensures untaken { IfOk result (λ r. r.0.taken ≡ []) }
+        ensures current { IfOk result (λ r. r.1 ≡ option_map (λ present. present.view) self.old.present) }
+        ensures refused { IfErr result (NotSubscribed capacity (length self.old.desk.subscriptions)) }
+    {
+        let subscription = self.desk.subscribe(capacity)?;
+        match &self.present {
+            Some(present) => match present.view.try_copy(self.alloc) {
+                Ok(view) => Ok((subscription, Some(view))),
+                Err(_) => Err(DeskError::OutOfMemory),
+            },
+            None => Ok((subscription, None)),
+        }
+    }
+
+    /// Ends the subscriptions made so far, also its own: it enters no further view.
+    pub fn close(&mut self)
+        ensures { self.new.desk ≡ record self.old.desk { subscriptions = [] } }
+    {
+        self.desk.close();
     }
 
     /// The lines of the views that were entered since this was last asked.
@@ -391,7 +445,7 @@ impl<R: Wait + Copy + Drop, P: Post + Drop> Service<R, P> {
         let repeats = Repeats::new(self.alloc, view.configuration())?;
         if self.desk.phase() == Phase::Removed {
             let height = view.configuration().height();
-            self.notes.add(Note::Removed(height));
+            let _ = self.notes.add(Note::Removed(height));
         }
         self.asking = None;
         self.present = Some(Present {
@@ -399,8 +453,8 @@ impl<R: Wait + Copy + Drop, P: Post + Drop> Service<R, P> {
             watch,
             repeats,
         });
-        if let Some(mut seats) = self.desk.take_seats() {
-            self.seat = seats.pop();
+        if let Some(seats) = self.desk.take_seats() {
+            self.seats = seats;
         }
         Ok(())
     }

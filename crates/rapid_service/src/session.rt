@@ -1,6 +1,7 @@
 // The lines that drive a node.
 
-ghost use Rattle.std.specs.Prelude.{◌≡◌, ℕ, ◌<◌, List, [], ◌∷◌, length, OnOk, OnErr};
+ghost use Rattle.std.specs.Prelude.{◌≡◌, ℕ, ◌<◌, List, [], ◌∷◌, length, IfErr, OnOk, OnErr};
+ghost use Rattle.rapid_service.specs.declared.fault.RunningFault.TheVariants.{OutOfMemory};
 
 use crate::command::{Asked, Command, read_line};
 use crate::fault::RunningFault;
@@ -25,7 +26,9 @@ struct Session<'a, W: Wait, R: Wait + Copy + Drop, P: Post + Drop> {
 }
 
 /// The current view. It is asked for again while the list of members is still older than its stamp.
-fn present<W: Wait>(rt: &W, seat: &mut ViewSeat) -> Result<View, RunningFault> {
+fn present<W: Wait>(rt: &W, seat: &mut ViewSeat) -> Result<View, RunningFault>
+    ensures { IfErr result (λ e. e ≡ OutOfMemory) }
+{
     for _ in rt.forever() {
         match seat.members(rt) {
             Ok(view) => return Ok(view),

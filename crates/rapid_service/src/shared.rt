@@ -1,5 +1,8 @@
 // What the threads of a node share.
 
+ghost use Rattle.std.specs.Prelude.{◌≡◌, ◌<◌, ◌≤◌, [], IfOk, OnOk};
+
+use crate::bell::Bell;
 use crate::console::Console;
 use crate::dealer::Dealer;
 use crate::edge_text::write_edges;
@@ -9,9 +12,11 @@ use crate::note::Note;
 use crate::part::{Part, PartRound};
 use crate::post::Post;
 use crate::service::Service;
+use rapid_desk::{DeskError, Subscription};
 use rapid_endpoint::Process;
 use rapid_message::{Body, Message};
-use rapid_view::ViewSeat;
+use rapid_node::Phase;
+use rapid_view::{View, ViewSeat};
 use std::alloc::{AllocError, Global};
 use std::sync::{Mutex, Wait};
 
@@ -31,6 +36,7 @@ pub struct Shared<R: Wait + Copy + Drop, P: Post + Drop> {
     dealer: Dealer,
     console: Console,
     ending: Ending,
+    bell: Bell,
 }
 
 impl<R: Wait + Copy + Drop, P: Post + Drop> Shared<R, P> {
@@ -54,6 +60,7 @@ impl<R: Wait + Copy + Drop, P: Post + Drop> Shared<R, P> {
             dealer: Dealer::new(usize::from(probers)),
             console: Console::new(alloc),
             ending: Ending::new(),
+            bell: Bell::new(),
         })
     }
 
@@ -67,15 +74,25 @@ impl<R: Wait + Copy + Drop, P: Post + Drop> Shared<R, P> {
         &self.ending
     }
 
+    /// What wakes those who wait for views: it rings when one was entered, and when none comes any
+    /// more.
+    pub fn bell(&self) -> &Bell {
+        &self.bell
+    }
+
     /// What deals the parts of rounds of probes.
     pub fn dealer(&self) -> &Dealer {
         &self.dealer
     }
 
     /// Prints the views that the service has entered, while its lock is held: views are printed in
-    /// the order in which they were entered. Probes begin anew in the last of them.
+    /// the order in which they were entered. Who waits for them is woken, and probes begin anew in
+    /// the last of them.
     fn show<W: Wait>(&self, rt: &W, service: &mut Service<R, P>) -> Result<(), RunningFault> {
         let lines = service.take_lines();
+        if !lines.is_empty() {
+            self.bell.ring(rt);
+        }
         self.console.add(rt, lines.as_slice())?;
         if let Some(parts) = service.take_parts(self.probers)? {
             self.begin_parts(rt, parts);
@@ -92,6 +109,13 @@ impl<R: Wait + Copy + Drop, P: Post + Drop> Shared<R, P> {
                 *slot = Some(part);
             }
         }
+    }
+
+    /// Prints the views that were entered so far.
+    pub fn begin<W: Wait>(&self, rt: &W) -> Result<(), RunningFault> {
+        let mut service = self.service.lock(rt);
+        self.show(rt, &mut service)?;
+        Ok(())
     }
 
     /// A tick of the node. After every tenth the observed members are probed, and edges of which
@@ -195,10 +219,61 @@ impl<R: Wait + Copy + Drop, P: Post + Drop> Shared<R, P> {
         Ok(())
     }
 
-    /// A seat at the published view, once there is a view; it is given once.
+    /// A seat at the published view: one of eight, from when there is a view.
     pub fn take_seat<W: Wait>(&self, rt: &W) -> Option<ViewSeat> {
         let mut service = self.service.lock(rt);
         service.take_seat()
+    }
+
+    /// The process that the node is.
+    pub fn process<W: Wait>(&self, rt: &W) -> Process {
+        let service = self.service.lock(rt);
+        service.process()
+    }
+
+    /// The phase of the node.
+    pub fn phase<W: Wait>(&self, rt: &W) -> Phase {
+        let service = self.service.lock(rt);
+        service.phase()
+    }
+
+    /// A subscription to the views that come after the current one, and the current one.
+    ///
+    /// # Errors
+    ///
+    /// Those of `Service::subscribe`.
+    pub fn subscribe<W: Wait>(
+        &self,
+        rt: &W,
+        capacity: usize,
+    ) -> Result<(Subscription, Option<View>), DeskError>
+        ensures room { OnOk result ((0 < capacity) × (capacity ≤ 1024)) }
+        ensures untaken { IfOk result (λ r. r.0.taken ≡ []) }
+    {
+        let mut service = self.service.lock(rt);
+        service.subscribe(capacity)
+    }
+
+    /// Ends all subscriptions, and wakes who waits for views: none comes any more.
+    pub fn close<W: Wait>(&self, rt: &W) {
+        let mut service = self.service.lock(rt);
+        service.close();
+        drop(service);
+        self.bell.ring(rt);
+    }
+
+    /// The node goes on with another service in place of its own, whose subscriptions end. What was
+    /// probed for it is forgotten.
+    pub fn begin_anew<W: Wait>(&self, rt: &W, next: Service<R, P>) {
+        let mut service = self.service.lock(rt);
+        service.close();
+        *service = next;
+        for slot in &self.parts {
+            let mut slot = slot.lock(rt);
+            *slot = None;
+        }
+        drop(service);
+        self.bell.ring(rt);
     }
 
     /// What is to be reported since this was last asked.

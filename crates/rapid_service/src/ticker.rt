@@ -1,12 +1,18 @@
 // The clock of a node.
 
+ghost use Rattle.std.specs.Prelude.{◌≡◌, ◌≤◌, None};
+ghost use Rattle.std.specs.Duration.{as_nanos};
+
 use crate::post::Post;
 use crate::shared::Shared;
 use std::sync::Wait;
 use std::time::{Clock, Duration, Instant};
 
 /// What is left of a period that began then.
-fn left<C: Clock>(clock: &C, begun: Option<Instant>, period: Duration) -> Duration {
+fn left<C: Clock>(clock: &C, begun: Option<Instant>, period: Duration) -> Duration
+    ensures whole { begun ≡ None → result ≡ period }
+    ensures most { as_nanos result ≤ as_nanos period }
+{
     let Some(begun) = begun else {
         return period;
     };

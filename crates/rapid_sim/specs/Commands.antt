@@ -6,13 +6,13 @@ use Rattle.rapid_model.specs.Reading.{members_fault}
 use Rattle.rapid_model.specs.SimLine as model
 use Rattle.rapid_model.specs.SimText as text
 use Rattle.rapid_world.specs.Events.{event_of}
-use Rattle.rapid_sim.specs.declared.command.Command.{Command}
-use Rattle.rapid_sim.specs.declared.command.Command.TheVariants.{Parameters, Found, Events, Lose, Deliver, Drop, Flow, Packets}
-use Rattle.rapid_sim.specs.declared.command.Asked.{Asked}
-use Rattle.rapid_sim.specs.declared.command.Asked.TheVariants.{Nothing, Unknown, Taken}
+use Rattle.rapid_sim.specs.declared.command.SimCommand.{SimCommand}
+use Rattle.rapid_sim.specs.declared.command.SimCommand.TheVariants.{Parameters, Found, Events, Lose, Deliver, Drop, Flow, Packets}
+use Rattle.rapid_sim.specs.declared.command.SimAsked.{SimAsked}
+use Rattle.rapid_sim.specs.declared.command.SimAsked.TheVariants.{Nothing, Unknown, Taken}
 
 -- A command.
-abbrev pub command_of : Command → model.SimLine
+abbrev pub command_of : SimCommand → model.SimLine
 command_of (Parameters k h l) = model.Parameters (record { k = k; h = h; l = l })
 command_of (Found c) = model.Found c.members
 command_of (Events e n) = model.Events (event_of e) n
@@ -23,7 +23,7 @@ command_of Flow = model.Flow
 command_of Packets = model.Packets
 
 -- What a line asks for.
-abbrev pub asked_of : Asked → text.Asked
+abbrev pub asked_of : SimAsked → text.Asked
 asked_of Nothing = text.Nothing
 asked_of Unknown = text.Unknown
 asked_of (Taken c) = text.Command (command_of c)
@@ -34,35 +34,35 @@ IsFoundingBy params founders None = members_fault founders ≢ None
 IsFoundingBy params founders (Some c) = (members_fault founders ≡ None) × (c ≡ founding params founders)
 
 -- The configuration of a founding is the one that these parameters and its members make; they can be members.
-abbrev pub HasFounding : Params → Command → Type 0
+abbrev pub HasFounding : Params → SimCommand → Type 0
 HasFounding params (Found c) = (members_fault c.members ≡ None) × (c ≡ founding params c.members) × (0 < length c.members)
 HasFounding params _ = Unit {0}
 
 -- The packet of a command is one from 1.
-abbrev pub IsFromOne : Command → Type 0
+abbrev pub IsFromOne : SimCommand → Type 0
 IsFromOne (Deliver k) = 1 ≤ k
 IsFromOne (Drop k) = 1 ≤ k
 IsFromOne _ = Unit {0}
 
 -- The command is no founding, and its packet is one from 1.
-abbrev pub IsPlain : Command → Type 0
+abbrev pub IsPlain : SimCommand → Type 0
 IsPlain (Found c) = ⊥
 IsPlain (Deliver k) = 1 ≤ k
 IsPlain (Drop k) = 1 ≤ k
 IsPlain _ = Unit {0}
 
 -- The command gives parameters or founders.
-abbrev pub IsPreparation : Command → Type 0
+abbrev pub IsPreparation : SimCommand → Type 0
 IsPreparation (Parameters k h l) = Unit {0}
 IsPreparation (Found c) = Unit {0}
 IsPreparation _ = ⊥
 
 -- A command can be obeyed: its packet is one from 1, and its founding has these parameters.
-pub record IsReady (params : Params) (c : Command) : Type 0 where
+pub record IsReady (params : Params) (c : SimCommand) : Type 0 where
   pub packet : IsFromOne c
   pub founding : HasFounding params c
 
 -- So too what a line asks for.
-abbrev pub AsksReady : Params → Asked → Type 0
+abbrev pub AsksReady : Params → SimAsked → Type 0
 AsksReady params (Taken c) = IsReady params c
 AsksReady params _ = Unit {0}

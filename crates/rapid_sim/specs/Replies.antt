@@ -1,11 +1,11 @@
 -- Refusals as the definitions see them.
 use Rattle.rapid_model.specs.Refusal as faults
 use Rattle.rapid_model.specs.SimText as text
-use Rattle.rapid_sim.specs.declared.view.Refusal.{Refusal}
-use Rattle.rapid_sim.specs.declared.view.Refusal.TheVariants.{BadLine, NoParams, BadParams, IdentifierUsed, EndpointBusy, NoSuchNode, NoSuchPacket, NotObserved, EventsFull}
+use Rattle.rapid_sim.specs.declared.view.SimRefusal.{SimRefusal}
+use Rattle.rapid_sim.specs.declared.view.SimRefusal.TheVariants.{BadLine, NoParams, BadParams, IdentifierUsed, EndpointBusy, NoSuchNode, NoSuchPacket, NotObserved, EventsFull}
 
 -- A refusal.
-abbrev pub refusal_of : Refusal → text.SimRefusal
+abbrev pub refusal_of : SimRefusal → text.SimRefusal
 refusal_of BadLine = text.BadLine
 refusal_of NoParams = text.NoParams
 refusal_of BadParams = text.BadParams

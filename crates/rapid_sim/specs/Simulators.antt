@@ -5,8 +5,8 @@ use Rattle.rapid_model.specs.SimText as text
 use Rattle.rapid_model.specs.SimText.{Simulation, SimState}
 use Rattle.rapid_sim.specs.Wants.{LinesPrint}
 use Rattle.rapid_sim.specs.declared.simulator.Simulator.{Simulator}
-use Rattle.rapid_sim.specs.declared.sim.Phase.{Phase}
-use Rattle.rapid_sim.specs.declared.sim.Phase.TheVariants.{Blank, Prepared, Underway}
+use Rattle.rapid_sim.specs.declared.sim.SimPhase.{SimPhase}
+use Rattle.rapid_sim.specs.declared.sim.SimPhase.TheVariants.{Blank, Prepared, Underway}
 use Rattle.rapid_sim.specs.declared.sim.SimRun.{SimRun}
 
 -- What a simulator holds.
@@ -14,19 +14,19 @@ abbrev pub simulation_of : Simulator → Simulation
 simulation_of s = record { world = s.world; settled = s.settled }
 
 -- The state of a phase.
-abbrev pub phase_state : Phase → SimState
+abbrev pub phase_state : SimPhase → SimState
 phase_state Blank = text.Blank
 phase_state (Prepared params) = text.Prepared params
 phase_state (Underway s) = text.Underway (simulation_of s)
 
 -- How often memory ran out in a phase.
-abbrev pub phase_wants : Phase → ℕ
+abbrev pub phase_wants : SimPhase → ℕ
 phase_wants Blank = 0
 phase_wants (Prepared params) = 0
 phase_wants (Underway s) = s.met
 
 -- A founding that is taken in a phase has these parameters.
-abbrev pub HasParams : Phase → Params → Type 0
+abbrev pub HasParams : SimPhase → Params → Type 0
 HasParams (Prepared params) found = found ≡ params
 HasParams _ found = Unit {0}
 

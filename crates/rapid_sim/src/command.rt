@@ -18,7 +18,7 @@ use std::alloc::{AllocError, Global};
 
 /// What a command asks for.
 #[derive(Debug, Drop)]
-pub(crate) enum Command {
+pub(crate) enum SimCommand {
     /// The numbers K, H and L, which may be out of order.
     Parameters(u8, u8, u8),
     /// The founding configuration of these founders.
@@ -39,13 +39,13 @@ pub(crate) enum Command {
 
 /// What a line asks for.
 #[derive(Debug, Drop)]
-pub(crate) enum Asked {
+pub(crate) enum SimAsked {
     /// Nothing: the line is skipped.
     Nothing,
     /// An unknown command.
     Unknown,
     /// A command.
-    Taken(Command),
+    Taken(SimCommand),
 }
 
 /// The number from 1 to a limit that a word spells.
@@ -100,12 +100,12 @@ fn count(line: &[u8]) -> Option<u64>
 }
 
 /// The numbers K, H and L that the words of a line spell.
-fn parameters(line: &[u8]) -> Option<Command>
+fn parameters(line: &[u8]) -> Option<SimCommand>
     ensures named { option_map command_of result ≡ option_map model.Parameters (marks_in (words line.now)) }
     ensures plain { IfSome result IsPlain }
 {
     let (k, h, l) = three_words(line)?;
-    Some(Command::Parameters(byte(k)?, byte(h)?, byte(l)?))
+    Some(SimCommand::Parameters(byte(k)?, byte(h)?, byte(l)?))
 }
 
 /// The processes that the words of a line name, if each word names one.
@@ -141,7 +141,7 @@ fn founding_by(
 }
 
 /// The founding that the words of a line name: one founder or more, ascending.
-fn found(alloc: Global, params: Params, line: &[u8]) -> Result<Option<Command>, AllocError>
+fn found(alloc: Global, params: Params, line: &[u8]) -> Result<Option<SimCommand>, AllocError>
     ensures named { IfOk result (λ c. option_map command_of c ≡ found_in (words line.now)) }
     ensures ready { IfOk result (λ c. IfSome c (IsReady params)) }
 {
@@ -152,23 +152,23 @@ fn found(alloc: Global, params: Params, line: &[u8]) -> Result<Option<Command>, 
         return Ok(None);
     }
     match founding_by(alloc, params, founders.as_slice())? {
-        Some(configuration) => Ok(Some(Command::Found(configuration))),
+        Some(configuration) => Ok(Some(SimCommand::Found(configuration))),
         None => Ok(None),
     }
 }
 
 /// The start that the words of a line name: a process, its port and the port of its seed.
-fn start(line: &[u8]) -> Option<Command>
+fn start(line: &[u8]) -> Option<SimCommand>
     ensures named { option_map command_of result ≡ start_in (words line.now) }
     ensures plain { IfSome result IsPlain }
 {
     let (id, place, seed) = three_words(line)?;
     let process = Process::new(identifier(id)?, endpoint(place)?);
-    Some(Command::Events(WorldEvent::Start(process, endpoint(seed)?), 1))
+    Some(SimCommand::Events(WorldEvent::Start(process, endpoint(seed)?), 1))
 }
 
 /// The probe that the words of a line name: a node, a ring, a result, and perhaps how often.
-fn probe(line: &[u8]) -> Option<Command>
+fn probe(line: &[u8]) -> Option<SimCommand>
     ensures named { option_map command_of result ≡ probe_in (words line.now) }
     ensures plain { IfSome result IsPlain }
 {
@@ -176,17 +176,17 @@ fn probe(line: &[u8]) -> Option<Command>
     let (ring, rest) = split_word(rest)?;
     let (outcome, rest) = split_word(rest)?;
     let event = WorldEvent::Probe(identifier(id)?, byte(ring)?, probe_result(outcome)?);
-    Some(Command::Events(event, count(rest)?))
+    Some(SimCommand::Events(event, count(rest)?))
 }
 
 /// The ticks that the words of a line name: a node, and perhaps how often.
-fn tick(line: &[u8]) -> Option<Command>
+fn tick(line: &[u8]) -> Option<SimCommand>
     ensures named { option_map command_of result ≡ tick_in (words line.now) }
     ensures plain { IfSome result IsPlain }
 {
     let (id, rest) = split_word(line)?;
     let event = WorldEvent::Tick(identifier(id)?);
-    Some(Command::Events(event, count(rest)?))
+    Some(SimCommand::Events(event, count(rest)?))
 }
 
 /// The identifier that the word of a line names.
@@ -205,7 +205,7 @@ fn one_packet(line: &[u8]) -> Option<u64>
 }
 
 /// A command, if no words follow its name.
-fn alone(command: Command, line: &[u8]) -> Option<Command>
+fn alone(command: SimCommand, line: &[u8]) -> Option<SimCommand>
     ensures { option_map command_of result ≡ model.alone (command_of command) (words line.now) }
 {
     match split_word(line) {
@@ -215,7 +215,7 @@ fn alone(command: Command, line: &[u8]) -> Option<Command>
 }
 
 /// The command of a name and the words after it, but for a founding.
-fn plain_command(name: &[u8], rest: &[u8]) -> Option<Command>
+fn plain_command(name: &[u8], rest: &[u8]) -> Option<SimCommand>
     requires { bytes_eq name.now (codes "found") ≡ false }
     ensures named { option_map command_of result ≡ command_named name.now (words rest.now) }
     ensures plain { IfSome result IsPlain }
@@ -227,21 +227,21 @@ fn plain_command(name: &[u8], rest: &[u8]) -> Option<Command>
     } else if name == b"probe".as_slice() {
         probe(rest)
     } else if name == b"lose".as_slice() {
-        Some(Command::Lose(one_identifier(rest)?))
+        Some(SimCommand::Lose(one_identifier(rest)?))
     } else if name == b"tick".as_slice() {
         tick(rest)
     } else if name == b"deliver".as_slice() {
-        Some(Command::Deliver(one_packet(rest)?))
+        Some(SimCommand::Deliver(one_packet(rest)?))
     } else if name == b"drop".as_slice() {
-        Some(Command::Drop(one_packet(rest)?))
+        Some(SimCommand::Drop(one_packet(rest)?))
     } else if name == b"flow".as_slice() {
-        alone(Command::Flow, rest)
+        alone(SimCommand::Flow, rest)
     } else if name == b"crash".as_slice() {
-        Some(Command::Events(WorldEvent::Crash(one_identifier(rest)?), 1))
+        Some(SimCommand::Events(WorldEvent::Crash(one_identifier(rest)?), 1))
     } else if name == b"leave".as_slice() {
-        Some(Command::Events(WorldEvent::Leave(one_identifier(rest)?), 1))
+        Some(SimCommand::Events(WorldEvent::Leave(one_identifier(rest)?), 1))
     } else if name == b"packets".as_slice() {
-        alone(Command::Packets, rest)
+        alone(SimCommand::Packets, rest)
     } else {
         None
     }
@@ -253,7 +253,7 @@ fn command_by(
     params: Params,
     name: &[u8],
     rest: &[u8],
-) -> Result<Option<Command>, AllocError>
+) -> Result<Option<SimCommand>, AllocError>
     ensures named { IfOk result (λ c. option_map command_of c ≡ command_named name.now (words rest.now)) }
     ensures ready { IfOk result (λ c. IfSome c (IsReady params)) }
 {
@@ -266,21 +266,21 @@ fn command_by(
 
 /// What a line asks for. A founding has these parameters.
 #[tactic(auto, unfolding(rapid_model::specs::SimText::asked))]
-pub(crate) fn read_line(alloc: Global, params: Params, line: &[u8]) -> Result<Asked, AllocError>
+pub(crate) fn read_line(alloc: Global, params: Params, line: &[u8]) -> Result<SimAsked, AllocError>
     ensures named { IfOk result (λ a. asked_of a ≡ asked line.now) }
     ensures ready { IfOk result (AsksReady params) }
 {
     if !is_plain(line) {
-        return Ok(Asked::Unknown);
+        return Ok(SimAsked::Unknown);
     }
     if let [b'#', ..] = line {
-        return Ok(Asked::Nothing);
+        return Ok(SimAsked::Nothing);
     }
     let Some((name, rest)) = split_word(line) else {
-        return Ok(Asked::Nothing);
+        return Ok(SimAsked::Nothing);
     };
     match command_by(alloc, params, name, rest)? {
-        Some(command) => Ok(Asked::Taken(command)),
-        None => Ok(Asked::Unknown),
+        Some(command) => Ok(SimAsked::Taken(command)),
+        None => Ok(SimAsked::Unknown),
     }
 }

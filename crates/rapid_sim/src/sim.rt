@@ -14,10 +14,10 @@ ghost use Rattle.rapid_sim.specs.Replies.{refusal_of};
 ghost use Rattle.rapid_sim.specs.Simulators.{simulation_of, phase_state, phase_wants, state_of, wants_in, HasParams};
 ghost use Rattle.rapid_sim.specs.Wants.{SimPrints};
 
-use crate::command::{Asked, Command, read_line};
+use crate::command::{SimAsked, SimCommand, read_line};
 use crate::settled::Settled;
 use crate::simulator::Simulator;
-use crate::view::{Refusal, refused_line, write_founding, write_packets};
+use crate::view::{SimRefusal, refused_line, write_founding, write_packets};
 use rapid_config::{Configuration, Params};
 use rapid_text::{Engine, RunFault};
 use rapid_world::World;
@@ -26,7 +26,7 @@ use std::io::{Read, Write};
 
 /// How far a run has come.
 #[derive(Drop)]
-pub(crate) enum Phase {
+pub(crate) enum SimPhase {
     /// Neither parameters nor founders were taken.
     Blank,
     /// Parameters were taken.
@@ -39,7 +39,7 @@ pub(crate) enum Phase {
 #[derive(Drop)]
 pub struct SimRun {
     alloc: Global,
-    phase: Phase,
+    phase: SimPhase,
 }
 
 /// The world of founders, in which nothing happened yet.
@@ -67,7 +67,7 @@ impl Simulator {
         ensures met { self.new.met ≡ self.old.met }
     {
         if packet > self.world.packets() {
-            return output.extend_from_slice(refused_line(Refusal::BadLine));
+            return output.extend_from_slice(refused_line(SimRefusal::BadLine));
         }
         self.settled.settle(packet)
     }
@@ -80,31 +80,31 @@ impl Simulator {
     }
 
     /// Refuses parameters or founders, which were taken before.
-    fn refuse(&self, command: &Command, output: &mut Vec<u8>) -> Result<(), AllocError>
+    fn refuse(&self, command: &SimCommand, output: &mut Vec<u8>) -> Result<(), AllocError>
         requires { IsPreparation command.now }
         ensures { OnOk result (IsAnsweredExactly (model.Underway (simulation_of self.now)) (model.Underway (simulation_of self.now)) (model.Command (command_of command.now)) output.old.items output.new.items) }
     {
-        output.extend_from_slice(refused_line(Refusal::BadLine))
+        output.extend_from_slice(refused_line(SimRefusal::BadLine))
     }
 
     /// Does what a command asks for, or refuses it, and appends what that prints.
     fn obey(
         &mut self,
         alloc: Global,
-        command: &Command,
+        command: &SimCommand,
         output: &mut Vec<u8>,
     ) -> Result<(), AllocError>
         requires { IsFromOne command.now }
         ensures { OnOk result (IsAnswered (model.Underway (simulation_of self.old)) (model.Underway (simulation_of self.new)) (model.Command (command_of command.now)) output.old.items output.new.items self.old.met self.new.met) }
     {
         match command {
-            Command::Parameters(_, _, _) | Command::Found(_) => self.refuse(command, output),
-            Command::Events(event, count) => self.repeat(event, *count, output),
-            Command::Lose(id) => self.lose(alloc, id, output),
-            Command::Deliver(packet) => self.deliver(*packet, output),
-            Command::Drop(packet) => self.drop_packet(*packet, output),
-            Command::Flow => self.flow(output),
-            Command::Packets => self.tell_packets(output),
+            SimCommand::Parameters(_, _, _) | SimCommand::Found(_) => self.refuse(command, output),
+            SimCommand::Events(event, count) => self.repeat(event, *count, output),
+            SimCommand::Lose(id) => self.lose(alloc, id, output),
+            SimCommand::Deliver(packet) => self.deliver(*packet, output),
+            SimCommand::Drop(packet) => self.drop_packet(*packet, output),
+            SimCommand::Flow => self.flow(output),
+            SimCommand::Packets => self.tell_packets(output),
         }
     }
 }
@@ -118,7 +118,7 @@ impl SimRun {
     {
         SimRun {
             alloc,
-            phase: Phase::Blank,
+            phase: SimPhase::Blank,
         }
     }
 
@@ -127,8 +127,8 @@ impl SimRun {
         ensures { result ≡ wants_in self.now }
     {
         match &self.phase {
-            Phase::Underway(simulator) => simulator.met,
-            Phase::Blank | Phase::Prepared(_) => 0,
+            SimPhase::Underway(simulator) => simulator.met,
+            SimPhase::Blank | SimPhase::Prepared(_) => 0,
         }
     }
 
@@ -137,8 +137,8 @@ impl SimRun {
         ensures { IfOk result (HasParams self.now.phase) }
     {
         match &self.phase {
-            Phase::Prepared(params) => Ok(*params),
-            Phase::Blank | Phase::Underway(_) => Params::new(1, 1, 1).map_err(|_| AllocError),
+            SimPhase::Prepared(params) => Ok(*params),
+            SimPhase::Blank | SimPhase::Underway(_) => Params::new(1, 1, 1).map_err(|_| AllocError),
         }
     }
 
@@ -150,10 +150,10 @@ impl SimRun {
     {
         match Params::new(k, h, l) {
             Ok(params) => {
-                self.phase = Phase::Prepared(params);
+                self.phase = SimPhase::Prepared(params);
                 Ok(())
             }
-            Err(_) => output.extend_from_slice(refused_line(Refusal::BadParams)),
+            Err(_) => output.extend_from_slice(refused_line(SimRefusal::BadParams)),
         }
     }
 
@@ -169,24 +169,24 @@ impl SimRun {
         ensures taken { OnOk result (IsAnsweredExactly (model.Prepared configuration.now.params) (state_of self.new) (model.Command (line.Found configuration.now.members)) output.old.items output.new.items) }
         ensures met { OnOk result (wants_in self.new ≡ 0) }
     {
-        self.phase = Phase::Underway(begin(self.alloc, configuration)?);
+        self.phase = SimPhase::Underway(begin(self.alloc, configuration)?);
         write_founding(configuration, output)
     }
     /// Does what a command asks for before any was taken, or refuses it.
-    fn blank(&mut self, command: &Command, output: &mut Vec<u8>) -> Result<(), AllocError>
+    fn blank(&mut self, command: &SimCommand, output: &mut Vec<u8>) -> Result<(), AllocError>
         requires { state_of self.old ≡ model.Blank }
         ensures exactly { OnOk result (IsAnsweredExactly model.Blank (state_of self.new) (model.Command (command_of command.now)) output.old.items output.new.items) }
         ensures met { OnOk result (wants_in self.new ≡ 0) }
     {
         match command {
-            Command::Parameters(k, h, l) => self.take_params(*k, *h, *l, output),
-            Command::Drop(_) => output.extend_from_slice(refused_line(Refusal::BadLine)),
-            Command::Found(_)
-            | Command::Events(_, _)
-            | Command::Lose(_)
-            | Command::Deliver(_)
-            | Command::Flow
-            | Command::Packets => output.extend_from_slice(refused_line(Refusal::NoParams)),
+            SimCommand::Parameters(k, h, l) => self.take_params(*k, *h, *l, output),
+            SimCommand::Drop(_) => output.extend_from_slice(refused_line(SimRefusal::BadLine)),
+            SimCommand::Found(_)
+            | SimCommand::Events(_, _)
+            | SimCommand::Lose(_)
+            | SimCommand::Deliver(_)
+            | SimCommand::Flow
+            | SimCommand::Packets => output.extend_from_slice(refused_line(SimRefusal::NoParams)),
         }
     }
 
@@ -194,7 +194,7 @@ impl SimRun {
     fn prepared(
         &mut self,
         params: Params,
-        command: &Command,
+        command: &SimCommand,
         output: &mut Vec<u8>,
     ) -> Result<(), AllocError>
         requires state { state_of self.old ≡ model.Prepared params }
@@ -203,42 +203,42 @@ impl SimRun {
         ensures met { OnOk result (wants_in self.new ≡ 0) }
     {
         match command {
-            Command::Found(configuration) => self.take_founders(configuration, output),
-            Command::Parameters(_, _, _) | Command::Drop(_) => {
-                output.extend_from_slice(refused_line(Refusal::BadLine))
+            SimCommand::Found(configuration) => self.take_founders(configuration, output),
+            SimCommand::Parameters(_, _, _) | SimCommand::Drop(_) => {
+                output.extend_from_slice(refused_line(SimRefusal::BadLine))
             }
-            Command::Events(_, _)
-            | Command::Lose(_)
-            | Command::Deliver(_)
-            | Command::Flow
-            | Command::Packets => output.extend_from_slice(refused_line(Refusal::NoParams)),
+            SimCommand::Events(_, _)
+            | SimCommand::Lose(_)
+            | SimCommand::Deliver(_)
+            | SimCommand::Flow
+            | SimCommand::Packets => output.extend_from_slice(refused_line(SimRefusal::NoParams)),
         }
     }
 
     /// Does what a command asks for, or refuses it, and appends what that prints.
-    fn obey(&mut self, command: &Command, output: &mut Vec<u8>) -> Result<(), AllocError>
+    fn obey(&mut self, command: &SimCommand, output: &mut Vec<u8>) -> Result<(), AllocError>
         requires { (params : ModelParams) × HasParams self.old.phase params × IsReady params command.now }
         ensures { OnOk result (IsAnswered (state_of self.old) (state_of self.new) (model.Command (command_of command.now)) output.old.items output.new.items (wants_in self.old) (wants_in self.new)) }
     {
         match &mut self.phase {
-            Phase::Underway(simulator) => simulator.obey(self.alloc, command, output),
-            Phase::Prepared(params) => {
+            SimPhase::Underway(simulator) => simulator.obey(self.alloc, command, output),
+            SimPhase::Prepared(params) => {
                 let params = *params;
                 self.prepared(params, command, output)
             }
-            Phase::Blank => self.blank(command, output),
+            SimPhase::Blank => self.blank(command, output),
         }
     }
 
     /// Does what a line asks for, and appends what that prints.
-    fn respond(&mut self, asked: &Asked, output: &mut Vec<u8>) -> Result<(), AllocError>
+    fn respond(&mut self, asked: &SimAsked, output: &mut Vec<u8>) -> Result<(), AllocError>
         requires { (params : ModelParams) × HasParams self.old.phase params × AsksReady params asked.now }
         ensures { OnOk result (IsAnswered (state_of self.old) (state_of self.new) (asked_of asked.now) output.old.items output.new.items (wants_in self.old) (wants_in self.new)) }
     {
         match asked {
-            Asked::Nothing => Ok(()),
-            Asked::Unknown => output.extend_from_slice(refused_line(Refusal::BadLine)),
-            Asked::Taken(command) => self.obey(command, output),
+            SimAsked::Nothing => Ok(()),
+            SimAsked::Unknown => output.extend_from_slice(refused_line(SimRefusal::BadLine)),
+            SimAsked::Taken(command) => self.obey(command, output),
         }
     }
 }

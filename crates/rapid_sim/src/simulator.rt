@@ -12,7 +12,7 @@ ghost use Rattle.rapid_sim.specs.Simulators.{simulation_of};
 ghost use Rattle.rapid_sim.specs.Losing.{failing_where, losing_by};
 
 use crate::settled::Settled;
-use crate::view::{Refusal, refused_line, write_reports};
+use crate::view::{SimRefusal, refused_line, write_reports};
 use rapid_endpoint::ProcessId;
 use rapid_world::{World, WorldError, WorldEvent};
 use std::alloc::{AllocError, Global};
@@ -33,12 +33,12 @@ fn error_line(error: WorldError) -> &'static [u8]
     ensures { result.now ≡ error_text error }
 {
     match error {
-        WorldError::IdentifierUsed => refused_line(Refusal::IdentifierUsed),
-        WorldError::EndpointBusy => refused_line(Refusal::EndpointBusy),
-        WorldError::NoSuchNode => refused_line(Refusal::NoSuchNode),
-        WorldError::NoSuchPacket => refused_line(Refusal::NoSuchPacket),
-        WorldError::NotObserved => refused_line(Refusal::NotObserved),
-        WorldError::EventsFull => refused_line(Refusal::EventsFull),
+        WorldError::IdentifierUsed => refused_line(SimRefusal::IdentifierUsed),
+        WorldError::EndpointBusy => refused_line(SimRefusal::EndpointBusy),
+        WorldError::NoSuchNode => refused_line(SimRefusal::NoSuchNode),
+        WorldError::NoSuchPacket => refused_line(SimRefusal::NoSuchPacket),
+        WorldError::NotObserved => refused_line(SimRefusal::NotObserved),
+        WorldError::EventsFull => refused_line(SimRefusal::EventsFull),
         WorldError::OutOfMemory => b"refused OutOfMemory\n",
     }
 }

@@ -16,7 +16,7 @@ use std::alloc::AllocError;
 
 /// Why a line is refused.
 #[derive(Clone, Copy, Debug)]
-pub(crate) enum Refusal {
+pub(crate) enum SimRefusal {
     /// It is not in the grammar, or it repeats what can be said once.
     BadLine,
     /// Parameters or founders were not taken yet.
@@ -38,19 +38,19 @@ pub(crate) enum Refusal {
 }
 
 /// The line that a refused line prints.
-pub(crate) fn refused_line(refusal: Refusal) -> &'static [u8]
+pub(crate) fn refused_line(refusal: SimRefusal) -> &'static [u8]
     ensures { result.now ≡ refusal_line (refusal_of refusal) }
 {
     match refusal {
-        Refusal::BadLine => b"refused BadLine\n",
-        Refusal::NoParams => b"refused NoParams\n",
-        Refusal::BadParams => b"refused BadParams\n",
-        Refusal::IdentifierUsed => b"refused IdentifierUsed\n",
-        Refusal::EndpointBusy => b"refused EndpointBusy\n",
-        Refusal::NoSuchNode => b"refused NoSuchNode\n",
-        Refusal::NoSuchPacket => b"refused NoSuchPacket\n",
-        Refusal::NotObserved => b"refused NotObserved\n",
-        Refusal::EventsFull => b"refused EventsFull\n",
+        SimRefusal::BadLine => b"refused BadLine\n",
+        SimRefusal::NoParams => b"refused NoParams\n",
+        SimRefusal::BadParams => b"refused BadParams\n",
+        SimRefusal::IdentifierUsed => b"refused IdentifierUsed\n",
+        SimRefusal::EndpointBusy => b"refused EndpointBusy\n",
+        SimRefusal::NoSuchNode => b"refused NoSuchNode\n",
+        SimRefusal::NoSuchPacket => b"refused NoSuchPacket\n",
+        SimRefusal::NotObserved => b"refused NotObserved\n",
+        SimRefusal::EventsFull => b"refused EventsFull\n",
     }
 }
 

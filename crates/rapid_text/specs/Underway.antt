@@ -24,8 +24,8 @@ pub record EndsLine {E : Type 0} (prints : E → List (List ℕ) → List ℕ �
   pub keeps : Keeps (held ++ front) kept
   pub answered : Answers prints old new (without_return kept) before after
 
--- A part of an input was answered but for its rest: what it said stands behind the output before, and in front of whatever the rest
--- and later bytes print.
+-- A part of an input was answered but for its rest: what it said stands behind the output before, and in front of
+-- whatever the rest and later bytes print.
 pub record Feeds {E : Type 0} (prints : E → List (List ℕ) → List ℕ → ℕ → Type 0) (old new : E) (line kept part rest before after : List ℕ) : Type 0 where
   pub said : List ℕ
   pub appended : after ≡ before ++ said
@@ -61,14 +61,15 @@ pub record Writes {E : Type 0} (prints : E → List (List ℕ) → List ℕ → 
   pub printed : prints state ls text met
   pub written : Appends before after text
 
--- After a fault of reading or writing memory ran out as often as was counted. If the fault is out of memory, the count says nothing.
+-- After a fault of reading or writing memory ran out as often as was counted. If the fault is out of memory, the count
+-- says nothing.
 abbrev pub IsCounted : RunFault → ℕ → ℕ → Type 0
 IsCounted Read met count = met ≡ count
 IsCounted Write met count = met ≡ count
 IsCounted OutOfMemory met count = Unit {0}
 
--- After this fault a beginning of a text that these lines may print was written, and nothing else. In the text memory runs out as
--- often as was counted.
+-- After this fault a beginning of a text that these lines may print was written, and nothing else. In the text memory
+-- runs out as often as was counted.
 pub record WritesFront {E : Type 0} (prints : E → List (List ℕ) → List ℕ → ℕ → Type 0) (state : E) (ls : List (List ℕ)) (fault : RunFault) (count : ℕ) (before after : Option (List ℕ)) : Type 0 where
   pub text : List ℕ
   pub met : ℕ
@@ -76,7 +77,8 @@ pub record WritesFront {E : Type 0} (prints : E → List (List ℕ) → List ℕ
   pub printed : prints state ls text met
   pub written : AppendsFront before after text
 
--- Some of the input was read and some of the output was written; what is left to write is what the rest of the input prints.
+-- Some of the input was read and some of the output was written; what is left to write is what the rest of the input
+-- prints.
 pub record IsUnderway {E : Type 0} (prints : E → List (List ℕ) → List ℕ → ℕ → Type 0) (first : E) (input written : Option (List ℕ))
     (state : E) (line : List ℕ) (left holds : Option (List ℕ)) : Type 0 where
   pub read : List ℕ

@@ -1,6 +1,7 @@
 // What answers the lines of an input.
 
 ghost use Rattle.std.specs.Prelude.{◌≡◌, ℕ, ◌<◌, List, [], ◌∷◌, length, OnOk, OnErr};
+ghost use Rattle.rapid_model.specs.Limits.{longest_line};
 ghost use Rattle.rapid_text.specs.Underway.{Answers};
 
 use std::alloc::AllocError;
@@ -24,7 +25,8 @@ pub trait Engine {
     ghost ends: { (state : Self) → prints state [] [] (met state) };
 
     // All lines of more than 256 bytes print the same.
-    ghost too_long: { (state : Self) (line other : List ℕ) (later : List (List ℕ)) (text : List ℕ) (n : ℕ) → 256 < length line → 256 < length other →
+    ghost too_long: { (state : Self) (line other : List ℕ) (later : List (List ℕ)) (text : List ℕ) (n : ℕ)
+        → longest_line < length line → longest_line < length other →
         prints state (line ∷ later) text n → prints state (other ∷ later) text n };
 
     // Whatever the lines are, they print something, and memory runs out no more.

@@ -7,7 +7,8 @@ use Rattle.atomic_table.specs.Seated.{TableId}
 abbrev pub Frame : Type 0
 Frame = List ℕ × List ℕ
 
--- What was put into the queue, what of it is known to be taken, for how many frames there is room, and how many found it full.
+-- What was put into the queue, what of it is known to be taken, for how many frames there is room, and how many found
+-- it full.
 pub record Putting : Type 0 where
   pub queue : TableId
   pub put : List Frame

@@ -22,7 +22,7 @@ use std::net::{Net, TcpListener, TcpStream};
 use std::os::fd::AsRawFd;
 use std::sync::atomic::{AtomicBool, Ordering};
 use std::sync::{Mutex, Wait};
-use std::thread::{Parker, Threads};
+use std::thread::{Parker, Scope, Threads};
 use std::time::{Clock, Duration};
 use std::{io, thread};
 
@@ -196,32 +196,62 @@ impl Peers {
         I: Inbox<R> + Sync,
     {
         thread::scope(thread::scope_env(), rt, |scope| {
-            for (lane, end) in self.lanes.iter().zip(ends) {
-                let context = self.context(lane);
-                let started = scope.spawn(move || sender::work(rt, alloc, end, &context));
-                if started.is_err() {
-                    self.stop_senders();
-                    return Err(ListenError::OutOfMemory);
-                }
-            }
-            for stream in self.listener.incoming() {
-                if self.stop.load(Ordering::SeqCst) {
-                    break;
-                }
-                let Some((number, stream)) = self.admit(rt, stream) else {
-                    continue;
-                };
-                let started = scope.spawn(move || {
-                    read_all(rt, alloc, &stream, inbox, &self.meters);
-                    self.readers.lock(rt).leave(number);
-                });
-                if started.is_err() {
-                    self.meters.refused.raise();
-                    self.readers.lock(rt).leave(number);
-                }
-            }
+            self.start_senders(rt, alloc, scope, ends)?;
+            self.accept_all(rt, alloc, scope, inbox);
             Ok(())
         })
+    }
+
+    /// Starts a thread for each sender. If one cannot be started, those that run are told to stop.
+    fn start_senders<'s, E, R>(
+        &'s self,
+        rt: &'s R,
+        alloc: Global,
+        scope: &Scope<'s, E>,
+        ends: Vec<SenderEnd>,
+    ) -> Result<(), ListenError>
+    where
+        R: Net<Listener = TcpListener, Stream = TcpStream> + Threads + Wait + Clock + Sync,
+    {
+        for (lane, end) in self.lanes.iter().zip(ends) {
+            let context = self.context(lane);
+            let started = scope.spawn(move || sender::work(rt, alloc, end, &context));
+            if started.is_err() {
+                self.stop_senders();
+                return Err(ListenError::OutOfMemory);
+            }
+        }
+        Ok(())
+    }
+
+    /// Accepts connections, and starts a reader for each that is taken in, until `stop`.
+    fn accept_all<'s, E, R, I>(
+        &'s self,
+        rt: &'s R,
+        alloc: Global,
+        scope: &Scope<'s, E>,
+        inbox: &'s I,
+    )
+    where
+        R: Net<Listener = TcpListener, Stream = TcpStream> + Threads + Wait + Clock + Sync,
+        I: Inbox<R> + Sync,
+    {
+        for stream in self.listener.incoming() {
+            if self.stop.load(Ordering::SeqCst) {
+                break;
+            }
+            let Some((number, stream)) = self.admit(rt, stream) else {
+                continue;
+            };
+            let started = scope.spawn(move || {
+                read_all(rt, alloc, &stream, inbox, &self.meters);
+                self.readers.lock(rt).leave(number);
+            });
+            if started.is_err() {
+                self.meters.refused.raise();
+                self.readers.lock(rt).leave(number);
+            }
+        }
     }
 
     /// Counts an error that says that there was no file descriptor.

@@ -30,7 +30,8 @@ pub record Fits (room : ℕ) (words : List ℕ) (list : List Stamp) (seat : ℕ)
   -- only one seat writes; it has seen all
   pub writer : v.writes ≡ true → (seat ≡ 0) × (v.seen ≡ list) × Waits words (length list) v.pending
 
--- There is a list of stamps whose heights rise by one. The count is its length, its stamps stand at their places, each seat has seen a beginning of it, and the writer all of it.
+-- There is a list of stamps whose heights rise by one. The count is its length, its stamps stand at their places, each
+-- seat has seen a beginning of it, and the writer all of it.
 pub record Kept (room : ℕ) (s : State (Unit {0}) Known) : Type 0 where
   pub list : List Stamp
   pub size : length s.words ≡ place room
@@ -63,7 +64,8 @@ informed v w = record { writes = v.writes; room = v.room; seen = v.seen; told = 
 abbrev Holder : Type 0
 Holder = Me (Unit {0}) Known
 
--- A load of the count: it is the length of the list that is seen from then on, which begins with all that was seen and told.
+-- A load of the count: it is the length of the list that is seen from then on, which begins with all that was seen and
+-- told.
 abbrev pub Looked : Step (Unit {0}) → Holder → ℕ → Holder → Type 0
 Looked st v n w =
     (w.1 ≡ v.1) × (w.0 ≡ record { writes = v.0.writes; room = v.0.room; seen = w.0.seen; told = []; pending = v.0.pending })

@@ -2,6 +2,7 @@
 
 ghost use Rattle.std.specs.Prelude.{◌≡◌, ◌⊎◌, ℕ, ◌+◌, ◌*◌, ◌<◌, ◌≤◌, List, [], ◌∷◌, length, vec_len, All, Some, IfOk, IfErr};
 ghost use Rattle.rapid_model.specs.Configuration as model;
+ghost use Rattle.rapid_model.specs.Limits.{most_views};
 ghost use Rattle.rapid_view.specs.CellRule.{place, writing};
 
 use crate::known::{Known, Published};
@@ -79,7 +80,7 @@ impl ViewCell {
         views: usize,
     ) -> Result<(ViewWriter<R>, Vec<ViewSeat>), ViewError>
         requires seats { (0 < seats) × (seats ≤ 64) }
-        requires views { (0 < views) × (views ≤ 65536) }
+        requires views { (0 < views) × (views ≤ most_views) }
         ensures writer { IfOk result (λ r. (r.0.seen ≡ model.stamp view ∷ []) × (r.0.room ≡ views)) }
         ensures shown { IfOk result (λ r. r.0.shown ≡ Some view) }
         ensures seats { IfOk result (λ r. vec_len r.1 ≡ seats) }
@@ -103,7 +104,7 @@ impl ViewCell {
         alloc: Global,
         room: usize,
     ) -> Result<(ViewCell, Seat<(), Known>), AllocError>
-        requires { (0 < room) × (room ≤ 65536) }
+        requires { (0 < room) × (room ≤ most_views) }
         ensures { IfOk result
             (λ r. (r.0.table.shared.table_id.words ≡ place room) × (r.1.table_id ≡ r.0.table.shared.table_id) × (r.1.me ≡ (writing room [] [], []))) }
     {

@@ -7,6 +7,7 @@ ghost use lib.ListN.{get_elem?};
 ghost use Rattle.atomic_table.specs.Table.{step};
 ghost use Rattle.rapid_model.specs.Configuration as model;
 ghost use Rattle.rapid_model.specs.PublishedList.{HeightsRise, IsBeginning, stamp_words};
+ghost use Rattle.rapid_model.specs.Limits.{most_views};
 ghost use Rattle.rapid_view.specs.Words.{IsWhole};
 ghost use Rattle.rapid_view.specs.CellRule.{place, writing, Looked, informed};
 
@@ -30,6 +31,7 @@ impl Model for StampReader {
     ghost use Rattle.std.specs.Prelude.{◌≡◌, ℕ, ◌<◌, ◌≤◌, [], length, false};
     ghost use Rattle.std.specs.Arc.{arc_value};
     ghost use Rattle.rapid_model.specs.PublishedList.{HeightsRise};
+    ghost use Rattle.rapid_model.specs.Limits.{most_views};
     ghost use Rattle.rapid_view.specs.CellRule.{place};
     ghost use Rattle.rapid_view.specs.Seen.{Reading};
 
@@ -37,7 +39,10 @@ impl Model for StampReader {
 
     ghost view = { λ s. record { cell = s.seat.table_id; seen = s.seat.me.0.seen } };
 
-    ghost invariant = { λ s. (s.seat.table_id ≡ (arc_value s.cell).table.shared.table_id) × ((arc_value s.cell).table.shared.table_id.words ≡ place s.seat.me.0.room) × (0 < s.seat.me.0.room) × (s.seat.me.0.room ≤ 65536) × (s.seat.me.1 ≡ []) × (s.seat.me.0.writes ≡ false) × (0 < length s.seat.me.0.seen) × HeightsRise s.seat.me.0.seen };
+    ghost invariant = { λ s. (s.seat.table_id ≡ (arc_value s.cell).table.shared.table_id)
+        × ((arc_value s.cell).table.shared.table_id.words ≡ place s.seat.me.0.room) × (0 < s.seat.me.0.room)
+        × (s.seat.me.0.room ≤ most_views) × (s.seat.me.1 ≡ []) × (s.seat.me.0.writes ≡ false)
+        × (0 < length s.seat.me.0.seen) × HeightsRise s.seat.me.0.seen };
 }
 
 /// A word of a stamp that the seat has seen.
@@ -54,7 +59,7 @@ fn read_word(cell: &ViewCell, seat: &mut Seat<(), Known>, at: usize) -> u64
 fn read_stamp(cell: &ViewCell, seat: &mut Seat<(), Known>, number: usize) -> Stamp
     requires own { seat.old.table_id ≡ cell.now.table.shared.table_id }
     requires within { place number + 5 < cell.now.table.shared.table_id.words }
-    requires few { number < 65536 }
+    requires few { number < most_views }
     ensures same { (seat.new.table_id ≡ seat.old.table_id) × (seat.new.id ≡ seat.old.id) × (seat.new.me ≡ seat.old.me) }
     ensures stamp { (s : model.Stamp) → get_elem? seat.old.me.0.seen number ≡ some s → IsWhole s → result ≡ s }
 {
@@ -71,7 +76,8 @@ fn read_stamp(cell: &ViewCell, seat: &mut Seat<(), Known>, number: usize) -> Sta
 /// Learns of the list as it is, and says how long it is.
 fn look(cell: &ViewCell, seat: &mut Seat<(), Known>) -> usize
     requires own { seat.old.table_id ≡ cell.now.table.shared.table_id }
-    requires room { (0 < seat.old.me.0.room) × (seat.old.me.0.room ≤ 65536) × (0 < cell.now.table.shared.table_id.words) }
+    requires room { (0 < seat.old.me.0.room) × (seat.old.me.0.room ≤ most_views)
+        × (0 < cell.now.table.shared.table_id.words) }
     ensures same { (seat.new.table_id ≡ seat.old.table_id) × (seat.new.id ≡ seat.old.id) }
     ensures looked { Looked (step cell.now.table.shared.table_id.slots 0 0 0 none) seat.old.me result seat.new.me }
 {
@@ -112,7 +118,8 @@ impl StampReader {
         writer: &mut Seat<(), Known>,
     ) -> Result<StampReader, AllocError>
         requires own { writer.old.table_id ≡ (arc_value cell.now).table.shared.table_id }
-        requires room { ((arc_value cell.now).table.shared.table_id.words ≡ place writer.old.me.0.room) × (0 < writer.old.me.0.room) × (writer.old.me.0.room ≤ 65536) }
+        requires room { ((arc_value cell.now).table.shared.table_id.words ≡ place writer.old.me.0.room)
+            × (0 < writer.old.me.0.room) × (writer.old.me.0.room ≤ most_views) }
         requires seen { (0 < length writer.old.me.0.seen) × HeightsRise writer.old.me.0.seen }
         ensures same { (writer.new.table_id ≡ writer.old.table_id) × (writer.new.me ≡ writer.old.me) }
         ensures reader { IfOk result (λ s. (s.cell ≡ writer.old.table_id) × (s.seen ≡ writer.old.me.0.seen)) }

@@ -4,6 +4,7 @@ ghost use Rattle.std.specs.Prelude.{◌≡◌, ℕ, ◌+◌, ◌-◌, ◌*◌, �
 ghost use Rattle.std.specs.Arc.{arc_value};
 ghost use mathlib.Core.Option.{none, some};
 ghost use Rattle.rapid_model.specs.PublishedList.{HeightsRise, IsBeginning, stamp_words};
+ghost use Rattle.rapid_model.specs.Limits.{most_views};
 ghost use Rattle.rapid_view.specs.Words.{IsWhole};
 ghost use Rattle.rapid_view.specs.CellRule.{place, writing};
 ghost use Rattle.rapid_view.specs.Seen.{last_height, MayFollow, Refused};
@@ -33,6 +34,7 @@ impl Model for StampWriter {
     ghost use Rattle.std.specs.Prelude.{◌≡◌, ℕ, ◌<◌, ◌≤◌, [], length};
     ghost use Rattle.std.specs.Arc.{arc_value};
     ghost use Rattle.rapid_model.specs.PublishedList.{HeightsRise};
+    ghost use Rattle.rapid_model.specs.Limits.{most_views};
     ghost use Rattle.rapid_view.specs.CellRule.{place, writing};
     ghost use Rattle.rapid_view.specs.Seen.{Written, last_height};
 
@@ -40,7 +42,10 @@ impl Model for StampWriter {
 
     ghost view = { λ s. record { cell = s.seat.table_id; room = s.room; seen = s.seat.me.0.seen } };
 
-    ghost invariant = { λ s. (s.seat.table_id ≡ (arc_value s.cell).table.shared.table_id) × ((arc_value s.cell).table.shared.table_id.words ≡ place s.room) × (0 < s.room) × (s.room ≤ 65536) × (s.seat.me ≡ (writing s.room s.seat.me.0.seen [], [])) × (s.count ≡ length s.seat.me.0.seen) × (s.count ≤ s.room) × (s.last ≡ last_height s.seat.me.0.seen) × HeightsRise s.seat.me.0.seen };
+    ghost invariant = { λ s. (s.seat.table_id ≡ (arc_value s.cell).table.shared.table_id)
+        × ((arc_value s.cell).table.shared.table_id.words ≡ place s.room) × (0 < s.room) × (s.room ≤ most_views)
+        × (s.seat.me ≡ (writing s.room s.seat.me.0.seen [], [])) × (s.count ≡ length s.seat.me.0.seen)
+        × (s.count ≤ s.room) × (s.last ≡ last_height s.seat.me.0.seen) × HeightsRise s.seat.me.0.seen };
 }
 
 /// Stores one word more of the next stamp.
@@ -61,7 +66,7 @@ fn store_words(cell: &ViewCell, seat: &mut Seat<(), Known>, count: usize, words:
     requires own { seat.old.table_id ≡ cell.now.table.shared.table_id }
     requires within { place seat.old.me.0.room ≡ cell.now.table.shared.table_id.words }
     requires writer { seat.old.me ≡ (writing seat.old.me.0.room seat.old.me.0.seen [], []) }
-    requires room { (length seat.old.me.0.seen < seat.old.me.0.room) × (seat.old.me.0.room ≤ 65536) }
+    requires room { (length seat.old.me.0.seen < seat.old.me.0.room) × (seat.old.me.0.room ≤ most_views) }
     requires count { count ≡ length seat.old.me.0.seen }
     ensures same { (seat.new.table_id ≡ seat.old.table_id) × (seat.new.id ≡ seat.old.id) }
     ensures stored { seat.new.me ≡ (writing seat.old.me.0.room seat.old.me.0.seen (slice_index words.now 0 ∷ slice_index words.now 1 ∷ slice_index words.now 2 ∷ slice_index words.now 3 ∷ slice_index words.now 4 ∷ slice_index words.now 5 ∷ []), []) }
@@ -80,7 +85,7 @@ fn lengthen(cell: &ViewCell, seat: &mut Seat<(), Known>, count: usize, stamp: &S
     requires own { seat.old.table_id ≡ cell.now.table.shared.table_id }
     requires within { 0 < cell.now.table.shared.table_id.words }
     requires writer { seat.old.me ≡ (writing seat.old.me.0.room seat.old.me.0.seen (stamp_words stamp.now), []) }
-    requires room { (length seat.old.me.0.seen < seat.old.me.0.room) × (seat.old.me.0.room ≤ 65536) }
+    requires room { (length seat.old.me.0.seen < seat.old.me.0.room) × (seat.old.me.0.room ≤ most_views) }
     requires count { count ≡ length seat.old.me.0.seen }
     requires whole { IsWhole stamp.now }
     requires rises { HeightsRise (seat.old.me.0.seen ++ stamp.now ∷ []) }
@@ -97,7 +102,7 @@ fn add(cell: &ViewCell, seat: &mut Seat<(), Known>, count: usize, stamp: &Stamp)
     requires own { seat.old.table_id ≡ cell.now.table.shared.table_id }
     requires within { place seat.old.me.0.room ≡ cell.now.table.shared.table_id.words }
     requires writer { seat.old.me ≡ (writing seat.old.me.0.room seat.old.me.0.seen [], []) }
-    requires room { (length seat.old.me.0.seen < seat.old.me.0.room) × (seat.old.me.0.room ≤ 65536) }
+    requires room { (length seat.old.me.0.seen < seat.old.me.0.room) × (seat.old.me.0.room ≤ most_views) }
     requires count { count ≡ length seat.old.me.0.seen }
     requires rises { HeightsRise (seat.old.me.0.seen ++ stamp.now ∷ []) }
     ensures same { (seat.new.table_id ≡ seat.old.table_id) × (seat.new.id ≡ seat.old.id) }
@@ -112,7 +117,7 @@ fn add(cell: &ViewCell, seat: &mut Seat<(), Known>, count: usize, stamp: &Stamp)
 impl StampWriter {
     /// The writer of a cell in which the first stamp is published.
     pub(crate) fn open(alloc: Global, first: Stamp, room: usize) -> Result<StampWriter, AllocError>
-        requires { (0 < room) × (room ≤ 65536) }
+        requires { (0 < room) × (room ≤ most_views) }
         ensures { IfOk result (λ writer. (writer.seen ≡ first ∷ []) × (writer.room ≡ room)) }
     {
         let (cell, mut seat) = ViewCell::empty(alloc, room)?;

@@ -1,13 +1,13 @@
 -- The alerts that are read as a batch are one.
-use Rattle.std.proofs.Common.{◌≡◌, ℕ, suc, ◌≤◌, ◌&&◌, Bool, true, false, List, [], ◌∷◌, All, length, map, arith, refl, sym, ◌∙◌, nat_lt, None}
+use Rattle.std.proofs.Common.{◌≡◌, ℕ, suc, ◌≤◌, ◌&&◌, Bool, true, false, List, [], ◌∷◌, All, length, map, arith, refl, sym, ap, ◌∙◌, nat_lt, None}
 use Rattle.std.specs.List.{list_all}
-use Rattle.std.proofs.lemmas.List.{length-map}
+use Rattle.std.proofs.lemmas.List.Elements.{All-map}
 use Rattle.rapid_model.specs.Process.{Process, same_bytes}
 use Rattle.rapid_model.specs.Alert.{Alert}
 use Rattle.rapid_model.specs.Batch.{batch_fault, is_alike}
 use Rattle.rapid_model.proofs.Orders.{same_bytes_decides}
-use Rattle.rapid_alerts.specs.declared.alert.Alert as code
-use Rattle.rapid_alerts.specs.Alerts.{alert_of}
+use Rattle.rapid_model.specs.Message.{AlertItem, item_of, batch_alerts, alert_of as read_as}
+use Rattle.rapid_alerts.specs.Alerts.{ListedAlerts, alerts_in}
 use Rattle.rapid_message.specs.Bodies.{IsFrom}
 
 both : (a b : Bool) → a ≡ true → b ≡ true → (a && b) ≡ true
@@ -23,15 +23,22 @@ all_alike from id a [] first h = refl
 all_alike from id a (x ∷ xs) first h =
     both (is_alike a x) (list_all (is_alike a) xs) (alike from id a x first (h 0 x (omega arith))) (all_alike from id a xs first (λ i d l. h (suc i) d (omega (arith, l))))
 
-alerts_are : (from : Process) (id : List ℕ) (xs : List Alert) → All (IsFrom from id) xs → 1 ≤ length xs → length xs ≤ 2048 → batch_fault xs ≡ None
-alerts_are from id [] h some few = absurd (omega (arith, some))
-alerts_are from id (a ∷ xs) h some few =
+-- 1 to 2,048 alerts of one observer for one configuration are a batch
+pub are_a_batch : (from : Process) (id : List ℕ) (xs : List Alert) → All (IsFrom from id) xs → 1 ≤ length xs → length xs ≤ 2048 → batch_fault xs ≡ None
+are_a_batch from id [] h some few = absurd (omega (arith, some))
+are_a_batch from id (a ∷ xs) h some few =
     let enough : nat_lt 2048 (length (a ∷ xs)) ≡ false = grind (arith, few) in
     let same = all_alike from id a xs (h 0 a (omega arith)) (λ i d l. h (suc i) d (omega (arith, l))) in
     rw (enough, same) refl
 
--- 1 to 2,048 alerts of one observer for one configuration are a batch
-pub are_a_batch : (from : Process) (id : List ℕ) (xs : List code.Alert) → All (IsFrom from id) (map alert_of xs) → 1 ≤ length xs → length xs ≤ 2048 → batch_fault (map alert_of xs) ≡ None
-are_a_batch from id xs h some few =
-    let same : length (map alert_of xs) ≡ length xs = length-map xs alert_of in
-    alerts_are from id (map alert_of xs) h (omega (arith, same, some)) (omega (arith, same, few))
+items_back : (from : Process) (id : List ℕ) (xs : List AlertItem) → map item_of (batch_alerts from id xs) ≡ xs
+items_back from id [] = refl
+items_back from id (x ∷ xs) = ap (λ ys. x ∷ ys) (items_back from id xs)
+
+-- what the alerts of a list say is what the list has
+pub listed_items : (l : ListedAlerts) → map item_of (alerts_in l) ≡ l.items
+listed_items l = items_back l.observer l.config l.items
+
+-- they are of its observer, for its configuration
+pub listed_from : (l : ListedAlerts) (from : Process) (id : List ℕ) → l.observer ≡ from → l.config ≡ id → All (IsFrom from id) (alerts_in l)
+listed_from l from id o c = All-map (IsFrom from id) (read_as l.observer l.config) l.items (λ i d k. (o, c))

@@ -1,13 +1,13 @@
 -- Lists of bytes that grow at their end.
-use Rattle.std.proofs.Common.{◌≡◌, ℕ, ◌+◌, ◌^◌, ◌<◌, ◌≤◌, ◌-◌, List, [], ◌∷◌, ◌++◌, length, take, get_or, sym, ap, ◌∙◌, arith, append_assoc, append-nil, length-append}
-use Rattle.std.specs.Prelude.{All, map}
+use Rattle.std.proofs.Common.{◌≡◌, ℕ, ◌+◌, ◌^◌, ◌<◌, ◌≤◌, ◌-◌, List, [], ◌∷◌, ◌++◌, length, take, get_or, sym, ap, subst, ◌∙◌, arith, append_assoc, append-nil, length-append}
+use Rattle.std.specs.Prelude.{All, Some, map, slice_get}
 use Rattle.std.specs.List.{concat}
 use Rattle.std.proofs.lemmas.List.{take_more, map_push, length-map}
-use Rattle.std.proofs.lemmas.List.Elements.{All-map}
-use Rattle.rapid_model.specs.Message.{AlertItem, Message, item_of}
+use Rattle.std.proofs.lemmas.List.Elements.{All-append, All-from_recursion, All-map}
+use Rattle.std.proofs.lemmas.Option.{get_or_from_slice_get, slice_get_within}
+use Rattle.rapid_model.specs.Alert.{Alert}
+use Rattle.rapid_model.specs.Message.{Message, item_of}
 use Rattle.rapid_model.specs.Frame.{IsItem, IsBatch, IsMessage, item_bytes, payload}
-use Rattle.rapid_alerts.specs.declared.alert.Alert.{Alert as CodeAlert}
-use Rattle.rapid_alerts.specs.Alerts.{alert_of}
 use Rattle.rapid_wire.proofs.Frames.{message_fits}
 
 pub concat_push : (ps : List (List ℕ)) (p : List ℕ) → concat (ps ++ p ∷ []) ≡ concat ps ++ p
@@ -19,35 +19,36 @@ pub concat_more : (head : List ℕ) (ps : List (List ℕ)) (i : ℕ) (d : List �
 concat_more head ps i d l =
     append_assoc head (concat (take i ps)) (get_or ps i d) ∙ ap (λ x. head ++ x) (sym (ap concat (take_more ps i d l) ∙ concat_push (take i ps) (get_or ps i d)))
 
--- what is said of an alert of the code
-abbrev pub said : CodeAlert → AlertItem
-said a = item_of (alert_of a)
+-- what each alert says
+abbrev pub all_said : List Alert → List (List ℕ)
+all_said xs = map item_bytes (map item_of xs)
 
-abbrev pub all_said : List CodeAlert → List (List ℕ)
-all_said xs = map item_bytes (map item_of (map alert_of xs))
+all_said_push : (xs : List Alert) (x : Alert) → all_said (xs ++ x ∷ []) ≡ all_said xs ++ item_bytes (item_of x) ∷ []
+all_said_push xs x = ap (map item_bytes) (map_push item_of xs x) ∙ map_push item_bytes (map item_of xs) (item_of x)
 
-all_said_push : (xs : List CodeAlert) (x : CodeAlert) → all_said (xs ++ x ∷ []) ≡ all_said xs ++ item_bytes (said x) ∷ []
-all_said_push xs x =
-    ap (λ ys. map item_bytes (map item_of ys)) (map_push alert_of xs x)
-    ∙ ap (map item_bytes) (map_push item_of (map alert_of xs) (alert_of x))
-    ∙ map_push item_bytes (map item_of (map alert_of xs)) (said x)
+front_more : (xs : List Alert) (i : ℕ) (a : Alert) → slice_get xs i ≡ Some a → take (i + 1) xs ≡ take i xs ++ a ∷ []
+front_more xs i a h = take_more xs i a (slice_get_within xs i a h) ∙ ap (λ (x : Alert). take i xs ++ x ∷ []) (get_or_from_slice_get xs i a a h)
 
 -- one alert more
-pub said_more : (head : List ℕ) (xs : List CodeAlert) (i : ℕ) (d : CodeAlert) → i < length xs →
-    (head ++ concat (all_said (take i xs))) ++ item_bytes (said (get_or xs i d)) ≡ head ++ concat (all_said (take (i + 1) xs))
-said_more head xs i d l =
-    append_assoc head (concat (all_said (take i xs))) (item_bytes (said (get_or xs i d)))
-    ∙ ap (λ x. head ++ x) (sym (ap (λ ys. concat (all_said ys)) (take_more xs i d l) ∙ ap concat (all_said_push (take i xs) (get_or xs i d)) ∙ concat_push (all_said (take i xs)) (item_bytes (said (get_or xs i d)))))
+pub said_more : (head : List ℕ) (xs : List Alert) (i : ℕ) (a : Alert) → slice_get xs i ≡ Some a →
+    (head ++ concat (all_said (take i xs))) ++ item_bytes (item_of a) ≡ head ++ concat (all_said (take (i + 1) xs))
+said_more head xs i a h =
+    append_assoc head (concat (all_said (take i xs))) (item_bytes (item_of a))
+    ∙ ap (λ x. head ++ x)
+    (sym (ap (λ ys. concat (all_said ys)) (front_more xs i a h) ∙ ap concat (all_said_push (take i xs) a) ∙ concat_push (all_said (take i xs)) (item_bytes (item_of a))))
+
+pub all_more : (P : Alert → Type 0) (xs : List Alert) (i : ℕ) (a : Alert) → slice_get xs i ≡ Some a → All P (take i xs) → P a → All P (take (i + 1) xs)
+all_more P xs i a h so_far this =
+    subst (All P) (sym (front_more xs i a h)) (All-append P (take i xs) (a ∷ []) so_far (All-from_recursion P (a ∷ []) (this, tt)))
 
 -- alerts of which each can be spelt are a batch
-pub is_batch : (xs : List CodeAlert) → 1 ≤ length xs → length xs ≤ 2048 → All (λ a. IsItem (said a)) xs → IsBatch (map item_of (map alert_of xs))
+pub is_batch : (xs : List Alert) → 1 ≤ length xs → length xs ≤ 2048 → All (λ a. IsItem (item_of a)) xs → IsBatch (map item_of xs)
 is_batch xs some few h =
-    let one = length-map xs alert_of in
-    let two = length-map (map alert_of xs) item_of in
+    let same = length-map xs item_of in
     record {
-      some = omega (arith, some, one, two);
-      few = omega (arith, few, one, two);
-      items = All-map IsItem item_of (map alert_of xs) (All-map (λ a. IsItem (item_of a)) alert_of xs h);
+      some = omega (arith, some, same);
+      few = omega (arith, few, same);
+      items = All-map IsItem item_of xs h;
     }
 
 -- the length of a message stands in four bytes

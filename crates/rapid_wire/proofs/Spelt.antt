@@ -122,6 +122,10 @@ confirmed_again c h =
     let read = spelling_read c h in
     ap (λ f. cond (is_none f) (Some (Confirm (configuration_in (configuration_bytes c)))) None) read.0 ∙ ap (λ d. Some (Confirm d)) read.1
 
+-- what the spelling of a configuration says, by an equal one
+pub near_again : (c d : Configuration) (bytes : List ℕ) → IsConfiguration c → configuration_bytes c ≡ bytes → d ≡ c → confirmed_in bytes ≡ Some (Confirm d)
+near_again c d bytes h spelt same = ap confirmed_in (sym spelt) ∙ confirmed_again c h ∙ ap (λ x. Some (Confirm x)) (sym same)
+
 pub body_again : (b : Body) → IsBody b → body_in (kind_number b) (body_bytes b) ≡ Some b
 unfolding body_in
 body_again (Batch id xs) h =

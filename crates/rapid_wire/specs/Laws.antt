@@ -5,6 +5,7 @@ use Rattle.std.specs.List.{concat}
 use Rattle.rapid_model.specs.Message.{Message}
 use Rattle.rapid_model.specs.Frame.{IsMessage, IsFrame, frame, payload}
 use Rattle.rapid_model.specs.Feed.{WireFault, StreamEnd, Left, Fault, Stream}
+use Rattle.rapid_model.specs.Limits.{longest_frame}
 use Rattle.rapid_wire.specs.declared.fault.WireFault.{WireFault as CodeFault}
 use Rattle.rapid_wire.specs.Feeding.{IsNext, fed}
 
@@ -14,7 +15,7 @@ NoFrameBeginsAnother = (bytes rest : List ℕ) (m n : Message) → IsFrame bytes
 
 -- Every message that can be spelt fits into a frame.
 abbrev pub EveryMessageFits : Type 0
-EveryMessageFits = (m : Message) → IsMessage m → length (payload m) ≤ 65536
+EveryMessageFits = (m : Message) → IsMessage m → length (payload m) ≤ longest_frame
 
 -- However a stream is cut, its messages are the same. Those of its beginning, and then those of what was left with the
 -- bytes that follow, are those of the whole, with its end. A fault in its beginning is the fault of the whole.

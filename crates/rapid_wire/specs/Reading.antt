@@ -8,6 +8,7 @@ use Rattle.rapid_model.specs.Alert.{Kind, Remove, Join}
 use Rattle.rapid_model.specs.Ballot.{Ballot, Vote}
 use Rattle.rapid_model.specs.Reading.{cut_fault, bytes_fault, configuration_in}
 use Rattle.rapid_model.specs.Message.{AlertItem, Answer, Safe, EndpointInUse, ConfigurationChanged, TooManyJoiners, Body, Batch, FastVote, Prepare, Promise, Accept, Accepted, Decision, PreJoin, Reply, JoinRequest, Confirm, Probe, ProbeAck, Leave, Message}
+use Rattle.rapid_model.specs.Limits.{most_alerts, most_members, most_rings, most_rounds}
 
 -- One step after another.
 infixl 10 ◌>>=◌
@@ -79,7 +80,7 @@ ballot_of x = record { round = x.0; position = x.1 }
 
 -- The ballot is a classic one.
 abbrev pub is_classic : Ballot → Bool
-is_classic b = nat_le 2 b.round && nat_le b.round 250 && nat_lt b.position 1024
+is_classic b = nat_le 2 b.round && nat_le b.round most_rounds && nat_lt b.position most_members
 
 -- The ballot is the fast one or a classic one.
 abbrev pub is_ballot : Ballot → Bool
@@ -130,7 +131,7 @@ item_at bytes = made item_from (both byte_at (both kind_at process_at)) bytes
 
 -- A batch has 1 to 2,048 alerts.
 abbrev pub is_batch : List AlertItem → Bool
-is_batch xs = nat_le 1 (length xs) && nat_le (length xs) 2048
+is_batch xs = nat_le 1 (length xs) && nat_le (length xs) most_alerts
 
 -- The alerts of a batch.
 unfoldable pub items_at : Reader (List AlertItem)
@@ -138,7 +139,7 @@ items_at bytes = only is_batch (counted number_at item_at) bytes
 
 -- There are 1 to 16 observers.
 abbrev pub are_observers : List Process → Bool
-are_observers os = nat_le 1 (length os) && nat_le (length os) 16
+are_observers os = nat_le 1 (length os) && nat_le (length os) most_rings
 
 -- The observers of a joiner.
 unfoldable pub observers_at : Reader (List Process)

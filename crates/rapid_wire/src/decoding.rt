@@ -14,6 +14,7 @@ use crate::kind::FrameKind;
 use crate::kinds::read_body;
 use crate::reading::{PROCESS_BYTES, process_in, read_front};
 use crate::told::tell_message;
+use rapid_config::Configuration;
 use rapid_endpoint::Process;
 use rapid_message::{Body, Message};
 use std::alloc::Global;
@@ -38,14 +39,19 @@ fn message_of(sender: Process, body: Body) -> Message
     }
 }
 
-/// The message of a kind whose sender and body are these bytes.
+/// The message of a kind whose sender and body are these bytes. A configuration may be near.
 #[tactic(auto, unfolding(crate::specs::Reading::message_in, crate::specs::Reading::process_at))]
-fn read_message(alloc: Global, kind: FrameKind, bytes: &[u8]) -> Result<Message, WireFault>
+fn read_message(
+    alloc: Global,
+    near: Option<&Configuration>,
+    kind: FrameKind,
+    bytes: &[u8],
+) -> Result<Message, WireFault>
     ensures { Gives (λ m. m) result (message_in (number_of kind) bytes.now) }
 {
     let (front, rest) = read_front(bytes, PROCESS_BYTES)?;
     let sender = process_in(front);
-    let body = read_body(alloc, sender, kind, rest)?;
+    let body = read_body(alloc, near, sender, kind, rest)?;
     Ok(message_of(sender, body))
 }
 
@@ -71,15 +77,19 @@ fn open_frame(whole: &[u8]) -> Result<(FrameKind, &[u8]), WireFault>
 }
 
 /// The message of a whole frame, after its length. The faults of its first two bytes come first,
-/// then `BadBody` if the rest is not spelt as a message of this kind is.
-pub(crate) fn decode(alloc: Global, whole: &[u8]) -> Result<Message, WireFault>
+/// then `BadBody` if the rest is not spelt as a message of this kind is. A configuration may be near.
+pub(crate) fn decode(
+    alloc: Global,
+    near: Option<&Configuration>,
+    whole: &[u8],
+) -> Result<Message, WireFault>
     ensures valid { IfOk result IsMessage }
     ensures spelt { IfOk result (λ m. whole.now ≡ payload m) }
     ensures fault { IfErr result (IsFaultOf whole.now) }
 {
     let (kind, rest) = open_frame(whole)?;
     tell_bytes(rest);
-    let message = read_message(alloc, kind, rest)?;
+    let message = read_message(alloc, near, kind, rest)?;
     tell_message(&message);
     Ok(message)
 }

@@ -9,6 +9,7 @@ use crate::WireFault;
 use crate::decoding::{decode, tell_bytes};
 use crate::numbers::length_in;
 use bytes::BytesMut;
+use rapid_config::Configuration;
 use rapid_message::Message;
 use std::alloc::{AllocError, Global};
 use std::marker::Model;
@@ -71,9 +72,13 @@ fn first_frame(bytes: &[u8]) -> Result<Option<(&[u8], usize)>, WireFault>
 }
 
 /// The message in front of the bytes and how many bytes its frame has; none if no whole frame is
-/// there. Or the fault that stands in its place.
+/// there. Or the fault that stands in its place. A configuration may be near.
 #[tactic(auto, using(crate::proofs::Fronts::fault_in_front, crate::proofs::Fronts::length_fault, crate::proofs::Fronts::message_in_front))]
-fn front(alloc: Global, bytes: &[u8]) -> Result<Option<(Message, usize)>, WireFault>
+pub(crate) fn front(
+    alloc: Global,
+    near: Option<&Configuration>,
+    bytes: &[u8],
+) -> Result<Option<(Message, usize)>, WireFault>
     ensures whole { IfOk result (λ o. IfSome o (λ x. IsFront bytes.now (Whole x.0 (drop x.1 bytes.now)))) }
     ensures within { IfOk result (λ o. IfSome o (λ x. x.1 ≤ length bytes.now)) }
     ensures none { result ≡ Ok None → IsIncomplete bytes.now }
@@ -81,7 +86,7 @@ fn front(alloc: Global, bytes: &[u8]) -> Result<Option<(Message, usize)>, WireFa
 {
     match first_frame(bytes)? {
         Some((whole, length)) => {
-            let message = decode(alloc, whole)?;
+            let message = decode(alloc, near, whole)?;
             Ok(Some((message, length)))
         }
         None => Ok(None),
@@ -147,7 +152,7 @@ impl Feed {
         if let Some(fault) = self.fault {
             return Err(fault);
         }
-        match front(self.alloc, self.held.as_slice()) {
+        match front(self.alloc, None, self.held.as_slice()) {
             Ok(Some((message, length))) => {
                 self.held.advance(length);
                 Ok(Some(message))

@@ -1,7 +1,8 @@
 // What messages say, by kind.
 
-ghost use Rattle.std.specs.Prelude.{◌≡◌, IfOk};
+ghost use Rattle.std.specs.Prelude.{◌≡◌, true, Some, IfOk, IfSome};
 ghost use Rattle.rapid_model.specs.Ballot.{IsClassicBallot};
+ghost use Rattle.rapid_model.specs.Configuration.{configuration_bytes};
 ghost use Rattle.rapid_model.specs.Process as process;
 ghost use Rattle.rapid_model.specs.Message as model;
 ghost use Rattle.rapid_message.specs.Bodies.{CanSay, body_of};
@@ -11,6 +12,7 @@ ghost use Rattle.rapid_wire.specs.Reading.{both, made, all_of, byte_at, process_
 
 use crate::WireFault;
 use crate::kind::FrameKind;
+use crate::lengths::configuration_length;
 use crate::reading::{
     ID_BYTES, PROCESS_BYTES, classic_of, ended, id_in, process_in, read_answer, read_batch,
     read_byte, read_cut, read_front, read_numbers, read_report,
@@ -19,7 +21,7 @@ use rapid_config::{ConfigError, ConfigId, Configuration, Cut};
 use rapid_endpoint::Process;
 use rapid_message::Body;
 use rapid_paxos::Ballot;
-use std::alloc::Global;
+use std::alloc::{AllocError, Global};
 
 /// An identifier.
 #[tactic(auto, unfolding(crate::specs::Reading::id_at))]
@@ -115,12 +117,60 @@ fn read_request(bytes: &[u8]) -> Result<(ConfigId, u8), WireFault>
     Ok((id_in(front), ring))
 }
 
-/// A configuration.
+/// Whether two lists have the same bytes.
+fn are_same(a: &[u8], b: &[u8]) -> bool
+    ensures { result ≡ true → a.now ≡ b.now }
+{
+    a == b
+}
+
+/// Whether these bytes are the spelling of the configuration.
+fn is_spelt(
+    alloc: Global,
+    configuration: &Configuration,
+    bytes: &[u8],
+) -> Result<bool, AllocError>
+    ensures { IfOk result (λ r. r ≡ true → configuration_bytes configuration.now ≡ bytes.now) }
+{
+    if bytes.len() != configuration_length(configuration) {
+        return Ok(false);
+    }
+    let spelt = configuration.to_bytes(alloc)?;
+    Ok(are_same(spelt.as_slice(), bytes))
+}
+
+/// The configuration near, shared, if these bytes are its spelling.
+#[tactic(auto, using(crate::proofs::Spelt::near_again))]
+fn take_near(
+    alloc: Global,
+    near: Option<&Configuration>,
+    bytes: &[u8],
+) -> Result<Option<Configuration>, AllocError>
+    ensures { IfOk result (λ o. IfSome o (λ c. confirmed_in bytes.now ≡ Some (model.Confirm c))) }
+{
+    let Some(configuration) = near else {
+        return Ok(None);
+    };
+    configuration.tell();
+    if !is_spelt(alloc, configuration, bytes)? {
+        return Ok(None);
+    }
+    Ok(Some(configuration.try_copy(alloc)?))
+}
+
+/// A configuration. If it is the one near, it is shared, and neither checked nor hashed again.
 #[tactic(auto, unfolding(crate::specs::Reading::confirmed_in))]
-fn read_confirm(alloc: Global, bytes: &[u8]) -> Result<Body, WireFault>
+fn read_confirm(
+    alloc: Global,
+    near: Option<&Configuration>,
+    bytes: &[u8],
+) -> Result<Body, WireFault>
     ensures value { Gives body_of result (confirmed_in bytes.now) }
     ensures said { IfOk result (λ b. (sender : process.Process) → CanSay sender b) }
 {
+    if let Some(configuration) = take_near(alloc, near, bytes)? {
+        return Ok(Body::Confirm(configuration));
+    }
     match Configuration::from_bytes(alloc, bytes) {
         Ok(configuration) => Ok(Body::Confirm(configuration)),
         Err(ConfigError::OutOfMemory) => Err(WireFault::OutOfMemory),
@@ -128,10 +178,11 @@ fn read_confirm(alloc: Global, bytes: &[u8]) -> Result<Body, WireFault>
     }
 }
 
-/// What a message of this kind from this sender says.
+/// What a message of this kind from this sender says. A configuration may be near.
 #[tactic(auto, unfolding(crate::specs::Reading::body_in))]
 pub(crate) fn read_body(
     alloc: Global,
+    near: Option<&Configuration>,
     sender: Process,
     kind: FrameKind,
     bytes: &[u8],
@@ -171,7 +222,7 @@ pub(crate) fn read_body(
             let (id, ring) = read_request(bytes)?;
             Ok(Body::JoinRequest(id, ring))
         }
-        FrameKind::Confirm => read_confirm(alloc, bytes),
+        FrameKind::Confirm => read_confirm(alloc, near, bytes),
         FrameKind::Probe => Ok(Body::Probe(read_id(bytes)?)),
         FrameKind::ProbeAck => Ok(Body::ProbeAck(read_id(bytes)?)),
         FrameKind::Leave => {

@@ -72,7 +72,7 @@ fn answer_length(answer: &Reply) -> usize
 
 /// The bytes of a configuration.
 #[tactic(auto, using(crate::proofs::Sizes::configuration_length_is))]
-fn configuration_length(configuration: &Configuration) -> usize
+pub(crate) fn configuration_length(configuration: &Configuration) -> usize
     ensures value { result ≡ length (configuration_bytes configuration.now) }
     ensures few { result ≤ 22577 }
 {

@@ -4,7 +4,7 @@ ghost use Rattle.std.specs.Prelude.{◌≡◌, ◌≤◌, ◌==◌, All, Some, N
 ghost use Rattle.rapid_model.specs.Ballot.{IsClassicBallot};
 ghost use Rattle.rapid_model.specs.Batch.{batch_fault};
 ghost use Rattle.rapid_model.specs.Message.{item_of};
-ghost use Rattle.rapid_alerts.specs.Alerts.{alert_of, kind_of};
+ghost use Rattle.rapid_alerts.specs.Alerts.{alerts_in, kind_of};
 ghost use Rattle.rapid_paxos.specs.Reported.{last_of};
 ghost use Rattle.rapid_join.specs.Answers.{NamesObservers, answer_of};
 ghost use Rattle.rapid_message.specs.Bodies.{IsFrom};
@@ -13,7 +13,7 @@ ghost use Rattle.rapid_wire.specs.Reading.{both, all_of, many, front_at, byte_at
 
 use crate::WireFault;
 use crate::numbers::number_in;
-use rapid_alerts::{Alert, Batch, BatchError, Kind};
+use rapid_alerts::{AlertList, Batch, BatchError, Kind};
 use rapid_config::{ConfigError, ConfigId, Cut};
 use rapid_endpoint::Process;
 use rapid_join::{Reply, RingObservers};
@@ -98,7 +98,9 @@ fn read_processes(
 ) -> Result<(Vec<Process>, &[u8]), WireFault>
     ensures { Gives (λ x. (x.0.items, x.1.now)) result (many count process_at bytes.now) }
 {
-    let mut processes = Vec::new(alloc);
+    // no more room than the bytes can fill, whatever number they announce
+    let most = count.min(bytes.len() / PROCESS_BYTES);
+    let mut processes = Vec::with_capacity(alloc, most)?;
     let mut rest = bytes;
     for _ in 0..count {
         let (front, after) = read_front(rest, PROCESS_BYTES)?;
@@ -224,33 +226,26 @@ fn read_alerts(
     config: ConfigId,
     count: usize,
     bytes: &[u8],
-) -> Result<(Vec<Alert>, &[u8]), WireFault>
-    ensures value { Gives (λ x. (map item_of (map alert_of x.0.items), x.1.now)) result (many count item_at bytes.now) }
-    ensures from { IfOk result (λ x. All (IsFrom observer config) (map alert_of x.0.items)) }
+) -> Result<(AlertList, &[u8]), WireFault>
+    ensures value { Gives (λ x. (map item_of (alerts_in x.0), x.1.now)) result (many count item_at bytes.now) }
+    ensures from { IfOk result (λ x. All (IsFrom observer config) (alerts_in x.0)) }
 {
-    let mut alerts = Vec::new(alloc);
+    let mut alerts = AlertList::new(alloc, observer, config);
     let mut rest = bytes;
     for _ in 0..count {
         let (ring, kind, subject, after) = read_item(rest)?;
-        let alert = Alert {
-            observer,
-            subject: process_in(subject),
-            ring,
-            kind,
-            config,
-        };
-        alerts.push(alert)?;
+        alerts.push(&process_in(subject), ring, kind)?;
         rest = after;
     }
     Ok((alerts, rest))
 }
 
 /// The batch of alerts that are one.
-fn batch_of(alerts: Vec<Alert>) -> Result<Batch, AllocError>
-    requires { batch_fault (map alert_of alerts.items) ≡ None }
-    ensures { IfOk result (λ batch. batch ≡ map alert_of alerts.items) }
+fn batch_of(alloc: Global, alerts: AlertList) -> Result<Batch, AllocError>
+    requires { batch_fault (alerts_in alerts) ≡ None }
+    ensures { IfOk result (λ batch. batch ≡ alerts_in alerts) }
 {
-    match Batch::new(alerts) {
+    match Batch::of_list(alloc, alerts) {
         Ok(batch) => Ok(batch),
         Err(BatchError::OutOfMemory) => Err(AllocError),
         Err(_) => unreachable!(),
@@ -270,11 +265,11 @@ pub(crate) fn read_batch(
 {
     let (count, rest) = read_number(bytes)?;
     let (alerts, rest) = read_alerts(alloc, observer, config, usize::from(count), rest)?;
-    if alerts.is_empty() || alerts.len() > Batch::MOST {
+    if alerts.len() == 0 || alerts.len() > Batch::MOST {
         return Err(WireFault::BadBody);
     }
     ended(rest)?;
-    Ok(batch_of(alerts)?)
+    Ok(batch_of(alloc, alerts)?)
 }
 
 /// The observers of a joiner.

@@ -5,12 +5,12 @@ ghost use Rattle.std.specs.Prelude.{◌≡◌, All, map};
 ghost use Rattle.rapid_model.specs.Process.{IsProcess};
 ghost use Rattle.rapid_model.specs.Message.{item_of};
 ghost use Rattle.rapid_model.specs.Frame.{IsItem, IsAnswer, IsBody, IsMessage, IsReport, IsBatch};
-ghost use Rattle.rapid_alerts.specs.Alerts.{alert_of};
+ghost use Rattle.rapid_alerts.specs.Alerts.{alert_of, alerts_in};
 ghost use Rattle.rapid_paxos.specs.Reported.{last_of};
 ghost use Rattle.rapid_join.specs.Answers.{NamesObservers, answer_of};
 ghost use Rattle.rapid_message.specs.Bodies.{CanSay, body_of};
 
-use rapid_alerts::{Alert, Batch};
+use rapid_alerts::{Alert, AlertList, Batch};
 use rapid_config::Cut;
 use rapid_endpoint::Process;
 use rapid_join::Reply;
@@ -37,11 +37,11 @@ fn tell_alert(alert: Alert)
 
 /// What each alert says can be spelt.
 #[inline(always)]
-fn tell_alerts(alerts: &[Alert])
-    ensures { All (λ a. IsItem (item_of (alert_of a))) alerts.now }
+fn tell_alerts(alerts: &AlertList)
+    ensures { All (λ a. IsItem (item_of a)) (alerts_in alerts.now) }
 {
-    for alert in alerts {
-        tell_alert(*alert);
+    for at in 0..alerts.len() {
+        tell_alert(alerts.alert(at));
     }
 }
 

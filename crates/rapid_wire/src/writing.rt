@@ -6,13 +6,13 @@ ghost use Rattle.rapid_model.specs.Cut.{cut_bytes};
 ghost use Rattle.rapid_model.specs.Message.{item_of};
 ghost use Rattle.rapid_model.specs.Frame.{kind_byte, item_bytes, ballot_bytes, report_bytes, answer_bytes, body_bytes, kind_number};
 ghost use Rattle.std.specs.Int.{w16, to_be_bytes};
-ghost use Rattle.rapid_alerts.specs.Alerts.{alert_of, kind_of};
+ghost use Rattle.rapid_alerts.specs.Alerts.{alert_of, alerts_in, kind_of};
 ghost use Rattle.rapid_paxos.specs.Reported.{last_of};
 ghost use Rattle.rapid_join.specs.Answers.{answer_of};
 ghost use Rattle.rapid_message.specs.Bodies.{body_of};
 
 use crate::numbers::two_bytes;
-use rapid_alerts::{Alert, Batch, Kind};
+use rapid_alerts::{Alert, AlertList, Batch, Kind};
 use rapid_config::{ConfigId, Cut};
 use rapid_endpoint::Process;
 use rapid_join::Reply;
@@ -76,11 +76,11 @@ fn put_alert(out: &mut Vec<u8>, alert: &Alert) -> Result<(), AllocError>
 }
 
 /// Alerts, one after another.
-fn put_alerts(out: &mut Vec<u8>, alerts: &[Alert]) -> Result<(), AllocError>
-    ensures { OnOk result (out.new.items ≡ out.old.items ++ concat (map item_bytes (map item_of (map alert_of alerts.now)))) }
+fn put_alerts(out: &mut Vec<u8>, alerts: &AlertList) -> Result<(), AllocError>
+    ensures { OnOk result (out.new.items ≡ out.old.items ++ concat (map item_bytes (map item_of (alerts_in alerts.now)))) }
 {
-    for alert in alerts {
-        put_alert(out, alert)?;
+    for at in 0..alerts.len() {
+        put_alert(out, &alerts.alert(at))?;
     }
     Ok(())
 }

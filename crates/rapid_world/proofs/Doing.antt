@@ -4,16 +4,16 @@ use Rattle.std.specs.Prelude.{IsTrue, All}
 use Rattle.std.proofs.lemmas.List.{map-append}
 use Rattle.std.proofs.lemmas.List.Elements.{All-append}
 use Rattle.std.specs.List.{list_any}
-use Rattle.rapid_model.specs.Process.{Process, identifier}
-use Rattle.rapid_model.specs.Configuration.{Configuration, AreMembers}
+use Rattle.rapid_model.specs.Process.{Process}
+use Rattle.rapid_model.specs.Configuration.{AreMembers}
 use Rattle.rapid_model.specs.Edge.{probed}
-use Rattle.rapid_model.specs.Node.{Node, Event, EdgeDown, Effect, Outcome, configuration_of, has_installed}
+use Rattle.rapid_model.specs.Node.{Node, Event, EdgeDown, Effect, Outcome, configuration_of}
 use Rattle.rapid_model.specs.NodeStep.{node_step}
-use Rattle.rapid_model.specs.NodeReports.{installed_report}
-use Rattle.rapid_model.specs.World.{World, Peer, Packet, Act, Did, Installed, HasHalted, WorldEvent, MarkedEvent, Entry}
+use Rattle.rapid_model.specs.World.{World, Peer, Packet, Act, Did, HasHalted, WorldEvent, MarkedEvent, Entry}
 use Rattle.rapid_model.specs.WorldStep.{world_step, hands, halted, settled, moved, entry, install_acts, with_edge, edge_on}
-use Rattle.rapid_model.specs.Run.{run, founded, WorldReport, ReportInstalled, reports_of}
+use Rattle.rapid_model.specs.Run.{run, founded, WorldReport, reports_of}
 use Rattle.rapid_model.specs.StoredWorld.{StoredWorld, StoresEvent, world_of, event_refusal, with_event, is_halt}
+use Rattle.rapid_model.proofs.Reporting.{installs}
 use Rattle.rapid_safety.proofs.Histories.{Lived}
 use Rattle.rapid_safety.proofs.Lived.{lived_run}
 use Rattle.rapid_world.specs.Framed.{FramedPacket, framed_packet, HasFrame}
@@ -102,18 +102,6 @@ nil_end (x ∷ xs) = ap (λ l. x ∷ l) (nil_end xs)
 did_quiet : (n : Node) (es : List Effect) (acts : List Act) → reports_of (map (entry n) (map Did es ++ acts)) ≡ reports_of (map (entry n) acts)
 did_quiet n [] acts = refl
 did_quiet n (x ∷ es) acts = did_quiet n es acts
-
-both : (b : Bool) (rs : List WorldReport) → rs ≡ cond b rs rs
-both true rs = refl
-both false rs = refl
-
-installs : (n new : Node) (c : Option Configuration) → reports_of (map (entry n) (install_acts n new c)) ≡ cond (has_installed n new) (installed_report n c) []
-installs n new None = both (has_installed n new) []
-installs n new (Some c) = by (has_installed n new)
-  where
-    by : (b : Bool) → reports_of (map (entry n) (cond b (Installed c ∷ []) [])) ≡ cond b (ReportInstalled (identifier n.me) c ∷ []) []
-    by true = refl
-    by false = refl
 
 -- acts that report nothing, whatever follows
 abbrev pub AreQuiet : Node → List Act → Type 0

@@ -1,5 +1,5 @@
 -- Runs of a world with an event more.
-use Rattle.std.proofs.Common.{◌≡◌, ◌⊎◌, ℕ, suc, ◌+◌, ◌-◌, Bool, true, false, cond, List, [], ◌∷◌, ◌++◌, length, slice_get, length-append, inl, refl, sym, ap, subst, ◌∙◌, Some, None, arith}
+use Rattle.std.proofs.Common.{◌≡◌, ℕ, suc, ◌+◌, ◌-◌, Bool, true, false, cond, List, [], ◌∷◌, ◌++◌, length, slice_get, length-append, refl, sym, ap, subst, ◌∙◌, Some, None, arith}
 use Rattle.std.specs.Prelude.{is_some}
 use Rattle.rapid_model.specs.World as model
 use Rattle.rapid_model.specs.World.{MarkedEvent}
@@ -33,7 +33,7 @@ one_refused _ _ _ _ _ e r (accepts s next t f rs es n w first rest) bars = accep
 one_refused _ _ _ _ _ e r (refuses s t f why es n w g rest) bars = refuses s t f why (es ++ e ∷ []) n w g (one_refused s t es n w e r rest bars)
 one_refused _ _ _ _ _ e r (lacks_memory s t f es n w may rest) bars = lacks_memory s t f (es ++ e ∷ []) n w may (one_refused s t es n w e r rest bars)
 
-one_lacking : (s t : StoredWorld) (es : List model.WorldEvent) (n w : ℕ) (e : model.WorldEvent) → RunsTo s es n w t → (event_refusal t e ≡ None) ⊎ (event_refusal t e ≡ Some refusal.NotObserved) → RunsTo s (es ++ e ∷ []) n (w + 1) t
+one_lacking : (s t : StoredWorld) (es : List model.WorldEvent) (n w : ℕ) (e : model.WorldEvent) → RunsTo s es n w t → event_refusal t e ≡ None → RunsTo s (es ++ e ∷ []) n (w + 1) t
 one_lacking _ _ _ _ _ e (ends s) lacks = lacks_memory s s e [] 0 0 lacks (ends s)
 one_lacking _ _ _ _ _ e (accepts s next t f rs es n w first rest) lacks =
     counted s t (f ∷ (es ++ e ∷ [])) (suc n) (suc n) (wants_of first.halts + (w + 1)) ((wants_of first.halts + w) + 1) refl (omega arith)
@@ -75,7 +75,7 @@ one_passed s t es n w e why run bars = by why bars
     by NoSuchPacket h = refused refusal.NoSuchPacket h
     by NotObserved h = refused refusal.NotObserved h
     by EventsFull h = refused refusal.EventsFull h
-    by OutOfMemory h = counted s t (es ++ e ∷ []) n (n + 0) (w + 1) (w + 1) (omega arith) refl (one_lacking s t es n w e run (inl h))
+    by OutOfMemory h = counted s t (es ++ e ∷ []) n (n + 0) (w + 1) (w + 1) (omega arith) refl (one_lacking s t es n w e run h)
 
 -- ---- if memory ran out 0 times
 

@@ -9,7 +9,8 @@ use Rattle.rapid_model.specs.Run.{step_reports}
 use Rattle.rapid_model.specs.StoredWorld.{StoredWorld, world_of, event_refusal}
 use Rattle.rapid_world.specs.Handed.{Handed, handed, told, KeepsAt}
 
--- The event is not refused, and with either mark its step puts a peer in the place of this one, adds packets and reports.
+-- The event is not refused, and with either mark its step puts a peer in the place of this one, adds packets and
+-- reports.
 pub record Does (s : StoredWorld) (e : WorldEvent) (i : ℕ) (p : Peer) (f : Bool → Handed) : Type 0 where
   pub at : slice_get (world_of s).peers i ≡ Some p
   pub not_refused : event_refusal s e ≡ None

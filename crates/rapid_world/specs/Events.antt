@@ -39,8 +39,8 @@ code_of NotObserved = 5
 code_of EventsFull = 6
 code_of OutOfMemory = 7
 
--- The error says exactly why the event is refused. That the world itself is out of memory is answered only if the event is not
--- refused.
+-- The error says exactly why the event is refused. That the world itself is out of memory is answered only if the event
+-- is not refused.
 abbrev pub Refuses : Option refusal.WorldRefusal → WorldError → Type 0
 Refuses r IdentifierUsed = r ≡ Some refusal.IdentifierUsed
 Refuses r EndpointBusy = r ≡ Some refusal.EndpointBusy

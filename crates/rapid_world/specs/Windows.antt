@@ -13,7 +13,8 @@ use Rattle.rapid_world.specs.Sent.{Sent}
 use Rattle.rapid_world.specs.declared.windows.Windows.{Windows}
 use Rattle.rapid_world.specs.declared.windows.Windows.TheVariants.{Fresh, Left, Kept}
 
--- The windows of a node: fresh ones, those that it left unprobed when it halted, as a member or not, or those that are kept.
+-- The windows of a node: fresh ones, those that it left unprobed when it halted, as a member or not, or those that are
+-- kept.
 abbrev pub windows_of : Windows → Node → model.Monitors
 windows_of Fresh n = windows_in (member_in n) n.me
 windows_of (Left was_member) n = windows_in (if was_member then configuration_of n else None) n.me

@@ -8,8 +8,8 @@ use Rattle.rapid_model.specs.World.{Peer, World, is_running, running_under, peer
 use Rattle.rapid_model.specs.StoredWorld.{StoredWorld, world_of}
 use Rattle.rapid_world.specs.Framed.{FramedPacket, framed_packet, HasFrame}
 
--- These peers are those of the run of the stored events, these framed packets are its packets with the frames of their messages,
--- and its founders can be founders.
+-- These peers are those of the run of the stored events, these framed packets are its packets with the frames of their
+-- messages, and its founders can be founders.
 pub record IsRunOf (s : StoredWorld) (ps : List Peer) (sent : List FramedPacket) : Type 0 where
   pub params : AreParams s.founding.params
   pub members : AreMembers s.founding.members

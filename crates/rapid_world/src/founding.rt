@@ -8,7 +8,7 @@ ghost use Rattle.rapid_model.specs.StoredWorld.{new_world};
 ghost use Rattle.rapid_model.specs.WorldStep.{added};
 
 use crate::World;
-use crate::peers::Peers;
+use crate::peers::Nodes;
 use rapid_config::{ConfigError, Configuration, Params};
 use rapid_endpoint::Process;
 use std::alloc::{AllocError, Global};
@@ -31,12 +31,12 @@ fn founders_of(
     alloc: Global,
     configuration: &Configuration,
     members: &[Process],
-) -> Result<Peers, AllocError>
+) -> Result<Nodes, AllocError>
     requires { members.now ≡ configuration.now.members }
     ensures { IfOk result (λ peers. peers ≡ map (λ p. added (seed_node configuration.now p)) members.now) }
 {
     configuration.tell();
-    let mut peers = Peers::new(alloc);
+    let mut peers = Nodes::new(alloc);
     for process in members {
         peers.found(configuration, *process)?;
     }

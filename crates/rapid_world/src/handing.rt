@@ -15,7 +15,7 @@ ghost use Rattle.rapid_world.specs.Windows.{packets_in};
 use crate::mail::Mail;
 use crate::peer::Peer;
 use crate::sending::Sending;
-use crate::taken::{Taken, Told};
+use crate::taken::{StepTaken, Told};
 use rapid_config::ConfigId;
 use rapid_endpoint::Process;
 use rapid_node::{Event, Views};
@@ -52,7 +52,7 @@ fn speak(
 {
     mail.reserve()?;
     let first = mail.sent();
-    let Taken { told, sending } = peer.take(alloc, views, event, first)?;
+    let StepTaken { told, sending } = peer.take(alloc, views, event, first)?;
     post(mail, sending);
     Ok(told)
 }
@@ -80,8 +80,8 @@ pub(crate) fn hand(
     speak(alloc, views, peer, mail, event)
 }
 
-/// A peer has a further result of a probe of its edge to a process. If the edge is down, its node
-/// is told, and sends nothing at that.
+/// A peer has a further result of a probe of whom it observes on a ring, in this configuration. If
+/// the edge is down, its node is told, and sends nothing at that.
 #[tactic(auto, unfolding(crate::specs::Handed::told))]
 pub(crate) fn probe(
     alloc: Global,
@@ -89,21 +89,20 @@ pub(crate) fn probe(
     peer: &mut Peer,
     ring: u8,
     ok: bool,
-    config: ConfigId,
-    subject: Process,
+    observed: (ConfigId, Process),
 ) -> Result<Told, AllocError>
     requires runs { model.is_halted peer.old.node ≡ false }
     requires member { is_some (model.member_in peer.old.node) ≡ true }
     requires edge { (e : Edge) × (edge_at peer.old.edges ring ≡ Some e) }
-    requires keeps { (probed (step.edge_on peer.old.edges ring) ok).is_down ≡ true → KeepsAt peer.old.node (model.EdgeDown config ring subject) }
-    ensures peer { IfOk result (λ news. peer.new ≡ (told peer.old ring ok (model.EdgeDown config ring subject) news.halts).peer) }
-    ensures packets { IfOk result (λ news. (told peer.old ring ok (model.EdgeDown config ring subject) news.halts).packets ≡ []) }
-    ensures reports { IfOk result (λ news. option_to_list (option_map report_of news.report) ≡ (told peer.old ring ok (model.EdgeDown config ring subject) news.halts).reports) }
+    requires keeps { (probed (step.edge_on peer.old.edges ring) ok).is_down ≡ true → KeepsAt peer.old.node (model.EdgeDown observed.0 ring observed.1) }
+    ensures peer { IfOk result (λ news. peer.new ≡ (told peer.old ring ok (model.EdgeDown observed.0 ring observed.1) news.halts).peer) }
+    ensures packets { IfOk result (λ news. (told peer.old ring ok (model.EdgeDown observed.0 ring observed.1) news.halts).packets ≡ []) }
+    ensures reports { IfOk result (λ news. option_to_list (option_map report_of news.report) ≡ (told peer.old ring ok (model.EdgeDown observed.0 ring observed.1) news.halts).reports) }
     ensures quiet { IfOk result (λ news. (probed (step.edge_on peer.old.edges ring) ok).is_down ≡ false → news.halts ≡ false) }
     ensures peer_unchanged { OnErr result (peer.new ≡ peer.old) }
 {
     if peer.probe(alloc, ring, ok)? {
-        let event = Event::EdgeDown(config, ring, subject);
+        let event = Event::EdgeDown(observed.0, ring, observed.1);
         Ok(peer.take_quietly(views, &event))
     } else {
         Ok(Told::nothing())

@@ -10,16 +10,13 @@ use rapid_node::{Event, Node, NodeFault};
 use std::alloc::AllocError;
 use std::mem;
 
-/// How many views a node installs at most.
-const MOST_VIEWS: usize = 65_536;
-
 /// Whether a node has room for a further view.
 fn has_room(node: &Node) -> bool
     ensures { result ≡ has_room node.now }
 {
     match node.configuration() {
         Some(configuration) => {
-            node.installed().len() < MOST_VIEWS && configuration.height() < u64::MAX
+            node.installed().len() < Node::MOST_VIEWS && configuration.height() < u64::MAX
         }
         None => true,
     }

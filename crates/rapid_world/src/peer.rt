@@ -16,7 +16,7 @@ ghost use Rattle.rapid_world.specs.Handed.{handed, KeepsAt, wants_memory};
 ghost use Rattle.rapid_world.specs.Windows.{packets_in, edge_of, says_down, windows_of};
 
 use crate::recipients::member_configuration;
-use crate::taken::{Taken, Told};
+use crate::taken::{StepTaken, Told};
 use crate::windows::Windows;
 use bytes::Bytes;
 use rapid_config::{ConfigId, Configuration};
@@ -169,7 +169,7 @@ impl Peer {
         views: &mut Views,
         event: &Event,
         first: u64,
-    ) -> Result<Taken, AllocError>
+    ) -> Result<StepTaken, AllocError>
         requires runs { model.is_halted self.old.node ≡ false }
         requires keeps { KeepsAt self.old.node (event_of event.now) }
         ensures peer { IfOk result (λ taken. self.new ≡ (handed self.old (event_of event.now) taken.told.halts).peer) }
@@ -183,7 +183,14 @@ impl Peer {
         match node.step_in(views, event) {
             Ok(outputs) => {
                 let last = self.last.as_ref();
-                let taken = Taken::of(alloc, &self.node, &node, first, outputs.as_slice(), last)?;
+                let taken = StepTaken::of(
+                    alloc,
+                    &self.node,
+                    &node,
+                    first,
+                    outputs.as_slice(),
+                    last,
+                )?;
                 let sent = taken.last_frame()?;
                 keep_last(&mut self.last, sent);
                 self.windows.enter(has_entered(&self.node, &node));
@@ -195,7 +202,7 @@ impl Peer {
                 let was_member = is_in_a_configuration(&self.node);
                 self.windows.leave(was_member);
                 self.node = node;
-                Ok(Taken::halted(id, is_want_of_memory(fault)))
+                Ok(StepTaken::halted(id, is_want_of_memory(fault)))
             }
         }
     }

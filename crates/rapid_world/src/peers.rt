@@ -31,12 +31,12 @@ use std::marker::Model;
 use std::ops::Bound;
 
 /// How many views nodes share at a time.
-const MOST_VIEWS: usize = 8;
+const SHARED_VIEWS: usize = 8;
 
 /// All that ever started, in order. Each is found by its identifier and, while it runs, by its
 /// endpoint. Their nodes share the views that they enter.
 #[derive(Drop)]
-pub(crate) struct Peers {
+pub(crate) struct Nodes {
     peers: Vec<Peer>,
     by_id: PlacesById,
     // of those at one endpoint the last that started
@@ -45,7 +45,7 @@ pub(crate) struct Peers {
     alloc: Global,
 }
 
-impl Model for Peers {
+impl Model for Nodes {
     ghost use Rattle.std.specs.Prelude.{List};
     ghost use Rattle.std.specs.Coded.{coded_list};
     ghost use Rattle.rapid_model.specs.World.{Peer as ModelPeer};
@@ -61,17 +61,17 @@ impl Model for Peers {
     ghost invariant = { λ p. AreFound p.by_id p.by_endpoint p.peers.items };
 }
 
-impl Peers {
+impl Nodes {
     /// No peer.
     #[tactic(auto, using(crate::proofs::Finding::none_found))]
-    pub(crate) fn new(alloc: Global) -> Peers
+    pub(crate) fn new(alloc: Global) -> Nodes
         ensures { result ≡ [] }
     {
-        Peers {
+        Nodes {
             peers: Vec::new(alloc),
             by_id: PlacesById::new(alloc),
             by_endpoint: PlacesByEndpoint::new(alloc),
-            views: Views::new(alloc, MOST_VIEWS),
+            views: Views::new(alloc, SHARED_VIEWS),
             alloc,
         }
     }
@@ -81,6 +81,11 @@ impl Peers {
         ensures { result.now ≡ self.now }
     {
         self.peers.as_slice()
+    }
+
+    /// The configuration of the view that one of them entered last, if any did. It is for speed alone.
+    pub(crate) fn newest_view(&self) -> Option<&Configuration> {
+        self.views.newest()
     }
 
     /// Whether one has the identifier.
@@ -194,20 +199,19 @@ impl Peers {
         Ok(told)
     }
 
-    /// The one at a place has a further result of a probe of its edge to a process; if the edge is
-    /// down, its node is told.
+    /// The one at a place has a further result of a probe of whom it observes on a ring, in this
+    /// configuration. If the edge is down, its node is told.
     pub(crate) fn probe(
         &mut self,
         place: usize,
         ring: u8,
         ok: bool,
-        config: ConfigId,
-        subject: Process,
+        observed: (ConfigId, Process),
     ) -> Result<Told, AllocError>
-        requires { ProbesAt self.old place ring ok (EdgeDown config ring subject) }
-        ensures peers { (p : ModelPeer) → slice_get self.old place ≡ Some p → IfOk result (λ news. self.new ≡ slice_set self.old place (told p ring ok (EdgeDown config ring subject) news.halts).peer) }
-        ensures packets { (p : ModelPeer) → slice_get self.old place ≡ Some p → IfOk result (λ news. (told p ring ok (EdgeDown config ring subject) news.halts).packets ≡ []) }
-        ensures reports { (p : ModelPeer) → slice_get self.old place ≡ Some p → IfOk result (λ news. option_to_list (option_map report_of news.report) ≡ (told p ring ok (EdgeDown config ring subject) news.halts).reports) }
+        requires { ProbesAt self.old place ring ok (EdgeDown observed.0 ring observed.1) }
+        ensures peers { (p : ModelPeer) → slice_get self.old place ≡ Some p → IfOk result (λ news. self.new ≡ slice_set self.old place (told p ring ok (EdgeDown observed.0 ring observed.1) news.halts).peer) }
+        ensures packets { (p : ModelPeer) → slice_get self.old place ≡ Some p → IfOk result (λ news. (told p ring ok (EdgeDown observed.0 ring observed.1) news.halts).packets ≡ []) }
+        ensures reports { (p : ModelPeer) → slice_get self.old place ≡ Some p → IfOk result (λ news. option_to_list (option_map report_of news.report) ≡ (told p ring ok (EdgeDown observed.0 ring observed.1) news.halts).reports) }
         ensures quiet { (p : ModelPeer) → slice_get self.old place ≡ Some p → IfOk result (λ news. (probed (edge_on p.edges ring) ok).is_down ≡ false → news.halts ≡ false) }
         ensures unchanged { OnErr result (self.new ≡ self.old) }
     {
@@ -217,8 +221,7 @@ impl Peers {
             &mut self.peers[place],
             ring,
             ok,
-            config,
-            subject,
+            observed,
         )?;
         Ok(told)
     }

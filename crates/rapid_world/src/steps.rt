@@ -8,6 +8,7 @@ ghost use Rattle.rapid_model.specs.RunHolds.{RunHolds};
 ghost use Rattle.rapid_model.specs.StoredWorld.{StoredWorld, StoresEvent, RunsTo, world_of, accepted, event_refusal};
 ghost use Rattle.rapid_model.specs.World as model;
 ghost use Rattle.rapid_model.specs.World.{Peer};
+ghost use Rattle.rapid_model.specs.Limits.{most_events};
 ghost use Rattle.rapid_node.specs.Steps.{event_of as taken_of};
 ghost use Rattle.rapid_world.specs.Does.{Hands, Probes};
 ghost use Rattle.rapid_world.specs.Events.{event_of, report_of, Refuses};
@@ -56,7 +57,7 @@ impl World {
 
     /// The clock of a node ticks.
     fn tick(&mut self, id: ProcessId) -> Result<Vec<Report>, WorldError>
-        requires { nat_lt (accepted self.old) 1000000 ≡ true }
+        requires { nat_lt (accepted self.old) most_events ≡ true }
         ensures stored { IfOk result (λ reports. StoresEvent self.old self.new (model.Tick id) (map report_of reports.items)) }
         ensures refused { IfErr result (Refuses (event_refusal self.old (model.Tick id))) }
         ensures unchanged { OnErr result (self.new ≡ self.old) }
@@ -70,14 +71,16 @@ impl World {
 
     /// The place of the node to which a packet comes, and the message of its frame.
     fn arrival(&self, number: u64) -> Result<(usize, Message), WorldError>
-        requires { nat_lt (accepted self.now) 1000000 ≡ true }
+        requires { nat_lt (accepted self.now) most_events ≡ true }
         ensures hands { IfOk result (λ x. Hands self.now (model.Deliver number) x.0 (Receive x.1)) }
         ensures refused { IfErr result (Refuses (event_refusal self.now (model.Deliver number))) }
     {
         self.tell();
+        // a host mostly confirms the view that was entered last: the joiner shares it
+        let near = self.peers().newest_view();
         match self.frame(number) {
             Some(packet) => match self.running_at(packet.0) {
-                Some(place) => match read_frame(self.alloc(), packet.1) {
+                Some(place) => match read_frame(self.alloc(), near, packet.1) {
                     Ok(message) => Ok((place, message)),
                     Err(AllocError) => Err(WorldError::OutOfMemory),
                 },
@@ -89,7 +92,7 @@ impl World {
 
     /// A packet comes to the node at its endpoint.
     fn deliver(&mut self, number: u64) -> Result<Vec<Report>, WorldError>
-        requires { nat_lt (accepted self.old) 1000000 ≡ true }
+        requires { nat_lt (accepted self.old) most_events ≡ true }
         ensures stored { IfOk result (λ reports. StoresEvent self.old self.new (model.Deliver number) (map report_of reports.items)) }
         ensures refused { IfErr result (Refuses (event_refusal self.old (model.Deliver number))) }
         ensures unchanged { OnErr result (self.new ≡ self.old) }
@@ -105,7 +108,7 @@ impl World {
 
     /// A node crashes.
     fn crash(&mut self, id: ProcessId) -> Result<Vec<Report>, WorldError>
-        requires { nat_lt (accepted self.old) 1000000 ≡ true }
+        requires { nat_lt (accepted self.old) most_events ≡ true }
         ensures stored { IfOk result (λ reports. StoresEvent self.old self.new (model.Crash id) (map report_of reports.items)) }
         ensures refused { IfErr result (Refuses (event_refusal self.old (model.Crash id))) }
         ensures unchanged { OnErr result (self.new ≡ self.old) }
@@ -121,7 +124,7 @@ impl World {
 
     /// A node is to leave.
     fn leave(&mut self, id: ProcessId) -> Result<Vec<Report>, WorldError>
-        requires { nat_lt (accepted self.old) 1000000 ≡ true }
+        requires { nat_lt (accepted self.old) most_events ≡ true }
         ensures stored { IfOk result (λ reports. StoresEvent self.old self.new (model.Leave id) (map report_of reports.items)) }
         ensures refused { IfErr result (Refuses (event_refusal self.old (model.Leave id))) }
         ensures unchanged { OnErr result (self.new ≡ self.old) }
@@ -135,7 +138,7 @@ impl World {
 
     /// A process starts to join by the seed at an endpoint.
     fn start(&mut self, process: Process, seed: Endpoint) -> Result<Vec<Report>, WorldError>
-        requires { nat_lt (accepted self.old) 1000000 ≡ true }
+        requires { nat_lt (accepted self.old) most_events ≡ true }
         ensures stored { IfOk result (λ reports. StoresEvent self.old self.new (model.Start process seed) (map report_of reports.items)) }
         ensures refused { IfErr result (Refuses (event_refusal self.old (model.Start process seed))) }
         ensures unchanged { OnErr result (self.new ≡ self.old) }
@@ -160,7 +163,7 @@ impl World {
         ring: u8,
         ok: bool,
     ) -> Result<(usize, ConfigId, Process), WorldError>
-        requires { nat_lt (accepted self.now) 1000000 ≡ true }
+        requires { nat_lt (accepted self.now) most_events ≡ true }
         ensures probes { IfOk result (λ x. (p : Peer) × Probes self.now (model.Probe id.now ring ok) x.0 p ring ok (EdgeDown x.1 ring x.2)) }
         ensures refused { IfErr result (Refuses (event_refusal self.now (model.Probe id.now ring ok))) }
     {
@@ -176,7 +179,7 @@ impl World {
 
     /// A node has the result of a probe of the member that it observes on a ring.
     fn probe(&mut self, id: ProcessId, ring: u8, ok: bool) -> Result<Vec<Report>, WorldError>
-        requires { nat_lt (accepted self.old) 1000000 ≡ true }
+        requires { nat_lt (accepted self.old) most_events ≡ true }
         ensures stored { IfOk result (λ reports. StoresEvent self.old self.new (model.Probe id ring ok) (map report_of reports.items)) }
         ensures refused { IfErr result (Refuses (event_refusal self.old (model.Probe id ring ok))) }
         ensures unchanged { OnErr result (self.new ≡ self.old) }
@@ -184,7 +187,7 @@ impl World {
         match self.edge(&id, ring, ok) {
             Ok((place, config, subject)) => {
                 let event = WorldEvent::Probe(id, ring, ok);
-                match self.probe_at(event, place, ring, ok, config, subject) {
+                match self.probe_at(event, place, ring, ok, (config, subject)) {
                     Ok(reports) => Ok(reports),
                     Err(AllocError) => Err(WorldError::OutOfMemory),
                 }

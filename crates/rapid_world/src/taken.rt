@@ -54,7 +54,7 @@ impl Told {
 
 /// What comes of an event, and what the node sends by it.
 #[derive(Debug, Drop)]
-pub(crate) struct Taken {
+pub(crate) struct StepTaken {
     pub(crate) told: Told,
     pub(crate) sending: Option<Sending>,
 }
@@ -101,15 +101,15 @@ fn report_after(alloc: Global, node: &Node, before: usize) -> Result<Option<Repo
     }
 }
 
-impl Taken {
+impl StepTaken {
     /// What comes of it if the node halts, because it is out of memory or for another reason.
-    pub(crate) fn halted(id: ProcessId, halts: bool) -> Taken
+    pub(crate) fn halted(id: ProcessId, halts: bool) -> StepTaken
         ensures halts { result.told.halts ≡ halts }
         ensures report { option_to_list (option_map report_of result.told.report) ≡ ReportHalted id ∷ [] }
         ensures sending { packets_in result.sending ≡ [] }
         ensures first { result.sending ≡ None }
     {
-        Taken {
+        StepTaken {
             told: Told::halted(id, halts),
             sending: None,
         }
@@ -125,7 +125,7 @@ impl Taken {
         first: u64,
         outputs: &[Output],
         last: Option<&Bytes>,
-    ) -> Result<Taken, AllocError>
+    ) -> Result<StepTaken, AllocError>
         ensures halts { IfOk result (λ taken. taken.told.halts ≡ false) }
         ensures report { IfOk result (λ taken. option_to_list (option_map report_of taken.told.report)
             ≡ (if has_installed old.now new.now then installed_report new.now (configuration_of new.now) else [])) }
@@ -139,7 +139,7 @@ impl Taken {
             halts: false,
             report,
         };
-        Ok(Taken { told, sending })
+        Ok(StepTaken { told, sending })
     }
 
     /// The frame that was sent last, shared, if any was.

@@ -14,6 +14,7 @@ ghost use Rattle.rapid_world.specs.Events.{event_of, marked_of, report_of, Refus
 ghost use Rattle.rapid_node.specs.Steps.{event_of as taken_of};
 ghost use Rattle.rapid_model.specs.Node.{EdgeDown};
 ghost use Rattle.rapid_model.specs.World.{Peer as ModelPeer};
+ghost use Rattle.rapid_model.specs.Limits.{most_events};
 ghost use Rattle.rapid_world.specs.Does.{Does, Hands, Probes};
 ghost use Rattle.rapid_world.specs.Framed.{framed_packet, HasFrame};
 ghost use Rattle.rapid_world.specs.Handed.{crash_of};
@@ -22,7 +23,7 @@ ghost use Rattle.rapid_world.specs.Worlds.{IsRunOf};
 use crate::mail::{Mail, push_within};
 use crate::outcome::{has_outcome, is_marked};
 use crate::peer::Peer;
-use crate::peers::Peers;
+use crate::peers::Nodes;
 use crate::report::Report;
 use crate::{WorldError, WorldEvent};
 use rapid_config::{ConfigId, Configuration};
@@ -40,7 +41,7 @@ pub struct World {
     founding: Configuration,
     // all events that it accepted, with their marks
     events: Vec<(WorldEvent, bool)>,
-    peers: Peers,
+    peers: Nodes,
     mail: Mail,
     alloc: Global,
 }
@@ -67,7 +68,7 @@ impl World {
     pub const MOST_EVENTS: usize = 1_000_000;
 
     /// The world of these parts.
-    pub(crate) fn of(alloc: Global, founding: Configuration, peers: Peers) -> World
+    pub(crate) fn of(alloc: Global, founding: Configuration, peers: Nodes) -> World
         requires { IsRunOf (new_world founding) peers [] }
         ensures { result ≡ new_world founding }
     {
@@ -94,7 +95,7 @@ impl World {
     }
 
     /// All that ever started, in order.
-    pub(crate) fn peers(&self) -> &Peers
+    pub(crate) fn peers(&self) -> &Nodes
         ensures { result.now ≡ (world_of self.now).peers }
     {
         &self.peers
@@ -184,7 +185,7 @@ impl World {
         process: Process,
         seed: Endpoint,
     ) -> Result<Vec<Report>, AllocError>
-        requires open { nat_lt (accepted self.old) 1000000 ≡ true }
+        requires open { nat_lt (accepted self.old) most_events ≡ true }
         requires unused { list_any (model.has_identifier (identifier process)) (world_of self.old).peers ≡ false }
         requires free { is_some (model.running_at (world_of self.old) (endpoint process)) ≡ false }
         ensures stored { IfOk result (λ reports. StoresEvent self.old self.new (model.Start process seed) (map report_of reports.items)) }
@@ -197,24 +198,23 @@ impl World {
         Ok(Vec::new(self.alloc))
     }
 
-    /// The node at a place has a result of a probe of its edge to a process by this event, which is
-    /// stored with its mark.
+    /// The node at a place has a result of a probe of whom it observes on a ring by this event, which
+    /// is stored with its mark.
     pub(crate) fn probe_at(
         &mut self,
         event: WorldEvent,
         place: usize,
         ring: u8,
         ok: bool,
-        config: ConfigId,
-        subject: Process,
+        observed: (ConfigId, Process),
     ) -> Result<Vec<Report>, AllocError>
-        requires { (p : ModelPeer) × Probes self.old (event_of event) place p ring ok (EdgeDown config ring subject) }
+        requires { (p : ModelPeer) × Probes self.old (event_of event) place p ring ok (EdgeDown observed.0 ring observed.1) }
         ensures stored { IfOk result (λ reports. StoresEvent self.old self.new (event_of event) (map report_of reports.items)) }
         ensures unchanged { OnErr result (self.new ≡ self.old) }
     {
         self.events.reserve(1)?;
         let reports = Vec::with_capacity(self.alloc, 1)?;
-        let told = self.peers.probe(place, ring, ok, config, subject)?;
+        let told = self.peers.probe(place, ring, ok, observed)?;
         push_within(&mut self.events, (event, told.halts));
         Ok(with_report(reports, told.report))
     }

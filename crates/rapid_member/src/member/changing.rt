@@ -1,6 +1,6 @@
 // Changes of one part of a member: a part that copies share is copied first.
 
-ghost use Rattle.std.specs.Prelude.{◌≡◌, ◌<◌, true, length, map, IfOk, IfSome, IfNone, IfErr, OnOk, OnErr, Ok, Err, Some};
+ghost use Rattle.std.specs.Prelude.{◌≡◌, ◌<◌, true, length, IfOk, IfSome, IfNone, IfErr, OnOk, OnErr, Ok, Err, Some};
 ghost use Rattle.std.specs.FinMap as finite;
 ghost use Rattle.std.specs.Option.{option_map};
 ghost use Rattle.rapid_model.specs.Acceptor as acceptor;
@@ -11,13 +11,13 @@ ghost use Rattle.rapid_model.specs.Host as host;
 ghost use Rattle.rapid_model.specs.Reports.{unstable};
 ghost use Rattle.rapid_model.specs.Ring.{observers_of};
 ghost use Rattle.rapid_model.specs.Tick as tick;
-ghost use Rattle.rapid_alerts.specs.Alerts.{alert_of};
+ghost use Rattle.rapid_alerts.specs.Alerts.{alerts_in};
 ghost use Rattle.rapid_join.specs.Answers.{AnswersObservers, host_answer_of};
 ghost use Rattle.rapid_member.specs.Members.{IsSameMember};
 ghost use Rattle.rapid_paxos.specs.Reported.{last_of};
 
 use super::MemberState;
-use rapid_alerts::Alert;
+use rapid_alerts::AlertList;
 use rapid_config::Cut;
 use rapid_endpoint::Process;
 use rapid_join::HostAnswer;
@@ -38,14 +38,14 @@ impl MemberState {
     }
 
     /// Gives alerts to the detector: the cut, if they complete one.
-    pub(super) fn detect(&mut self, alerts: &[Alert]) -> Result<Option<Cut>, AllocError>
-        ensures state { OnOk result (self.new ≡ record self.old { detector = detector.after_batch (observers_of self.old.config) self.old.detector (map alert_of alerts.now) }) }
-        ensures cut { IfOk result (λ cut. cut ≡ detector.batch_cut (observers_of self.old.config) self.old.detector (map alert_of alerts.now)) }
+    pub(super) fn detect(&mut self, alerts: &AlertList) -> Result<Option<Cut>, AllocError>
+        ensures state { OnOk result (self.new ≡ record self.old { detector = detector.after_batch (observers_of self.old.config) self.old.detector (alerts_in alerts.now) }) }
+        ensures cut { IfOk result (λ cut. cut ≡ detector.batch_cut (observers_of self.old.config) self.old.detector (alerts_in alerts.now)) }
         ensures same { IsSameMember self.old self.new }
     {
         let rest = Arc::make_mut(&mut self.rest)?;
         let detection = Arc::make_mut(&mut rest.detection)?;
-        detection.detector.batch(alerts)
+        detection.detector.batch_of(alerts)
     }
 
     /// The unstable processes, ascending.

@@ -19,7 +19,7 @@ use rapid_config::{ConfigId, Cut};
 use rapid_endpoint::Process;
 use rapid_join::HostAnswer;
 use rapid_message::{Body, Message, Output};
-use rapid_paxos::{Ballot, Promise, copy_vote};
+use rapid_paxos::Ballot;
 use std::alloc::AllocError;
 use std::sync::Arc;
 
@@ -62,17 +62,7 @@ impl MemberState {
                     Ok(None)
                 }
             }
-            Body::Promise(_, ballot, vote) => match self.configuration().position(from) {
-                Some(place) => {
-                    let vote = copy_vote(self.alloc, vote)?;
-                    let promise = Promise {
-                        ballot: *ballot,
-                        vote,
-                    };
-                    self.take_promise(out, place, &promise)
-                }
-                None => Ok(None),
-            },
+            Body::Promise(_, ballot, vote) => self.take_promise_of(out, from, *ballot, vote),
             Body::Accept(_, ballot, cut) => {
                 if self.is_from_coordinator(from, *ballot) {
                     self.take_accept(out, *ballot, cut)

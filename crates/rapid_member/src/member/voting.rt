@@ -1,21 +1,21 @@
 // What a member does with votes and ballots.
 
-ghost use Rattle.std.specs.Prelude.{◌≡◌, ◌<◌, ◌++◌, length, map, IfOk, OnOk, OnErr, Some};
+ghost use Rattle.std.specs.Prelude.{◌≡◌, ◌<◌, ◌++◌, length, IfOk, OnOk, OnErr, Some};
 ghost use Rattle.rapid_model.specs.Ballot.{IsClassicBallot};
 ghost use Rattle.rapid_model.specs.Node.{outputs};
 ghost use Rattle.rapid_model.specs.Member as member;
-ghost use Rattle.rapid_alerts.specs.Alerts.{alert_of};
+ghost use Rattle.rapid_alerts.specs.Alerts.{alert_of, alerts_in};
 ghost use Rattle.rapid_member.specs.Members.{IsSameMember};
 ghost use Rattle.rapid_paxos.specs.Reported.{last_of};
 
 use super::MemberState;
 use crate::sending::{answer, say};
-use rapid_alerts::{Alert, RaiseError};
+use rapid_alerts::{Alert, AlertList, RaiseError};
 use rapid_config::Cut;
 use rapid_endpoint::Process;
 use rapid_fast::HearError;
 use rapid_message::{Body, Output};
-use rapid_paxos::{AcceptError, Ballot, Promise};
+use rapid_paxos::{AcceptError, Ballot, Promise, copy_vote};
 use std::alloc::AllocError;
 use std::sync::Arc;
 
@@ -160,6 +160,31 @@ impl MemberState {
         }
     }
 
+    /// Takes a promise, if its sender is a member.
+    #[inline(always)]
+    pub(super) fn take_promise_of(
+        &mut self,
+        out: &mut Vec<Output>,
+        from: &Process,
+        ballot: Ballot,
+        vote: &Option<(Ballot, Cut)>,
+    ) -> Result<Option<Cut>, AllocError>
+        requires { IsClassicBallot ballot }
+        ensures state { OnOk result (self.new ≡
+            (member.from_member self.old from.now (λ p. member.take_promise self.old p ballot (last_of vote.now))).state) }
+        ensures out { OnOk result (out.new.items ≡ out.old.items ++ outputs self.old.me
+            (member.from_member self.old from.now (λ p. member.take_promise self.old p ballot (last_of vote.now))).effects) }
+        ensures decided { IfOk result (λ d. d ≡
+            (member.from_member self.old from.now (λ p. member.take_promise self.old p ballot (last_of vote.now))).decided) }
+        ensures same { IsSameMember self.old self.new }
+    {
+        let Some(place) = self.configuration().position(from) else {
+            return Ok(None);
+        };
+        let vote = copy_vote(self.alloc, vote)?;
+        self.take_promise(out, place, &Promise { ballot, vote })
+    }
+
     /// Takes a Prepare: the promise goes to its sender, or is taken here if that is the member
     /// itself.
     #[tactic(auto, unfolding(rapid_model::specs::Member::take_prepare))]
@@ -239,11 +264,11 @@ impl MemberState {
     pub(super) fn take_batch(
         &mut self,
         out: &mut Vec<Output>,
-        alerts: &[Alert],
+        alerts: &AlertList,
     ) -> Result<Option<Cut>, AllocError>
-        ensures state { OnOk result (self.new ≡ (member.take_batch self.old (map alert_of alerts.now)).state) }
-        ensures out { OnOk result (out.new.items ≡ out.old.items ++ outputs self.old.me (member.take_batch self.old (map alert_of alerts.now)).effects) }
-        ensures decided { IfOk result (λ d. d ≡ (member.take_batch self.old (map alert_of alerts.now)).decided) }
+        ensures state { OnOk result (self.new ≡ (member.take_batch self.old (alerts_in alerts.now)).state) }
+        ensures out { OnOk result (out.new.items ≡ out.old.items ++ outputs self.old.me (member.take_batch self.old (alerts_in alerts.now)).effects) }
+        ensures decided { IfOk result (λ d. d ≡ (member.take_batch self.old (alerts_in alerts.now)).decided) }
         ensures same { IsSameMember self.old self.new }
     {
         match self.detect(alerts)? {

@@ -132,7 +132,7 @@ fn joining(
         kind: Kind::Join,
         config: configuration.id(),
     };
-    let batch = Batch::new(Vec::from_array(alloc, [alert])?)?;
+    let batch = Batch::new(alloc, &[alert])?;
     let body = Body::Batch(configuration.id(), batch);
     Ok(Message::new(observer, body)?)
 }

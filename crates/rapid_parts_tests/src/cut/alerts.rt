@@ -4,7 +4,7 @@ ghost use Rattle.std.specs.Prelude.{◌≡◌};
 
 use crate::cut::tables::{Start, table};
 use crate::numbered::process;
-use rapid_alerts::{Alert, Batch, BatchError, Kind, Outbox, RaiseError, Raising};
+use rapid_alerts::{Alert, AlertList, Batch, BatchError, Kind, Outbox, RaiseError, Raising};
 use rapid_config::{ConfigId, Params};
 use rapid_rings::Table;
 use std::alloc::{AllocError, Global};
@@ -36,7 +36,7 @@ fn flushed(outbox: &mut Outbox<Table>) -> Result<usize, AllocError> {
 fn has_raised(batch: &Batch, outbox: &Outbox<Table>) -> bool {
     batch.observer() == process(1)
         && batch.config() == ConfigId::zero()
-        && batch.alerts() == outbox.raised()
+        && batch.alerts().says_same(outbox.raised())
 }
 
 /// Whether the next batch has just what was raised.
@@ -198,7 +198,7 @@ fn copy_is_empty(outbox: &Outbox<Table>, table: Table) -> Result<bool, AllocErro
     requires { table ≡ outbox.now.table }
 {
     let copy = outbox.try_copy(table)?;
-    Ok(copy.raised().is_empty())
+    Ok(copy.raised().len() == 0)
 }
 
 /// Whether a copy of a new outbox of process 1 has raised nothing.
@@ -228,7 +228,7 @@ fn alerts(alloc: Global, many: usize) -> Result<Vec<Alert>, AllocError> {
 fn refusal(alloc: Global, many: usize, observer: u16) -> Result<Option<BatchError>, AllocError> {
     let mut alerts = alerts(alloc, many)?;
     alerts.push(alert(Kind::Remove, 0, observer, 5))?;
-    Ok(Batch::new(alerts).err())
+    Ok(Batch::new(alloc, &alerts).err())
 }
 
 const REFUSALS: [(usize, u16, Option<BatchError>); 6] = [
@@ -253,13 +253,65 @@ fn are_refused(alloc: Global, rows: &[(usize, u16, Option<BatchError>)]) -> Resu
 
 /// Why a batch of no alerts is refused.
 fn refusal_of_none(alloc: Global) -> Option<BatchError> {
-    Batch::new(Vec::new(alloc)).err()
+    Batch::new(alloc, &[]).err()
 }
 
 #[test]
 fn a_batch_is_refused_by_the_first_reason(rt: HostRuntime) -> Result<(), Fail> {
     assert!(rt; refusal_of_none(rt.alloc()) == Some(BatchError::EmptyBatch));
     are_refused(rt.alloc(), &REFUSALS)
+}
+
+/// The alerts of process 1 that remove these processes, in a list.
+fn list_on(alloc: Global, subjects: &[u16]) -> Result<AlertList, AllocError> {
+    let mut list = AlertList::new(alloc, process(1), ConfigId::zero());
+    for subject in subjects {
+        list.push(&process(*subject), 0, Kind::Remove)?;
+    }
+    Ok(list)
+}
+
+/// The alert of a list at a place, if there is one.
+fn listed(list: &AlertList, at: usize) -> Option<Alert> {
+    if at < list.len() {
+        Some(list.alert(at))
+    } else {
+        None
+    }
+}
+
+/// Subjects that stand again: next to each other, and apart.
+const SUBJECTS: [u16; 8] = [5, 5, 6, 7, 5, 6, 5, 7];
+
+#[test]
+fn a_list_has_the_alerts_that_were_pushed(rt: HostRuntime) -> Result<(), Fail> {
+    let list = list_on(rt.alloc(), &SUBJECTS)?;
+    assert!(rt; list.len() == 8);
+    for (at, subject) in SUBJECTS.iter().enumerate() {
+        let expected = alert(Kind::Remove, 0, 1, *subject);
+        assert!(rt; listed(&list, at) == Some(expected), "at {at}");
+    }
+    Ok(())
+}
+
+#[test]
+fn lists_of_the_same_alerts_say_the_same(rt: HostRuntime) -> Result<(), Fail> {
+    let list = list_on(rt.alloc(), &SUBJECTS)?;
+    assert!(rt; list.says_same(&list_on(rt.alloc(), &SUBJECTS)?));
+    assert!(rt; !list.says_same(&list_on(rt.alloc(), &[5, 5, 6, 7, 5, 6, 5])?));
+    assert!(rt; !list.says_same(&list_on(rt.alloc(), &[5, 5, 6, 7, 5, 6, 5, 8])?));
+    Ok(())
+}
+
+#[test]
+fn a_list_is_a_batch_if_its_alerts_are(rt: HostRuntime) -> Result<(), Fail> {
+    let batch = Batch::of_list(rt.alloc(), list_on(rt.alloc(), &SUBJECTS)?)?;
+    assert!(rt; batch.alerts().len() == 8);
+    let none = Batch::of_list(rt.alloc(), list_on(rt.alloc(), &[])?);
+    assert!(rt; none.err() == Some(BatchError::EmptyBatch));
+    let many = Batch::of_list(rt.alloc(), list_on(rt.alloc(), &[5; 2049])?);
+    assert!(rt; many.err() == Some(BatchError::TooManyAlerts));
+    Ok(())
 }
 
 const RAISING: [(RaiseError, u8); 5] = [

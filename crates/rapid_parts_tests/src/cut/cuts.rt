@@ -5,7 +5,7 @@ ghost use Rattle.std.specs.Prelude.{◌≡◌};
 
 use crate::cut::tables::{Edge, Start, table};
 use crate::numbered::{are_numbered, process};
-use rapid_alerts::{Alert, Kind};
+use rapid_alerts::{Alert, AlertList, Kind};
 use rapid_config::{ConfigId, Cut, Params};
 use rapid_cut::Detector;
 use rapid_rings::Table;
@@ -50,12 +50,11 @@ fn alerts(alloc: Global, kind: Kind, edges: &[Edge]) -> Result<Vec<Alert>, Alloc
     Ok(alerts)
 }
 
-/// Alerts of process 1 on ring 0 that let in this many others, from 2 on.
-fn alerts_of_one(alloc: Global, many: u16) -> Result<Vec<Alert>, AllocError> {
-    let mut alerts = Vec::new(alloc);
+/// The alerts of process 1 on ring 0 that let in this many others, from 2 on.
+fn alerts_of_one(alloc: Global, many: u16) -> Result<AlertList, AllocError> {
+    let mut alerts = AlertList::new(alloc, process(1), ConfigId::zero());
     for number in 0..many {
-        let edge = (0, 1, number.wrapping_add(2));
-        alerts.push(alert_in(ConfigId::zero(), Kind::Join, &edge))?;
+        alerts.push(&process(number.wrapping_add(2)), 0, Kind::Join)?;
     }
     Ok(alerts)
 }
@@ -99,7 +98,8 @@ fn lets_in(
     skipped: usize,
 ) -> Result<bool, AllocError> {
     let alerts = alerts_of_one(alloc, many)?;
-    has_cut(detector, alerts.as_slice(), &[], skipped)
+    let found = detector.batch_of(&alerts)?;
+    Ok(found.is_none() && detector.skipped() == skipped)
 }
 
 /// Whether an alert of another configuration is skipped.

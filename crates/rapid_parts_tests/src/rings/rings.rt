@@ -247,6 +247,52 @@ fn the_next_rings_keep_the_keys(rt: HostRuntime) -> Result<(), Fail> {
     runs(rt.alloc(), THREE, &BEFORE, &NEXT)
 }
 
+// Who observes the two that join, in the members before.
+const OF_BEFORE: [Edge; 6] = [
+    (0, 1, 2),
+    (1, 6, 2),
+    (2, 4, 2),
+    (0, 1, 5),
+    (1, 3, 5),
+    (2, 4, 5),
+];
+
+/// The next rings take over keys of joiners that were asked for.
+#[test]
+fn the_next_rings_take_over_keys_of_joiners(rt: HostRuntime) -> Result<(), Fail> {
+    let calls = [Call::Edges(&OF_BEFORE), Call::Next(&FIVE, &OF_FIVE)];
+    runs(rt.alloc(), THREE, &BEFORE, &calls)
+}
+
+// Six joiners whose identifiers end alike in ten bits: their keys are kept in the same four places.
+const SHARING: [Edge; 18] = [
+    (0, 4, 6),
+    (1, 1, 6),
+    (2, 3, 6),
+    (0, 2, 1_030),
+    (1, 5, 1_030),
+    (2, 5, 1_030),
+    (0, 4, 2_054),
+    (1, 3, 2_054),
+    (2, 4, 2_054),
+    (0, 3, 3_078),
+    (1, 1, 3_078),
+    (2, 3, 3_078),
+    (0, 1, 4_102),
+    (1, 1, 4_102),
+    (2, 3, 4_102),
+    (0, 3, 5_126),
+    (1, 5, 5_126),
+    (2, 1, 5_126),
+];
+
+/// Asked for twice, so that the second answers come from keys that are kept, and from others.
+#[test]
+fn joiners_that_share_places_have_their_own_observers(rt: HostRuntime) -> Result<(), Fail> {
+    let calls = [Call::Edges(&SHARING), Call::Edges(&SHARING)];
+    runs(rt.alloc(), THREE, &FIVE, &calls)
+}
+
 const SEARCHES: [Call; 2] = [Call::Search(1, 4, true, 2), Call::Search(2, 6, false, 3)];
 
 #[test]

@@ -1,7 +1,7 @@
 // Worked frames, and what is refused.
 
 use crate::numbered::process;
-use rapid_config::ConfigId;
+use rapid_config::{ConfigId, Configuration};
 use rapid_join::Reply;
 use rapid_message::{Body, Message};
 use rapid_wire::{Feed, WireFault, encode, read_frame};
@@ -93,10 +93,14 @@ fn writes(alloc: Global, message: &Message, frame: &[u8]) -> Result<bool, AllocE
     Ok(written.as_slice() == frame)
 }
 
-/// Whether a message is read from its frame alone as it was.
-fn stands_alone(alloc: Global, message: &Message) -> Result<bool, AllocError> {
+/// Whether a message is read from its frame alone as it was, with this configuration near.
+fn stands_alone(
+    alloc: Global,
+    near: Option<&Configuration>,
+    message: &Message,
+) -> Result<bool, AllocError> {
     let frame = encode(alloc, message)?;
-    let read = read_frame(alloc, frame.as_slice())?;
+    let read = read_frame(alloc, near, frame.as_slice())?;
     writes(alloc, &read, frame.as_slice())
 }
 
@@ -105,7 +109,7 @@ fn returns(alloc: Global, feed: &mut Feed, bytes: &[u8]) -> Result<bool, WireFau
     match fed(feed, bytes)? {
         Some(message) => Ok(
             writes(alloc, &message, bytes)?
-                && stands_alone(alloc, &message)?
+                && stands_alone(alloc, None, &message)?
                 && feed.next()?.is_none(),
         ),
         None => Ok(false),
@@ -164,6 +168,24 @@ const GOOD: [Parts; 21] = [
 fn every_kind_goes_out_and_back_however_it_is_cut(rt: HostRuntime) -> Result<(), Fail> {
     for body in &GOOD {
         assert!(rt; goes_out_and_back(rt.alloc(), body)?, "at {body:?}");
+    }
+    Ok(())
+}
+
+/// The configuration of the first process and this one.
+fn configuration_with(alloc: Global, other: &[u8]) -> Result<Configuration, Fail> {
+    let mut bytes = Vec::new(alloc);
+    append(&mut bytes, &[&HEAD, &[0, 2], &ONE, other])?;
+    Ok(Configuration::from_bytes(alloc, bytes.as_slice())?)
+}
+
+#[test]
+fn a_configuration_near_changes_no_message(rt: HostRuntime) -> Result<(), Fail> {
+    let said = configuration_with(rt.alloc(), &TWO)?;
+    let other = configuration_with(rt.alloc(), &THREE)?;
+    let message = Message::new(process(1), Body::Confirm(said.try_copy(rt.alloc())?))?;
+    for near in [None, Some(&said), Some(&other)] {
+        assert!(rt; stands_alone(rt.alloc(), near, &message)?);
     }
     Ok(())
 }

@@ -23,7 +23,7 @@ fn batch(alloc: Global, observer: u16, config: u8) -> Result<Body, Fail> {
         kind: Kind::Join,
         config: ConfigId::new([config; 32]),
     };
-    let batch = Batch::new(Vec::from_array(alloc, [alert])?)?;
+    let batch = Batch::new(alloc, &[alert])?;
     Ok(Body::Batch(ConfigId::zero(), batch))
 }
 

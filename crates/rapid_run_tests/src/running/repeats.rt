@@ -39,15 +39,14 @@ fn vote(alloc: Global, sender: u8, id: ConfigId, joiner: u8) -> Result<Message, 
 
 /// A batch of a process with an alert on another.
 fn batch(alloc: Global, sender: u8, id: ConfigId, joiner: u8) -> Result<Message, Fail> {
-    let mut alerts = Vec::new(alloc);
-    alerts.push(Alert {
+    let alert = Alert {
         observer: process(sender),
         subject: process(joiner),
         ring: 0,
         kind: Kind::Join,
         config: id,
-    })?;
-    let batch = Body::Batch(id, Batch::new(alerts)?);
+    };
+    let batch = Body::Batch(id, Batch::new(alloc, &[alert])?);
     Ok(Message::new(process(sender), batch)?)
 }
 

@@ -8,5 +8,5 @@ abbrev pub invariant-loop-joiner : goal.invariant-loop-joiner
 invariant-loop-joiner l = record {
   joined : with_joiners l.members.items (drop l.joiner-index l.joiners) ≡ with_joiners l.fn.members.items l.joiners;
   valid : AreMembers l.members.items;
-  endpoints : AreEndpointsOf l.members.items l.endpoints;
+  endpoints : AreEndpointsOf l.members.items l.endpoints.keys;
 }

@@ -12,12 +12,15 @@ loop-subject-init g c =
       before = refl;
     }
 
-pub add_implied-requires-clause-low : goal.add_implied-requires-clause-low
-add_implied-requires-clause-low g c =
+pub add_implied-requires : goal.add_implied-requires
+add_implied-requires g c =
     let t = g.T.ObserverTable.observers c.args.table.now in
-    subst (λ d. reaches_low t d (Some c.subject-item.result) ≡ true) (sym c.loop-subject.invariant.direct)
-    (passing_low t c.args.known.now.reports.direct c.loop-subject.known.reports.all _ _ c.subject-item.result
-    (drop_next c.args.subjects.now c.loop-subject.subject-index c.subject-item.result c.loop-subject-test.true c.subject-item.is) c.loop-subject.invariant.passing)
+    record {
+      low =
+          subst (λ d. reaches_low t d (Some c.subject-item.result) ≡ true) (sym c.loop-subject.invariant.direct)
+          (passing_low t c.args.known.now.reports.direct c.loop-subject.known.reports.all _ _ c.subject-item.result
+          (drop_next c.args.subjects.now c.loop-subject.subject-index c.subject-item.result c.loop-subject-test.true c.subject-item.is) c.loop-subject.invariant.passing);
+    }
 
 pub loop-subject-preserved : goal.loop-subject-preserved
 loop-subject-preserved g c =

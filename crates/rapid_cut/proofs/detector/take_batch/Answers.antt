@@ -1,8 +1,7 @@
-use Rattle.std.proofs.Common.{◌∙◌, sym, subst, map}
+use Rattle.std.proofs.Common.{◌∙◌, sym, subst}
 use Rattle.std.specs.List.Sorted.{IsStrictlySortedBy}
 use Rattle.rapid_model.specs.Process.{process_cmp}
 use Rattle.rapid_model.specs.Detector.{taken}
-use Rattle.rapid_alerts.specs.Alerts.{alert_of}
 use Rattle.rapid_cut.specs.Growing.{HaveGrown}
 use Rattle.rapid_cut.proofs.Active.{none_grown, sorted_active, grown_in_order, in_order_ascends, active_same, known_still, known_between, closure_includes, low_among, come_since}
 use Rattle.rapid_cut.proofs.detector.take_batch.Goals as goal
@@ -16,7 +15,7 @@ settle-requires-clause-known g c =
     let t = g.T.ObserverTable.observers c.args.table.now in
     let old = c.args.known.now.reports in
     let new = c.take_all.new.known.reports in
-    known_between t old.direct old.all new.direct new.all (taken t old.direct (map alert_of c.args.alerts.now)) c.requires.detecting.rules c.requires.detecting.closure
+    known_between t old.direct old.all new.direct new.all (taken t old.direct (g.A.InTurn.alerts c.args.alerts.now)) c.requires.detecting.rules c.requires.detecting.closure
     c.in_ok-joiners.ensures.all c.in_ok-joiners.ensures.direct
 
 pub settle-requires-clause-low : goal.settle-requires-clause-low
@@ -40,7 +39,7 @@ settle-requires-clause-come g c =
     let t = g.T.ObserverTable.observers c.args.table.now in
     let old = c.args.known.now.reports in
     let new = c.take_all.new.known.reports in
-    come_since t old.direct old.all new.direct new.all c.deref.result.now (taken t old.direct (map alert_of c.args.alerts.now)) c.requires.detecting.rules c.requires.detecting.closure c.in_ok-joiners.ensures.all
+    come_since t old.direct old.all new.direct new.all c.deref.result.now (taken t old.direct (g.A.InTurn.alerts c.args.alerts.now)) c.requires.detecting.rules c.requires.detecting.closure c.in_ok-joiners.ensures.all
     (subst (HaveGrown t old.direct new.direct) (sym c.deref.ensures.value) (grown_in_order t old.direct new.direct c.in_ok-joiners.field-0.grown.items c.ascending-grown.result.items c.ascending-grown.ensures c.in_ok-joiners.ensures.grown))
 
 pub settle-requires-clause-closed : goal.settle-requires-clause-closed
@@ -48,7 +47,7 @@ settle-requires-clause-closed g c none =
     let t = g.T.ObserverTable.observers c.args.table.now in
     let old = c.args.known.now.reports in
     let new = c.take_all.new.known.reports in
-    known_still t old.direct old.all new.direct new.all (taken t old.direct (map alert_of c.args.alerts.now)) c.requires.detecting.rules c.requires.detecting.closure
+    known_still t old.direct old.all new.direct new.all (taken t old.direct (g.A.InTurn.alerts c.args.alerts.now)) c.requires.detecting.rules c.requires.detecting.closure
     c.in_ok-joiners.ensures.all c.in_ok-joiners.ensures.direct
     (none_grown t old.direct new.direct c.ascending-grown.result.items (sym c.deref.ensures.value ∙ none)
     (grown_in_order t old.direct new.direct c.in_ok-joiners.field-0.grown.items c.ascending-grown.result.items c.ascending-grown.ensures c.in_ok-joiners.ensures.grown))

@@ -7,7 +7,7 @@ use Rattle.rapid_world.proofs.handing.probe.Goals as goal
 
 pub take_quietly-requires-clause-keeps : goal.take_quietly-requires-clause-keeps
 take_quietly-requires-clause-keeps c =
-    subst (λ (n : model.Node). KeepsAt n (model.EdgeDown c.args.config c.args.ring c.args.subject))
+    subst (λ (n : model.Node). KeepsAt n (model.EdgeDown c.args.observed.0 c.args.ring c.args.observed.1))
     (sym (ap (λ (p : Peer). p.node) c.in_ok-probe.ensures.peer))
     (c.requires.keeps (sym c.in_ok-probe.ensures.down ∙ c.if-branch.true))
 

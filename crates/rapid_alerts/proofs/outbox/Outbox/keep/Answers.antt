@@ -1,23 +1,42 @@
-use Rattle.std.proofs.Common.{◌≡◌, [], ◌∷◌, ◌++◌, List, map, ap, ◌∙◌}
-use Rattle.std.proofs.lemmas.List.{map-append}
+use Rattle.std.proofs.Common.{[], ◌∷◌, ◌++◌, List, ap, sym, ◌∙◌}
+use Rattle.rapid_model.specs.Alert.{Alert}
 use Rattle.rapid_model.specs.Outbox.{Outbox}
-use Rattle.rapid_alerts.specs.Alerts.{alert_of}
-use Rattle.rapid_alerts.specs.declared.alert.Alert.{Alert}
-use Rattle.rapid_alerts.proofs.Raisings.{raised_parts, kept_seen, raising_along}
+use Rattle.rapid_alerts.specs.Alerts.{ListedAlerts, alert_of, alerts_in}
+use Rattle.rapid_alerts.proofs.Listing.{listed_more}
+use Rattle.rapid_alerts.proofs.Raisings.{raised_parts, parts_of, kept_seen, raising_along, outbox_along}
 use Rattle.rapid_alerts.proofs.outbox.Outbox.keep.Goals as goal
 
 pub add-requires : goal.add-requires
 add-requires g c =
     let observers = g.T.ObserverTable.observers in
     let a = alert_of c.args.alert in
-    let o : Outbox = record { raised = map alert_of c.self.inside.raised.items; flushed = c.self.inside.flushed } in
-    (raised_parts (observers c.self.inside.table) c.self.inside.owner o c.self.inside.index a c.self.invariant (raising_along observers a c.self.view_is ∙ c.requires)).1
+    let o : Outbox = record { raised = alerts_in c.self.inside.raised; flushed = c.self.inside.flushed } in
+    (raised_parts (observers c.self.inside.table) c.self.inside.owner o c.self.inside.index a c.self.invariant.0 (raising_along observers a c.self.view_is ∙ c.requires)).1
 
-pub invariant_of-self-2 : goal.invariant_of-self-2
-invariant_of-self-2 g c =
+pub invariant_of-self-in-Ok : goal.invariant_of-self-in-Ok
+invariant_of-self-in-Ok g c =
     let observers = g.T.ObserverTable.observers in
+    let t = observers c.self.inside.table in
     let a = alert_of c.args.alert in
-    let o : Outbox = record { raised = map alert_of c.self.inside.raised.items; flushed = c.self.inside.flushed } in
-    kept_seen (observers c.self.inside.table) c.self.inside.owner o c.self.inside.index c.add.new.self a (map alert_of c.push.new.self.items) c.self.invariant (raising_along observers a c.self.view_is ∙ c.requires)
-    (ap (map alert_of) (c.in-Ok.ensures.items ∙ ap (λ (xs : List Alert). xs ++ c.args.alert ∷ []) c.in_ok-try_reserve.ensures.items) ∙ map-append alert_of c.self.inside.raised.items (c.args.alert ∷ []))
-    c.in_ok-add.ensures.added
+    let o : Outbox = record { raised = alerts_in c.self.inside.raised; flushed = c.self.inside.flushed } in
+    let raised = raising_along observers a c.self.view_is ∙ c.requires in
+    let parts = parts_of t c.self.inside.owner a (raised_parts t c.self.inside.owner o c.self.inside.index a c.self.invariant.0 raised).0 in
+    let pushed = c.in_ok-push.ensures.pushed in (
+      kept_seen t c.self.inside.owner o c.self.inside.index c.add.new.self a (alerts_in c.push.new.self) c.self.invariant.0 raised
+          (listed_more c.self.inside.raised c.push.new.self a pushed (parts.observer ∙ sym c.self.invariant.1) (parts.config ∙ sym c.self.invariant.2))
+          c.in-Ok.ensures.added,
+      ap (λ (l : ListedAlerts). l.observer) pushed ∙ c.self.invariant.1,
+      ap (λ (l : ListedAlerts). l.config) pushed ∙ c.self.invariant.2,
+    )
+
+pub returns-in-Ok-clause-kept : goal.returns-in-Ok-clause-kept
+returns-in-Ok-clause-kept g c =
+    let observers = g.T.ObserverTable.observers in
+    let t = observers c.self.inside.table in
+    let a = alert_of c.args.alert in
+    let o : Outbox = record { raised = alerts_in c.self.inside.raised; flushed = c.self.inside.flushed } in
+    let raised = raising_along observers a c.self.view_is ∙ c.requires in
+    let parts = parts_of t c.self.inside.owner a (raised_parts t c.self.inside.owner o c.self.inside.index a c.self.invariant.0 raised).0 in
+    ap (λ (xs : List Alert). let p : Outbox = record { raised = xs; flushed = c.self.inside.flushed } in p)
+    (listed_more c.self.inside.raised c.push.new.self a c.in_ok-push.ensures.pushed (parts.observer ∙ sym c.self.invariant.1) (parts.config ∙ sym c.self.invariant.2))
+    ∙ ap (λ (x : Outbox). let p : Outbox = record { raised = x.raised ++ a ∷ []; flushed = x.flushed } in p) (outbox_along c.self.view_is)

@@ -5,14 +5,14 @@ use Rattle.rapid_model.specs.Alert as model
 use Rattle.rapid_model.specs.DetectLine.{Place, Report}
 use Rattle.rapid_model.specs.DetectText.{Command, TooMany, refusal_line, after, printed}
 use Rattle.rapid_alerts.specs.Alerts.{kind_of, alert_of}
-use Rattle.rapid_detect.specs.declared.detect.Phase.{Phase}
-use Rattle.rapid_detect.specs.declared.detect.Phase.TheVariants.{Unmarked, Building, Reporting}
+use Rattle.rapid_detect.specs.declared.detect.DetectPhase.{DetectPhase}
+use Rattle.rapid_detect.specs.declared.detect.DetectPhase.TheVariants.{Unmarked, Building, Reporting}
 use Rattle.rapid_detect.specs.Commands.{place_of}
 use Rattle.rapid_detect.specs.Phases.{run_by}
 use Rattle.rapid_detect.proofs.detect.DetectRun.report.Goals as goal
 
 -- A full batch stays as it is.
-full : (p : Phase) (j e : ℕ) (xs : List model.Alert) (kind : model.Kind) (x : Place) → p ≢ Unmarked → nat_lt (length xs) 16384 ≡ false
+full : (p : DetectPhase) (j e : ℕ) (xs : List model.Alert) (kind : model.Kind) (x : Place) → p ≢ Unmarked → nat_lt (length xs) 16384 ≡ false
     → (run_by p j e xs ≡ after (run_by p j e xs) (Command (Report kind x))) × (refusal_line TooMany ≡ printed (run_by p j e xs) (Command (Report kind x)))
 unfolding after printed
 full Unmarked j e xs kind x n h = absurd (n refl)

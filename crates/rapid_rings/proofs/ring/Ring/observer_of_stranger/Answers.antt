@@ -11,7 +11,7 @@ returns c =
     let xs = c.args.self.now in
     let process = c.args.process.now in
     let n = c.count_below-below.result in
-    let point = subst (λ (key : _). IsPartitionPoint (λ x. member_below ms (key, process) x ≡ true) (λ x. member_below ms (key, process) x ≡ false) xs n) c.ring_key.ensures c.count_below-below.ensures.point in
+    let point = subst (λ (key : _). IsPartitionPoint (λ x. member_below ms (key, process) x ≡ true) (λ x. member_below ms (key, process) x ≡ false) xs n) c.key.ensures c.count_below-below.ensures.point in
     c.member_at.ensures
     ∙ ap (member_if_any ms) (c.place.ensures ∙ ap (place_at xs) (c.previous.ensures ∙ ap (rank_before n) c.count.ensures))
     ∙ observer_of_stranger k ms xs n process c.requires.order c.requires.stranger c.count_below-below.ensures.bound point

@@ -36,18 +36,18 @@ probe-requires c =
 pub invariant_of-self-2 : goal.invariant_of-self-2
 invariant_of-self-2 c =
     let at = at_place _ _ _ _ _ _ c.self.invariant c.self.view_is c.requires.1.does.at in
-    given_run c.args.self.now _ _ _ _ (c.args.event, c.in_ok-told.told.halts) _ _ _ _ _ _ (told c.requires.0 c.args.ring c.args.ok (EdgeDown c.args.config c.args.ring c.args.subject))
+    given_run c.args.self.now _ _ _ _ (c.args.event, c.in_ok-told.told.halts) _ _ _ _ _ _ (told c.requires.0 c.args.ring c.args.ok (EdgeDown c.args.observed.0 c.args.ring c.args.observed.1))
     c.self.view_is c.reserve.ensures.items c.push_within.ensures c.self.invariant c.requires.1.does
     (c.in_ok-told.ensures.peers c.requires.0 at) (none_more _ _ (c.in_ok-told.ensures.packets c.requires.0 at)) (none_framed _ (c.in_ok-told.ensures.packets c.requires.0 at))
 
 pub returns-clause-stored : goal.returns-clause-stored
 returns-clause-stored c =
     let at = at_place _ _ _ _ _ _ c.self.invariant c.self.view_is c.requires.1.does.at in
-    given_stored c.args.self.now _ _ _ _ (c.args.event, c.in_ok-told.told.halts) _ _ (told c.requires.0 c.args.ring c.args.ok (EdgeDown c.args.config c.args.ring c.args.subject)) _
+    given_stored c.args.self.now _ _ _ _ (c.args.event, c.in_ok-told.told.halts) _ _ (told c.requires.0 c.args.ring c.args.ok (EdgeDown c.args.observed.0 c.args.ring c.args.observed.1)) _
     c.self.view_is c.reserve.ensures.items c.push_within.ensures c.requires.1.does
     (one_report _ _ _ c.with_report.ensures c.in_ok-reports.ensures.items ∙ c.in_ok-told.ensures.reports c.requires.0 at)
-    (told_marks c.requires.0 c.args.ring c.args.ok (EdgeDown c.args.config c.args.ring c.args.subject) c.in_ok-told.told.halts (c.in_ok-told.ensures.quiet c.requires.0 at))
-    (λ t. told_needed c.requires.0 c.args.ring c.args.ok c.args.config c.args.subject)
+    (told_marks c.requires.0 c.args.ring c.args.ok (EdgeDown c.args.observed.0 c.args.ring c.args.observed.1) c.in_ok-told.told.halts (c.in_ok-told.ensures.quiet c.requires.0 at))
+    (λ t. told_needed c.requires.0 c.args.ring c.args.ok c.args.observed.0 c.args.observed.1)
 
 pub invariant_of-self-in_err-told : goal.invariant_of-self-in_err-told
 invariant_of-self-in_err-told c =

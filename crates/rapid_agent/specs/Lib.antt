@@ -1,0 +1,4 @@
+pub mod Changing
+pub mod Following
+pub mod Laws
+pub mod Opening

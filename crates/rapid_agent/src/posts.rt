@@ -1,0 +1,20 @@
+// Frames to the peers.
+
+use bytes::Bytes;
+use rapid_endpoint::Endpoint;
+use rapid_service::Post;
+use rapid_transport::Peers;
+use std::sync::{Arc, Wait};
+
+/// Gives frames to the senders of the peers. A frame that finds a queue full is lost, and so is one
+/// to an endpoint at which no peer can be, which the senders do not dial. The peers count both.
+#[derive(Drop)]
+pub struct Posts {
+    pub(crate) peers: Arc<Peers>,
+}
+
+impl Post for Posts {
+    fn post<W: Wait>(&mut self, rt: &W, to: Endpoint, frame: Bytes) {
+        let _ = self.peers.post(rt, to, frame);
+    }
+}

@@ -1,0 +1,218 @@
+// Lists of alerts in which each names its subject by a place.
+
+ghost use Rattle.std.specs.Prelude.{◌≡◌, ◌<◌, ◌≤◌, ◌+◌, ◌++◌, ◌∷◌, true, [], Some, List, slice_get, length, take, drop, IfOk, IfSome, OnOk, OnErr};
+ghost use Rattle.rapid_model.specs.Message.{AlertItem, item_of};
+ghost use Rattle.rapid_alerts.specs.Alerts.{alert_of, alerts_in, kind_of};
+ghost use Rattle.rapid_alerts.specs.Listing.{Grows};
+
+use crate::{Alert, Kind};
+use rapid_config::ConfigId;
+use rapid_endpoint::Process;
+use std::alloc::{AllocError, Global};
+use std::marker::Model;
+
+/// The most subjects of a list: as many as its places can tell apart.
+const MOST_SUBJECTS: usize = 65_536;
+
+/// An alert of a list: its subject's place among the list's subjects, its ring and its kind.
+#[derive(Clone, Copy, Debug, PartialEq, Eq)]
+pub(crate) struct Item {
+    pub(crate) place: u16,
+    pub(crate) ring: u8,
+    pub(crate) kind: Kind,
+}
+
+/// Alerts of one observer and one configuration, in order.
+///
+/// Observer and configuration stand once, and so does a subject of alerts that follow each other.
+/// An alert more takes 4 bytes.
+#[derive(Debug, Drop)]
+pub struct AlertList {
+    observer: Process,
+    config: ConfigId,
+    subjects: Vec<Process>,
+    items: Vec<Item>,
+}
+
+impl Model for AlertList {
+    ghost use Rattle.std.specs.Prelude.{map};
+    ghost use Rattle.rapid_alerts.specs.Alerts.{ArePlaced, ListedAlerts, item_in, listed_code};
+
+    ghost Value = { ListedAlerts };
+
+    ghost coded = { listed_code };
+
+    ghost view = { λ l. record { observer = l.observer; config = l.config; items = map (item_in l.subjects.items) l.items.items } };
+
+    ghost invariant = { λ l. ArePlaced l.subjects.items l.items.items };
+}
+
+/// Whether this process stands at the place.
+fn is_at(subjects: &[Process], place: usize, subject: &Process) -> bool
+    ensures { result ≡ true → slice_get subjects.now place ≡ Some subject.now }
+{
+    match subjects.get(place) {
+        Some(found) => *found == *subject,
+        None => false,
+    }
+}
+
+/// The place of a subject, if it is this place or the next one.
+fn place_near(subjects: &[Process], near: u16, subject: &Process) -> Option<usize>
+    ensures { IfSome result (λ place. slice_get subjects.now place ≡ Some subject.now) }
+{
+    let near = usize::from(near);
+    if is_at(subjects, near, subject) {
+        Some(near)
+    } else if is_at(subjects, near + 1, subject) {
+        Some(near + 1)
+    } else {
+        None
+    }
+}
+
+/// The place of a subject, which is added unless it stands at this place or the next one.
+fn place_for(subjects: &mut Vec<Process>, near: u16, subject: &Process) -> Result<usize, AllocError>
+    ensures place { IfOk result (λ place. slice_get subjects.new.items place ≡ Some subject.now) }
+    ensures grows { Grows subjects.old.items subjects.new.items }
+{
+    match place_near(subjects, near, subject) {
+        Some(place) => Ok(place),
+        None => {
+            let place = subjects.len();
+            subjects.push(*subject)?;
+            Ok(place)
+        }
+    }
+}
+
+impl AlertList {
+    /// No alerts of this observer and this configuration.
+    pub fn new(alloc: Global, observer: Process, config: ConfigId) -> AlertList
+        ensures { result ≡ record { observer = observer; config = config; items = [] } }
+    {
+        AlertList {
+            observer,
+            config,
+            subjects: Vec::new(alloc),
+            items: Vec::new(alloc),
+        }
+    }
+
+    /// The place of the last alert's subject.
+    fn last_place(&self) -> u16 {
+        match self.items.last() {
+            Some(item) => item.place,
+            None => 0,
+        }
+    }
+
+    /// Adds an alert on this subject at the end. It is refused if there is no memory, or no place
+    /// for a 65,537th subject; then the list is as it was.
+    pub fn push(&mut self, subject: &Process, ring: u8, kind: Kind) -> Result<(), AllocError>
+        ensures pushed { OnOk result (self.new ≡ record self.old { items = self.old.items ++ (record { ring = ring; kind = kind_of kind; subject = subject.now }) ∷ [] }) }
+        ensures unchanged { OnErr result (self.new ≡ self.old) }
+    {
+        let near = self.last_place();
+        let place = place_for(&mut self.subjects, near, subject)?;
+        if place >= MOST_SUBJECTS {
+            return Err(AllocError);
+        }
+        let place = place as u16;
+        self.items.push(Item { place, ring, kind })?;
+        Ok(())
+    }
+
+    /// Takes the last alert back.
+    pub(crate) fn pop(&mut self)
+        ensures { (xs : List AlertItem) (x : AlertItem) → self.old.items ≡ xs ++ x ∷ [] → self.new ≡ record self.old { items = xs } }
+    {
+        let _ = self.items.pop();
+    }
+
+    /// How many alerts there are.
+    #[inline(always)]
+    pub fn len(&self) -> usize
+        ensures items { result ≡ length self.now.items }
+        ensures alerts { result ≡ length (alerts_in self.now) }
+    {
+        self.items.len()
+    }
+
+    /// An alert, by its place in the list from 0.
+    #[inline(always)]
+    pub fn alert(&self, at: usize) -> Alert
+        requires { at < length (alerts_in self.now) }
+        ensures value { slice_get (alerts_in self.now) at ≡ Some (alert_of result) }
+        ensures item { slice_get self.now.items at ≡ Some (item_of (alert_of result)) }
+    {
+        let item = self.items[at];
+        Alert {
+            observer: self.observer,
+            subject: self.subjects[usize::from(item.place)],
+            ring: item.ring,
+            kind: item.kind,
+            config: self.config,
+        }
+    }
+
+    /// The observer of all alerts.
+    pub(crate) fn observer(&self) -> Process
+        ensures { result ≡ self.now.observer }
+    {
+        self.observer
+    }
+
+    /// The identifier of the configuration of all alerts.
+    pub(crate) fn config(&self) -> ConfigId
+        ensures { result ≡ self.now.config }
+    {
+        self.config
+    }
+
+    /// Whether two lists have the same alerts, in the same order.
+    pub fn says_same(&self, other: &AlertList) -> bool
+        ensures same { result ≡ true → alerts_in self.now ≡ alerts_in other.now }
+        ensures told { alerts_in self.now ≡ alerts_in other.now → result ≡ true }
+    {
+        if self.len() != other.len() {
+            return false;
+        }
+        for at in 0..self.len() {
+            if self.alert(at) != other.alert(at) {
+                return false;
+            }
+        }
+        true
+    }
+
+    /// This many alerts from a place on, in a list of their own.
+    pub(crate) fn part(
+        &self,
+        alloc: Global,
+        from: usize,
+        count: usize,
+    ) -> Result<AlertList, AllocError>
+        requires { from + count ≤ length self.now.items }
+        ensures { IfOk result (λ part. part ≡ record self.now { items = take count (drop from self.now.items) }) }
+    {
+        let mut part = AlertList::new(alloc, self.observer, self.config);
+        for done in 0..count {
+            let alert = self.alert(from + done);
+            part.push(&alert.subject, alert.ring, alert.kind)?;
+        }
+        Ok(part)
+    }
+
+    /// An equal list.
+    pub(crate) fn try_copy(&self) -> Result<AlertList, AllocError>
+        ensures { IfOk result (λ copy. copy ≡ self.now) }
+    {
+        Ok(AlertList {
+            observer: self.observer,
+            config: self.config,
+            subjects: self.subjects.clone()?,
+            items: self.items.clone()?,
+        })
+    }
+}

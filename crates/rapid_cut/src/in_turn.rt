@@ -1,0 +1,52 @@
+// Alerts that are taken one after another, however they are kept.
+
+ghost use Rattle.std.specs.Prelude.{◌≡◌, ◌<◌, List, Some, length, map, slice_get};
+ghost use Rattle.rapid_model.specs.Alert.{Alert as ModelAlert};
+ghost use Rattle.rapid_alerts.specs.Alerts.{alert_of, alerts_in};
+
+use rapid_alerts::{Alert, AlertList};
+
+/// Alerts, in order.
+pub trait InTurn {
+    /// The alerts, however they are kept.
+    ghost alerts: { Self → List ModelAlert };
+
+    /// How many there are.
+    fn count(&self) -> usize
+        ensures { result ≡ length (alerts self.now) };
+
+    /// An alert, by its place from 0.
+    fn at(&self, place: usize) -> Alert
+        requires { place < length (alerts self.now) }
+        ensures { slice_get (alerts self.now) place ≡ Some (alert_of result) };
+}
+
+/// Alerts of any observers and configurations, one by one.
+#[derive(Clone, Copy)]
+pub struct EachAlert<'a> {
+    pub alerts: &'a [Alert],
+}
+
+impl InTurn for EachAlert<'_> {
+    ghost alerts = { λ each. map alert_of each.alerts.now };
+
+    fn count(&self) -> usize {
+        self.alerts.len()
+    }
+
+    fn at(&self, place: usize) -> Alert {
+        self.alerts[place]
+    }
+}
+
+impl InTurn for AlertList {
+    ghost alerts = { alerts_in };
+
+    fn count(&self) -> usize {
+        self.len()
+    }
+
+    fn at(&self, place: usize) -> Alert {
+        self.alert(place)
+    }
+}

@@ -1,0 +1,52 @@
+// Who joined and who left between two views.
+
+use rapid_agent::Changes;
+use rapid_config::{Configuration, Params};
+use rapid_endpoint::{Endpoint, Process, ProcessId};
+use rapid_view::View;
+use std::alloc::Global;
+use std::process::Abort;
+use std::test::*;
+
+/// The process with this number.
+fn process(number: u8) -> Process {
+    let endpoint = Endpoint::new([127, 0, 0, 1], u16::from(number));
+    Process::new(ProcessId::new([number; 16]), endpoint)
+}
+
+/// The view of the processes with these numbers.
+fn view(alloc: Global, numbers: [u8; 3]) -> Result<View, Fail> {
+    let members = numbers.map(process);
+    let configuration = Configuration::seed(alloc, Params::new(3, 3, 1)?, &members)?;
+    Ok(View::new(configuration))
+}
+
+/// Checks that from the one view to the other these join and leave.
+fn assert_changes<R: Abort>(
+    rt: &R,
+    alloc: Global,
+    views: [&View; 2],
+    joined: &[Process],
+    left: &[Process],
+) -> Result<(), Fail> {
+    let [before, after] = views;
+    let changes = Changes::between(alloc, before, after)?;
+    assert!(rt; changes.joined.as_slice() == joined);
+    assert!(rt; changes.left.as_slice() == left);
+    Ok(())
+}
+
+#[test]
+fn changes_are_who_joined_and_who_left(rt: HostRuntime) -> Result<(), Fail> {
+    let alloc = rt.alloc();
+    let before = view(alloc, [1, 2, 4])?;
+    let after = view(alloc, [2, 3, 5])?;
+    let (came, went) = ([process(3), process(5)], [process(1), process(4)]);
+    assert_changes(&rt, alloc, [&before, &after], &came, &went)?;
+    assert_changes(&rt, alloc, [&after, &before], &went, &came)?;
+    assert_changes(&rt, alloc, [&after, &after], &[], &[])?;
+    let first = Changes::first(alloc, &after)?;
+    assert!(rt; first.joined.as_slice() == after.configuration().members());
+    assert!(rt; first.left.is_empty());
+    Ok(())
+}
