@@ -162,7 +162,7 @@ impl<'a, W: Wait> Agent<'a, W> {
     ///
     /// # Errors
     ///
-    /// `BadCapacity` if the capacity is not 1 to 1,024, else `TooManySubscribers` if 64 were
+    /// `BadCapacity` if the capacity is not 1 to 1,024, else `TooManySubscribers` if 63 were
     /// subscribed before, also those that are dropped, else `OutOfMemory`.
     pub fn subscribe(&self, capacity: usize) -> Result<Subscriber<'_, W>, DeskError>
         ensures room { OnOk result ((0 < capacity) × (capacity ≤ 1024)) }

@@ -38,7 +38,7 @@ pub struct Subscriber<'a, W: Wait> {
     subscription: Subscription,
     /// The last view that it was told.
     present: Option<View>,
-    /// A view that has come, and that it was not told for want of memory.
+    /// A view that has come, and that it was not told, out of memory.
     come: Option<View>,
 }
 

@@ -43,7 +43,7 @@ where
 }
 
 /// Runs a node over loopback TCP until it ends: by the line `quit`, at the end of the input, or by
-/// a fault. It founds a cluster, whose view it prints before it reads a line, or joins one by the
+/// a fault. It founds a cluster, whose view is the first that it prints, or joins one by the
 /// seed of its options. Without an identifier in its options it draws one from the source. Each
 /// view that it enters prints a line. If `tick_ms` is above 0, a ticker also ticks it every
 /// `tick_ms` milliseconds.
