@@ -1,7 +1,9 @@
 // A member in one's own program.
 
-ghost use Rattle.std.specs.Prelude.{◌≡◌, ◌<◌, ◌≤◌, [], None, IfOk, OnOk};
+ghost use Rattle.std.specs.Prelude.{◌≡◌, ◌<◌, ◌≤◌, [], ℕ, None, IfOk, IfErr, OnOk};
 ghost use Rattle.std.specs.Thread.{IsSync};
+ghost use Rattle.rapid_model.specs.Limits.{most_waiting_views};
+ghost use Rattle.rapid_desk.specs.Desks.{NotSubscribed};
 ghost use Rattle.rapid_agent.specs.Opening.{IsOpenedBy};
 
 use crate::arrivals::Arrivals;
@@ -165,8 +167,9 @@ impl<'a, W: Wait> Agent<'a, W> {
     /// `BadCapacity` if the capacity is not 1 to 1,024, else `TooManySubscribers` if 63 were
     /// subscribed before, also those that are dropped, else `OutOfMemory`.
     pub fn subscribe(&self, capacity: usize) -> Result<Subscriber<'_, W>, DeskError>
-        ensures room { OnOk result ((0 < capacity) × (capacity ≤ 1024)) }
+        ensures room { OnOk result ((0 < capacity) × (capacity ≤ most_waiting_views)) }
         ensures untold { IfOk result (λ subscriber. (subscriber.subscription.taken ≡ []) × (subscriber.come ≡ None)) }
+        ensures refused { IfErr result (λ e. (served : ℕ) × NotSubscribed capacity served e) }
     {
         let (subscription, current) = self.shared.subscribe(self.rt, capacity)?;
         // one that ends afterwards is closed by whoever ends it

@@ -1,10 +1,13 @@
 // A cluster that threads drive.
 
-ghost use Rattle.std.specs.Prelude.{◌≡◌, ◌≤◌, ◌<◌, ◌+◌, ◌-◌, ◌*◌, List, ℕ, IfOk, IfErr, OnOk, OnErr};
+ghost use Rattle.std.specs.Prelude.{◌≡◌, ◌≤◌, ◌<◌, ◌+◌, ◌-◌, ◌*◌, List, ℕ, map, IfOk, IfErr, OnOk, OnErr};
 ghost use Rattle.std.specs.Io.KnownBytes.{Appends};
 ghost use Rattle.rapid_model.specs.Configuration.{Params as ModelParams};
 ghost use Rattle.rapid_model.specs.Run.{WorldReport};
-ghost use Rattle.rapid_clerks.specs.Clusters.{DoesJob};
+ghost use Rattle.rapid_model.specs.Limits.{most_clerks};
+ghost use Rattle.rapid_world.specs.Events.{report_of};
+ghost use Rattle.rapid_clerks.specs.Clusters.{DoesJob, RefusesJob};
+ghost use Rattle.rapid_clerks.specs.declared.job.Job.TheVariants as job;
 ghost use Rattle.rapid_clerks.specs.Jobs.{DoesJobs};
 ghost use Rattle.rapid_cluster.specs.ClusterText.{IsReport};
 ghost use Rattle.rapid_cluster.specs.Driven.{HasTaken, IsUnderway, start_of, starts_of};
@@ -86,9 +89,13 @@ impl<L: Ledger, A: Asked> Driven<L, A> {
         }
     }
 
-    /// Takes a turn.
+    /// Takes the next turn. It is refused only if the world is full, no node runs, or it is out of
+    /// memory.
     fn turn(&mut self, share: &mut Share<L>) -> Result<Vec<Report>, WorldError>
         requires { 0 < share.old.parts }
+        ensures done { IfOk result (λ reports. DoesJob job.Turn self.old self.new (map report_of reports.items)) }
+        ensures refused { IfErr result (RefusesJob job.Turn self.old) }
+        ensures unchanged { OnErr result (self.new ≡ self.old) }
         ensures raised { OnOk result (share.new.amount ≡ share.old.amount + 1) }
         ensures kept { OnErr result (share.new.amount ≡ share.old.amount) }
         ensures parts { share.new.parts ≡ share.old.parts }
@@ -106,7 +113,15 @@ impl<L: Ledger, A: Asked> Driven<L, A> {
 }
 
 impl<L: Ledger, A: Asked> DoJob<L, TurnJob> for Driven<L, A> {
-    fn do_job(&mut self, share: &mut Share<L>, _job: &TurnJob) -> Result<Vec<Report>, WorldError> {
+    fn do_job(&mut self, share: &mut Share<L>, _job: &TurnJob) -> Result<Vec<Report>, WorldError>
+        requires { 0 < share.old.parts }
+        ensures done { IfOk result (λ reports. DoesJob job.Turn self.old self.new (map report_of reports.items)) }
+        ensures refused { IfErr result (RefusesJob job.Turn self.old) }
+        ensures unchanged { OnErr result (self.new ≡ self.old) }
+        ensures raised { OnOk result (share.new.amount ≡ share.old.amount + 1) }
+        ensures kept { OnErr result (share.new.amount ≡ share.old.amount) }
+        ensures parts { share.new.parts ≡ share.old.parts }
+    {
         self.turn(share)
     }
 }
@@ -197,7 +212,7 @@ fn drive<L: Ledger + Send + Sync, A: Asked + Send + Sync, R: Threads + Wait + Sy
     requires room { 33 ≤ blank.parts }
     requires params { params ≡ A.params }
     requires nodes { nodes ≡ A.nodes }
-    requires few { crew.workers ≤ 32 }
+    requires few { crew.workers ≤ most_clerks }
     ensures { IfOk result (λ text. IsReport params nodes (crew.workers * crew.turns) text.items) }
 {
     let Crew { workers, turns } = crew;
@@ -229,7 +244,7 @@ pub fn run_cluster<R: Threads + Wait + Sync, W: Write>(
     nodes: u16,
     crew: Crew,
 ) -> Result<(), RunFault>
-    requires { crew.workers ≤ 32 }
+    requires { crew.workers ≤ most_clerks }
     ensures written { OnOk result ((text : List ℕ) × IsReport params nodes (crew.workers * crew.turns) text × Appends (W.contents writer.old) (W.contents writer.new) text) }
     ensures ended { IfErr result (Ended params nodes (crew.workers * crew.turns) (W.contents writer.old) (W.contents writer.new)) }
 {

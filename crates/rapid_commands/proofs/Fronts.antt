@@ -6,9 +6,9 @@ use Rattle.rapid_cluster.specs.ClusterText.{IsReport}
 use Rattle.rapid_cluster.specs.Written.{Ended}
 use Rattle.rapid_text.specs.Underway.{AppendsFront}
 use Rattle.rapid_text.specs.declared.fault.RunFault.{RunFault}
-use Rattle.rapid_commands.specs.Jobs.{Wrote, WroteFront}
-use Rattle.rapid_commands.specs.declared.words.Job.{Job}
-use Rattle.rapid_commands.specs.declared.words.Job.TheVariants.{Detect, Cluster}
+use Rattle.rapid_commands.specs.Invocations.{Wrote, WroteFront}
+use Rattle.rapid_commands.specs.declared.words.Invocation.{Invocation}
+use Rattle.rapid_commands.specs.declared.words.Invocation.TheVariants.{Detect, Cluster}
 use Rattle.rapid_commands.specs.declared.words.Setting.{Setting}
 
 detect_known : (known a b : Option (List ℕ)) → IfSome known (λ input. AppendsFront a b (detect_text input)) → WroteFront Detect known a b
@@ -16,24 +16,24 @@ detect_known None a b h = tt
 detect_known (Some input) a b h = (detect_text input, refl, h)
 
 -- After a fault of `detect`.
-pub detect_front : {T D : Type 0} (r : Result T D) (job : Job) (known a b : Option (List ℕ)) → job ≡ Detect → OnErr r (IfSome known (λ input. AppendsFront a b (detect_text input))) → OnErr r (WroteFront job known a b)
-detect_front (Ok x) job known a b is h = tt
-detect_front (Err e) job known a b is h = subst (λ j. WroteFront j known a b) (sym is) (detect_known known a b h)
+pub detect_front : {T D : Type 0} (r : Result T D) (invocation : Invocation) (known a b : Option (List ℕ)) → invocation ≡ Detect → OnErr r (IfSome known (λ input. AppendsFront a b (detect_text input))) → OnErr r (WroteFront invocation known a b)
+detect_front (Ok x) invocation known a b is h = tt
+detect_front (Err e) invocation known a b is h = subst (λ j. WroteFront j known a b) (sym is) (detect_known known a b h)
 
 -- The turns of all clerks, as the setting has their numbers.
 all_turns : (s : Setting) (workers turns : ℕ) → workers ≡ s.workers → turns ≡ s.turns → workers * turns ≡ s.workers * s.turns
 all_turns s workers turns w t = ap (λ k. k * turns) w ∙ ap (λ k. s.workers * k) t
 
 -- After `cluster`.
-pub cluster_wrote : {T : Type 0} (r : Result T RunFault) (job : Job) (s : Setting) (workers turns : ℕ) (known a b : Option (List ℕ)) → job ≡ Cluster s → workers ≡ s.workers → turns ≡ s.turns →
-    OnOk r ((text : List ℕ) × IsReport s.params s.nodes (workers * turns) text × Appends a b text) → OnOk r (Wrote job known a b)
-cluster_wrote (Ok x) job s workers turns known a b is w t h =
+pub cluster_wrote : {T : Type 0} (r : Result T RunFault) (invocation : Invocation) (s : Setting) (workers turns : ℕ) (known a b : Option (List ℕ)) → invocation ≡ Cluster s → workers ≡ s.workers → turns ≡ s.turns →
+    OnOk r ((text : List ℕ) × IsReport s.params s.nodes (workers * turns) text × Appends a b text) → OnOk r (Wrote invocation known a b)
+cluster_wrote (Ok x) invocation s workers turns known a b is w t h =
     subst (λ j. Wrote j known a b) (sym is) (h.0, subst (λ most. IsReport s.params s.nodes most h.0) (all_turns s workers turns w t) h.1, h.2)
-cluster_wrote (Err e) job s workers turns known a b is w t h = tt
+cluster_wrote (Err e) invocation s workers turns known a b is w t h = tt
 
 -- After a fault of `cluster`.
-pub cluster_front : {T : Type 0} (r : Result T RunFault) (job : Job) (s : Setting) (workers turns : ℕ) (known a b : Option (List ℕ)) → job ≡ Cluster s → workers ≡ s.workers → turns ≡ s.turns →
-    IfErr r (Ended s.params s.nodes (workers * turns) a b) → OnErr r (WroteFront job known a b)
-cluster_front (Ok x) job s workers turns known a b is w t h = tt
-cluster_front (Err e) job s workers turns known a b is w t h =
+pub cluster_front : {T : Type 0} (r : Result T RunFault) (invocation : Invocation) (s : Setting) (workers turns : ℕ) (known a b : Option (List ℕ)) → invocation ≡ Cluster s → workers ≡ s.workers → turns ≡ s.turns →
+    IfErr r (Ended s.params s.nodes (workers * turns) a b) → OnErr r (WroteFront invocation known a b)
+cluster_front (Ok x) invocation s workers turns known a b is w t h = tt
+cluster_front (Err e) invocation s workers turns known a b is w t h =
     subst (λ j. WroteFront j known a b) (sym is) (e, subst (λ most. Ended s.params s.nodes most a b e) (all_turns s workers turns w t) h)

@@ -8,8 +8,8 @@ use Rattle.clap.specs.declared.error.kind.ErrorKind.{ErrorKind}
 use Rattle.clap.specs.declared.error.kind.ErrorKind.TheVariants.{DisplayHelp, DisplayVersion}
 use Rattle.rapid_model.specs.Configuration.{AreParams}
 use Rattle.rapid_commands.specs.Grammar.{grammar}
-use Rattle.rapid_commands.specs.declared.words.Job.{Job}
-use Rattle.rapid_commands.specs.declared.words.Job.TheVariants.{Detect, Sim, Cluster}
+use Rattle.rapid_commands.specs.declared.words.Invocation.{Invocation}
+use Rattle.rapid_commands.specs.declared.words.Invocation.TheVariants.{Detect, Sim, Cluster}
 use Rattle.rapid_commands.specs.declared.words.Setting.{Setting}
 
 -- The number that the value of an option spells, if it has one.
@@ -29,32 +29,32 @@ setting_in rows =
     (number_in rows (codes "nodes")) (number_in rows (codes "workers")) (number_in rows (codes "turns"))
 
 -- The command of a name, with its options.
-abbrev pub job_named : Text → List Row → Option Job
-job_named name rows =
+abbrev pub invocation_named : Text → List Row → Option Invocation
+invocation_named name rows =
     if bytes_eq name (codes "detect") then Some Detect
     else if bytes_eq name (codes "sim") then Some Sim
     else if bytes_eq name (codes "cluster") then option_map Cluster (setting_in rows)
     else None
 
 -- The command that was found, if one was.
-abbrev pub job_found : Option (Text × List Row) → Option Job
-job_found found = option_and_then (λ p. job_named p.0 p.1) found
+abbrev pub invocation_found : Option (Text × List Row) → Option Invocation
+invocation_found found = option_and_then (λ p. invocation_named p.0 p.1) found
 
 -- The command that the words name, with its options. `node` is none of these.
-abbrev pub job_words : List Text → Option Job
-job_words words = job_found (subcommand_of grammar words)
+abbrev pub invocation_words : List Text → Option Invocation
+invocation_words words = invocation_found (subcommand_of grammar words)
 
 -- K, H and L of a cluster are in order.
-abbrev pub IsInOrder : Job → Type 0
+abbrev pub IsInOrder : Invocation → Type 0
 IsInOrder Detect = Unit {0}
 IsInOrder Sim = Unit {0}
 IsInOrder (Cluster s) = AreParams s.params
 
 -- The grammar refuses nothing in the words, and this is the command that they name. K, H and L are in order.
-pub record IsAsked (words : List Text) (job : Job) : Type 0 where
+pub record IsAsked (words : List Text) (invocation : Invocation) : Type 0 where
   pub taken : fault_of grammar words ≡ []
-  pub named : job_words words ≡ Some job
-  pub in_order : IsInOrder job
+  pub named : invocation_words words ≡ Some invocation
+  pub in_order : IsInOrder invocation
 
 -- The answer is help or the version.
 abbrev pub IsHelp : ErrorKind → Type 0

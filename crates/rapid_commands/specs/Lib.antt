@@ -1,5 +1,6 @@
 pub mod Asked
 pub mod Grammar
-pub mod Jobs
+pub mod Invocations
 pub mod NodeWords
+pub mod Refused
 pub mod Statuses

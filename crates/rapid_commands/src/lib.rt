@@ -7,4 +7,4 @@ mod help;
 mod node;
 mod words;
 
-pub use words::{Job, Setting, run_words, without_words};
+pub use words::{Invocation, Setting, run_words, without_words};

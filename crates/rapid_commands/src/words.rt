@@ -1,14 +1,16 @@
 //! The command line.
 
-ghost use Rattle.std.specs.Prelude.{◌≡◌, ◌≢◌, ◌≤◌, ◌<◌, ◌⊎◌, false, [], map, IfOk, IfErr, IfSome, OnOk, OnErr, Some};
-ghost use Rattle.clap.specs.Words.{kind_of, rule_of, rows_of, app_of, found_of, subcommand_rows_of, subcommand_of, HasKind, fault_of};
+ghost use Rattle.std.specs.Prelude.{◌≡◌, ◌≢◌, ◌≤◌, ◌<◌, ◌⊎◌, false, [], map, IfOk, IfErr, IfSome, IfNone, OnOk, OnErr, Some};
+ghost use Rattle.clap.specs.Words.{kind_of, rule_of, rows_of, app_of, found_of, one_of, subcommand_rows_of, subcommand_of, HasKind, fault_of};
 ghost use Rattle.std.specs.IoError.{error_kind};
 ghost use Rattle.std.specs.declared.io.ErrorKind.TheVariants.{OutOfMemory};
 ghost use Rattle.rapid_model.specs.Configuration.{AreParams};
-ghost use Rattle.rapid_commands.specs.Asked.{AsksForHelp, IsAsked, IsHelp, IsInOrder, job_found, number_in, setting_in};
+ghost use Rattle.rapid_model.specs.Limits.{most_clerks};
+ghost use Rattle.rapid_commands.specs.Asked.{AsksForHelp, IsAsked, IsHelp, IsInOrder, invocation_found, number_in, setting_in};
 ghost use Rattle.rapid_commands.specs.Grammar.{cluster_words, grammar, number_option, with_params};
-ghost use Rattle.rapid_commands.specs.Jobs.{CanRun, Wrote, WroteFront};
+ghost use Rattle.rapid_commands.specs.Invocations.{CanRun, Wrote, WroteFront};
 ghost use Rattle.rapid_commands.specs.NodeWords.{NamesNode};
+ghost use Rattle.rapid_commands.specs.Refused.{AreRefused, CanDo, IsFault, IsNumber, IsSetting};
 ghost use Rattle.rapid_commands.specs.Statuses.{run_status};
 
 use crate::explain::{tell_missing, tell_params, tell_refused};
@@ -62,7 +64,7 @@ pub struct Setting {
 
 /// The commands of the program that read lines or drive a simulated cluster.
 #[derive(Clone, Copy, Debug)]
-pub enum Job {
+pub enum Invocation {
     /// The cut detector over lines.
     Detect,
     /// The simulator over lines.
@@ -180,24 +182,24 @@ fn status_of(ran: Result<(), RunFault>) -> u8
 }
 
 /// Runs a command over the input.
-fn run_job<T: Threads + Wait + Sync, R: Read, O: Write>(
+fn run_invocation<T: Threads + Wait + Sync, R: Read, O: Write>(
     rt: &T,
     alloc: Global,
-    job: Job,
+    invocation: Invocation,
     reader: &mut R,
     out: &mut O,
 ) -> Result<(), RunFault>
-    requires { CanRun job }
-    ensures written { OnOk result (Wrote job (R.remaining reader.old) (O.contents out.old) (O.contents out.new)) }
-    ensures begun { OnErr result (WroteFront job (R.remaining reader.old) (O.contents out.old) (O.contents out.new)) }
+    requires { CanRun invocation }
+    ensures written { OnOk result (Wrote invocation (R.remaining reader.old) (O.contents out.old) (O.contents out.new)) }
+    ensures begun { OnErr result (WroteFront invocation (R.remaining reader.old) (O.contents out.old) (O.contents out.new)) }
 {
-    match job {
-        Job::Detect => run_detect(alloc, reader, out),
-        Job::Sim => {
+    match invocation {
+        Invocation::Detect => run_detect(alloc, reader, out),
+        Invocation::Sim => {
             run_sim(alloc, reader, out)?;
             Ok(())
         }
-        Job::Cluster(setting) => run_cluster(
+        Invocation::Cluster(setting) => run_cluster(
             rt,
             alloc,
             out,
@@ -216,18 +218,18 @@ fn run_job<T: Threads + Wait + Sync, R: Read, O: Write>(
 fn run<T: Threads + Wait + Sync, R: Read, O: Write, E: Write>(
     rt: &T,
     alloc: Global,
-    job: Job,
+    invocation: Invocation,
     reader: &mut R,
     out: &mut O,
     err: &mut E,
 ) -> u8
-    requires { CanRun job }
-    ensures written { result ≡ 0 → Wrote job (R.remaining reader.old) (O.contents out.old) (O.contents out.new) }
-    ensures begun { result ≢ 0 → WroteFront job (R.remaining reader.old) (O.contents out.old) (O.contents out.new) }
+    requires { CanRun invocation }
+    ensures written { result ≡ 0 → Wrote invocation (R.remaining reader.old) (O.contents out.old) (O.contents out.new) }
+    ensures begun { result ≢ 0 → WroteFront invocation (R.remaining reader.old) (O.contents out.old) (O.contents out.new) }
     ensures status { result ≤ 3 }
     ensures taken { result ≢ 2 }
 {
-    let ran = run_job(rt, alloc, job, reader, out);
+    let ran = run_invocation(rt, alloc, invocation, reader, out);
     if let Err(fault) = &ran {
         let _ = writeln!(err, "error: {fault}");
     }
@@ -258,6 +260,7 @@ fn tell<S: AsStr, O: Write, E: Write>(error: &Error, words: &[S], out: &mut O, e
     ensures refused { kind_of error.now ≢ ErrorKind.OutOfMemory → kind_of error.now ≢ ErrorKind.DisplayHelp
         → kind_of error.now ≢ ErrorKind.DisplayVersion → result ≡ 2 }
     ensures status { result ≤ 3 }
+    ensures fault { result ≡ 2 → IsFault (kind_of error.now) }
     ensures asked { result ≤ 1 → IsHelp (kind_of error.now) }
     ensures silent { 1 < result → out.new ≡ out.old }
 {
@@ -300,24 +303,27 @@ fn matches_of<'a, S: AsStr>(alloc: Global, words: &'a [S]) -> Result<ArgMatches<
 
 /// The number behind an option, if it is a byte.
 fn byte_behind(words: &ArgMatches, option: &str) -> Option<u8>
-    ensures { IfSome result (λ n. number_in (rows_of (found_of words.now)) option.now ≡ Some n) }
+    ensures read { IfSome result (λ n. number_in (rows_of (found_of words.now)) option.now ≡ Some n) }
+    ensures none { IfNone result (¬ IsNumber 8 (one_of option.now (rows_of (found_of words.now)))) }
 {
     words.get_one::<u8>(option)
 }
 
 /// The number behind an option, if it has at most 16 bits.
 fn number_behind(words: &ArgMatches, option: &str) -> Option<u16>
-    ensures { IfSome result (λ n. number_in (rows_of (found_of words.now)) option.now ≡ Some n) }
+    ensures read { IfSome result (λ n. number_in (rows_of (found_of words.now)) option.now ≡ Some n) }
+    ensures none { IfNone result (¬ IsNumber 16 (one_of option.now (rows_of (found_of words.now)))) }
 {
     words.get_one::<u16>(option)
 }
 
 /// The setting of a cluster, if K, H and L are in order.
-#[tactic(auto, using(crate::proofs::Asking::setting_found))]
+#[tactic(auto, using(crate::proofs::Asking::setting_found, crate::proofs::Refusing::no_k, crate::proofs::Refusing::no_h, crate::proofs::Refusing::no_l, crate::proofs::Refusing::no_nodes, crate::proofs::Refusing::no_workers, crate::proofs::Refusing::no_turns))]
 fn setting_of(words: &ArgMatches) -> Option<Setting>
-    ensures runs { IfSome result (λ setting. setting.workers ≤ 32) }
+    ensures runs { IfSome result (λ setting. setting.workers ≤ most_clerks) }
     ensures found { IfSome result (λ setting. setting_in (rows_of (found_of words.now)) ≡ Some setting) }
     ensures in_order { IfSome result (λ setting. AreParams setting.params) }
+    ensures none { IfNone result (¬ IsSetting (rows_of (found_of words.now))) }
 {
     let k = byte_behind(words, "k")?;
     let h = byte_behind(words, "h")?;
@@ -339,19 +345,20 @@ fn setting_of(words: &ArgMatches) -> Option<Setting>
 
 /// The command that the words name, if K, H and L are in order.
 #[tactic(auto, using(crate::proofs::Asking::detect_found, crate::proofs::Asking::sim_found, crate::proofs::Asking::cluster_found))]
-fn job_of(words: &ArgMatches) -> Option<Job>
+fn invocation_of(words: &ArgMatches) -> Option<Invocation>
     ensures runs { IfSome result CanRun }
-    ensures named { IfSome result (λ job. job_found (subcommand_rows_of words.now) ≡ Some job) }
+    ensures named { IfSome result (λ invocation. invocation_found (subcommand_rows_of words.now) ≡ Some invocation) }
     ensures in_order { IfSome result IsInOrder }
+    ensures none { IfNone result (¬ CanDo (subcommand_rows_of words.now)) }
 {
     if words.subcommand_matches("detect").is_some() {
-        return Some(Job::Detect);
+        return Some(Invocation::Detect);
     }
     if words.subcommand_matches("sim").is_some() {
-        return Some(Job::Sim);
+        return Some(Invocation::Sim);
     }
     let setting = setting_of(words.subcommand_matches("cluster")?)?;
-    Some(Job::Cluster(setting))
+    Some(Invocation::Cluster(setting))
 }
 
 /// Says that K, H and L are refused.
@@ -400,9 +407,9 @@ where
 /// If it is 0, what the input prints by the command that the words name, with its options, was
 /// written and nothing else; or the words ask for help or the version, and the input was not read.
 /// If it is 1, a beginning of that was written, or help or the version could not be written. If it
-/// is 2, nothing was written. If it is 3, a beginning of what the input prints by the command that
-/// the words name was written, or nothing. What `node` writes is not promised, unless its words are
-/// refused.
+/// is 2, the words are refused, and nothing was written. If it is 3, a beginning of what the input
+/// prints by the command that the words name was written, or nothing. What `node` writes is not
+/// promised, unless its words are refused.
 pub fn run_words<T, S, R, O, E>(
     rt: &T,
     alloc: Global,
@@ -423,14 +430,15 @@ where
     O: Write + Send,
     E: Write + Send,
     ensures written { result ≡ 0 → NamesNode S.text words.now ⊎
-        ((job : Job) × IsAsked (map S.text words.now) job × Wrote job (R.remaining reader.old) (O.contents out.old) (O.contents out.new)) ⊎
+        ((invocation : Invocation) × IsAsked (map S.text words.now) invocation × Wrote invocation (R.remaining reader.old) (O.contents out.old) (O.contents out.new)) ⊎
         ((reader.new ≡ reader.old) × AsksForHelp (map S.text words.now)) }
     ensures failed { result ≡ 1 → NamesNode S.text words.now ⊎
-        ((job : Job) × IsAsked (map S.text words.now) job × WroteFront job (R.remaining reader.old) (O.contents out.old) (O.contents out.new)) ⊎
+        ((invocation : Invocation) × IsAsked (map S.text words.now) invocation × WroteFront invocation (R.remaining reader.old) (O.contents out.old) (O.contents out.new)) ⊎
         ((reader.new ≡ reader.old) × AsksForHelp (map S.text words.now)) }
     ensures refused { result ≡ 2 → out.new ≡ out.old }
+    ensures fault { result ≡ 2 → NamesNode S.text words.now ⊎ AreRefused (map S.text words.now) }
     ensures memory { result ≡ 3 → NamesNode S.text words.now ⊎
-        ((job : Job) × IsAsked (map S.text words.now) job × WroteFront job (R.remaining reader.old) (O.contents out.old) (O.contents out.new)) ⊎
+        ((invocation : Invocation) × IsAsked (map S.text words.now) invocation × WroteFront invocation (R.remaining reader.old) (O.contents out.old) (O.contents out.new)) ⊎
         (out.new ≡ out.old) }
     ensures status { result ≤ 3 }
 {
@@ -439,8 +447,8 @@ where
     }
     match matches_of(alloc, words) {
         Err(error) => tell(&error, words, out, err),
-        Ok(matches) => match job_of(&matches) {
-            Some(job) => run(rt, alloc, job, reader, out, err),
+        Ok(matches) => match invocation_of(&matches) {
+            Some(invocation) => run(rt, alloc, invocation, reader, out, err),
             None => refuse(&matches, err),
         },
     }

@@ -5,6 +5,7 @@ ghost use Rattle.std.specs.Arc.{arc_slice_items};
 ghost use Rattle.rapid_model.specs.Process.{same_bytes};
 ghost use Rattle.rapid_model.specs.Configuration.{magic, AreMembers};
 ghost use Rattle.rapid_model.specs.Reading.{params_in, count_in, configuration_in, processes_in, members_fault, bytes_fault};
+ghost use Rattle.rapid_model.specs.Limits.{most_members};
 ghost use Rattle.rapid_config.specs.Faults.{ReportsOfBytes};
 
 use crate::members::{MOST_MEMBERS, check_members};
@@ -40,7 +41,7 @@ fn has_magic(bytes: &[u8]) -> bool
 pub(crate) fn check_head(bytes: &[u8]) -> Result<(Params, usize), ConfigError>
     ensures params { IfOk result (λ r. r.0 ≡ params_in bytes.now) }
     ensures count { IfOk result (λ r. r.1 ≡ count_in bytes.now) }
-    ensures few { IfOk result (λ r. r.1 ≤ 1024) }
+    ensures few { IfOk result (λ r. r.1 ≤ most_members) }
     ensures length { IfOk result (λ r. length bytes.now ≡ 49 + 22 * r.1) }
     ensures fault { IfOk result (λ r. bytes_fault bytes.now ≡ members_fault (configuration_in bytes.now).members) }
     ensures refused { IfErr result (ReportsOfBytes (bytes_fault bytes.now)) }
@@ -101,7 +102,7 @@ pub(crate) fn members_in(
     bytes: &[u8],
 ) -> Result<ArcSlice<Process>, ConfigError>
     requires count { count ≡ count_in bytes.now }
-    requires few { count ≤ 1024 }
+    requires few { count ≤ most_members }
     requires length { length bytes.now ≡ 49 + 22 * count }
     ensures members { IfOk result (λ members. arc_slice_items members ≡ (configuration_in bytes.now).members) }
     ensures valid { IfOk result (λ members. AreMembers (arc_slice_items members)) }

@@ -2,6 +2,7 @@
 
 ghost use Rattle.std.specs.Prelude.{◌≡◌, ◌≤◌, length, IfOk};
 ghost use Rattle.rapid_model.specs.Configuration.{configuration_bytes};
+ghost use Rattle.rapid_model.specs.Limits.{most_members};
 
 use crate::{ConfigId, Params};
 use rapid_endpoint::Process;
@@ -24,7 +25,7 @@ pub(crate) fn spell(
     previous: ConfigId,
     members: &[Process],
 ) -> Result<Vec<u8>, AllocError>
-    requires { length members.now ≤ 1024 }
+    requires { length members.now ≤ most_members }
     ensures { IfOk result
         (λ bytes. bytes.items ≡ configuration_bytes (record { params = params; height = height; previous = previous; members = members.now })) }
 {

@@ -7,7 +7,7 @@ use Rattle.rapid_model.specs.Configuration.{Configuration, Stamp, stamp}
 use Rattle.rapid_model.specs.Node as model
 use Rattle.rapid_model.specs.NodeStep.{node_step}
 use Rattle.rapid_model.specs.Journal.{JournalRecord, is_full_for}
-use Rattle.rapid_model.specs.Limits.{most_entries, most_views}
+use Rattle.rapid_model.specs.Limits.{most_entries, most_views, most_subscriptions, most_waiting_views}
 use Rattle.rapid_node.specs.Steps.{IsFault}
 use Rattle.rapid_view.specs.Seen.{Publishing, last_height}
 use Rattle.rapid_view.specs.declared.error.ViewError.{ViewError}
@@ -208,9 +208,9 @@ joiner_state me seed = record { entry = model.joiner_node me seed; journal = [];
 
 -- Why there is no subscription of this capacity at a desk that serves this many.
 abbrev pub NotSubscribed : ℕ → ℕ → DeskError → Type 0
-NotSubscribed capacity n BadCapacity = (capacity ≡ 0) ⊎ (1024 < capacity)
-NotSubscribed capacity n TooManySubscribers = (0 < capacity) × (capacity ≤ 1024) × (64 ≤ n)
-NotSubscribed capacity n OutOfMemory = (0 < capacity) × (capacity ≤ 1024) × (n < 64)
+NotSubscribed capacity n BadCapacity = (capacity ≡ 0) ⊎ (most_waiting_views < capacity)
+NotSubscribed capacity n TooManySubscribers = (0 < capacity) × (capacity ≤ most_waiting_views) × (most_subscriptions ≤ n)
+NotSubscribed capacity n OutOfMemory = (0 < capacity) × (capacity ≤ most_waiting_views) × (n < most_subscriptions)
 NotSubscribed capacity n JournalFull = ⊥
 NotSubscribed capacity n (Node fault) = ⊥
 NotSubscribed capacity n Unpublished = ⊥

@@ -3,6 +3,7 @@
 ghost use Rattle.std.specs.Prelude.{◌≡◌, ◌≤◌, ◌<◌, ◌||◌, [], ◌∷◌, ◌++◌, true, false, All, vec_len, is_some, IfOk, IfErr, IfSome, OnOk};
 ghost use Rattle.atomic_table.specs.Seated.{TableId};
 ghost use Rattle.rapid_model.specs.Configuration as model;
+ghost use Rattle.rapid_model.specs.Limits.{most_seats};
 ghost use Rattle.rapid_desk.specs.Desks.{is_blank, shown_height, IsNextShown, NotPublished};
 
 use rapid_view::{View, ViewCell, ViewError, ViewSeat, ViewWriter};
@@ -24,14 +25,14 @@ pub struct Board<R: Wait + Copy + Drop> {
 
 impl<R: Wait + Copy + Drop> Model for Board<R> {
     ghost use Rattle.std.specs.Prelude.{◌≡◌, ◌≤◌, ◌<◌, length, vec_len, All, is_some, IsSome, IfSome};
-    ghost use Rattle.rapid_model.specs.Limits.{most_views};
+    ghost use Rattle.rapid_model.specs.Limits.{most_seats, most_views};
     ghost use Rattle.rapid_desk.specs.Desks.{BoardValue, seen_by, shown_height};
 
     ghost Value = { BoardValue };
 
     ghost view = { λ b. record { published = seen_by b.writer; seats = is_some b.seats; count = b.count } };
 
-    ghost invariant = { λ b. (0 < b.count) × (b.count ≤ 64)
+    ghost invariant = { λ b. (0 < b.count) × (b.count ≤ most_seats)
         × IfSome b.writer (λ w. (0 < length w.seen) × (w.room ≡ most_views))
         × IfSome b.seats (λ all. (vec_len all ≡ b.count) × IsSome b.writer
         × All (λ s. IfSome b.writer (λ w. s.cell ≡ w.cell)) all.items)
@@ -41,7 +42,7 @@ impl<R: Wait + Copy + Drop> Model for Board<R> {
 impl<R: Wait + Copy + Drop> Board<R> {
     /// A board on which nothing is published yet, for this many seats.
     pub(crate) fn new(rt: R, alloc: Global, count: usize) -> Board<R>
-        requires { (0 < count) × (count ≤ 64) }
+        requires { (0 < count) × (count ≤ most_seats) }
         ensures { result ≡ record { published = []; seats = false; count = count } }
     {
         Board {

@@ -9,6 +9,7 @@ ghost use Rattle.rapid_model.specs.NodeStep.{node_step};
 ghost use Rattle.rapid_node.specs.Phases.{name_of};
 ghost use Rattle.rapid_node.specs.Steps.{event_of, HasOutcome};
 ghost use Rattle.rapid_model.specs.Configuration.{is_member};
+ghost use Rattle.rapid_model.specs.Limits.{most_seats, most_subscriptions, most_waiting_views};
 ghost use Rattle.rapid_desk.specs.declared.error.DeskError.TheVariants.{OutOfMemory, Unpublished};
 ghost use Rattle.rapid_desk.specs.Notices.{Offered, Ended};
 ghost use Rattle.rapid_desk.specs.States.{IsDesk, at_checkpoint};
@@ -188,7 +189,7 @@ impl<R: Wait + Copy + Drop> Desk<R> {
         seats: usize,
     ) -> Result<Desk<R>, DeskError>
         requires member { is_member configuration.now process ≡ true }
-        requires seats { (0 < seats) × (seats ≤ 64) }
+        requires seats { (0 < seats) × (seats ≤ most_seats) }
         ensures state { IfOk result (λ desk. desk.state ≡ seed_state configuration.now process) }
         ensures seats { IfOk result (λ desk. (desk.seats ≡ true) × (desk.count ≡ seats) × (desk.subscriptions ≡ [])) }
         ensures refused { IfErr result (λ e. (e ≡ OutOfMemory) ⊎ (e ≡ Unpublished)) }
@@ -218,7 +219,7 @@ impl<R: Wait + Copy + Drop> Desk<R> {
         seed: Endpoint,
         seats: usize,
     ) -> Result<Desk<R>, DeskError>
-        requires { (0 < seats) × (seats ≤ 64) }
+        requires { (0 < seats) × (seats ≤ most_seats) }
         ensures state { IfOk result (λ desk. desk.state ≡ joiner_state process seed) }
         ensures seats { IfOk result (λ desk. (desk.seats ≡ false) × (desk.count ≡ seats) × (desk.subscriptions ≡ [])) }
         ensures refused { IfErr result (λ e. e ≡ OutOfMemory) }
@@ -333,7 +334,7 @@ impl<R: Wait + Copy + Drop> Desk<R> {
     /// serves 64, else `OutOfMemory`.
     pub fn subscribe(&mut self, capacity: usize) -> Result<Subscription, DeskError>
         ensures same { (self.new.state ≡ self.old.state) × (self.new.seats ≡ self.old.seats) × (self.new.count ≡ self.old.count) }
-        ensures ok { OnOk result ((0 < capacity) × (capacity ≤ 1024) × (length self.old.subscriptions < 64)) }
+        ensures ok { OnOk result ((0 < capacity) × (capacity ≤ most_waiting_views) × (length self.old.subscriptions < most_subscriptions)) }
         ensures served { IfOk result (λ subscription. self.new.subscriptions ≡ self.old.subscriptions ++ record { queue = subscription.queue; since = shown_height self.old.state.published; capacity = capacity; put = []; known = [] } ∷ []) }
         ensures untaken { IfOk result (λ subscription. subscription.taken ≡ []) }
         ensures refused { IfErr result (NotSubscribed capacity (length self.old.subscriptions)) }

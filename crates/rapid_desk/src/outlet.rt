@@ -1,6 +1,7 @@
 // The desk's side of a subscription.
 
 ghost use Rattle.std.specs.Prelude.{◌≡◌, ◌⊎◌, ℕ, ◌+◌, ◌<◌, ◌≤◌, List, [], ◌∷◌, ◌++◌, IfOk, IfErr, OnOk};
+ghost use Rattle.rapid_model.specs.Limits.{most_waiting_views};
 ghost use Rattle.rapid_line.specs.Line.{StartsWith};
 ghost use Rattle.rapid_desk.specs.Notices.{state_of, with_notice, IsNextFrom, IsLost, MayFollow, Offered, Ended};
 ghost use Rattle.rapid_desk.specs.Desks.{with_known};
@@ -42,7 +43,7 @@ pub(crate) fn subscribe(
     capacity: usize,
     since: Option<u64>,
 ) -> Result<(Outlet, Subscription), AllocError>
-    requires { (0 < capacity) × (capacity ≤ 1024) }
+    requires { (0 < capacity) × (capacity ≤ most_waiting_views) }
     ensures { IfOk result (λ r. (r.0 ≡ record { queue = r.1.queue; since = since; capacity = capacity; put = []; known = [] }) × (r.1.taken ≡ [])) }
 {
     // one more than the changes, for the mark

@@ -4,6 +4,7 @@ use Rattle.std.specs.Arc.{arc_value}
 use Rattle.rapid_model.specs.Configuration.{position_of}
 use Rattle.rapid_model.specs.Node as node
 use Rattle.rapid_model.specs.Node.{MemberState}
+use Rattle.rapid_model.specs.Limits.{most_members}
 use Rattle.rapid_member.specs.declared.member.parts.Context.{Context}
 use Rattle.rapid_member.specs.declared.member.parts.Votes.{Votes}
 use Rattle.rapid_member.specs.declared.member.parts.Rest.{Rest}
@@ -42,7 +43,7 @@ pub record IsContext (c : Context) : Type 0 where
   pub found : position_of c.configuration c.me ≡ Some c.place
   pub own : c.place ≡ node.place c.configuration c.me
   pub member : c.place < length c.configuration.members
-  pub few : length c.configuration.members ≤ 1024
+  pub few : length c.configuration.members ≤ most_members
 
 -- The parts are those of a member of the configuration: they have its rings, its place and the number of members.
 pub record AreParts (c : Context) (v : Votes) (r : Rest) : Type 0 where

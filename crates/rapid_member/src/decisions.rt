@@ -28,12 +28,13 @@ impl Model for Decisions {
     ghost use Rattle.std.specs.Prelude.{◌≤◌, length};
     ghost use Rattle.std.specs.Arc.{arc_slice_items};
     ghost use Rattle.rapid_model.specs.Node.{Decisions as ModelDecisions};
+    ghost use Rattle.rapid_model.specs.Limits.{kept_decisions};
 
     ghost Value = { ModelDecisions };
 
     ghost view = { λ d. arc_slice_items d.decided };
 
-    ghost invariant = { λ d. length (arc_slice_items d.decided) ≤ 64 };
+    ghost invariant = { λ d. length (arc_slice_items d.decided) ≤ kept_decisions };
 }
 
 /// Equal decisions, with room for one more.

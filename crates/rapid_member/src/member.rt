@@ -6,6 +6,7 @@ ghost use Rattle.std.specs.FinSet as set;
 ghost use Rattle.rapid_model.specs.Configuration.{is_member};
 ghost use Rattle.rapid_model.specs.Host.{confirms};
 ghost use Rattle.rapid_model.specs.Node as node;
+ghost use Rattle.rapid_model.specs.Limits.{most_members};
 ghost use Rattle.rapid_join.specs.Answers.{answered_of};
 ghost use Rattle.rapid_join.specs.Answers.{AnswersObservers};
 
@@ -113,7 +114,7 @@ impl MemberState {
     fn place(&self) -> usize
         ensures value { result ≡ node.place self.now.config self.now.me }
         ensures member { result < length self.now.config.members }
-        ensures few { length self.now.config.members ≤ 1024 }
+        ensures few { length self.now.config.members ≤ most_members }
     {
         self.context.place
     }

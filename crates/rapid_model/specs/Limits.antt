@@ -65,3 +65,56 @@ resend_period = 20
 -- After this many ticks at which it was unstable, a process is echoed.
 abbrev pub echo_age : ℕ
 echo_age = 40
+
+-- How many seats a published view has at most: each is for one thread that reads.
+abbrev pub most_seats : ℕ
+most_seats = 64
+
+-- How many subscriptions a desk serves at most, and how many views may wait at one.
+abbrev pub most_subscriptions : ℕ
+most_subscriptions = 64
+
+abbrev pub most_waiting_views : ℕ
+most_waiting_views = 1024
+
+-- How many watchers the edges that threads share have at most.
+abbrev pub most_watchers : ℕ
+most_watchers = 64
+
+-- In how many parts, each for a thread, a running node probes at most.
+abbrev pub most_probers : ℕ
+most_probers = 16
+
+-- How many messages a running node remembers at most, the last of each sender and kind: of members, and of others.
+abbrev pub most_kept_of_members : ℕ
+most_kept_of_members = 2048
+
+abbrev pub most_kept_of_others : ℕ
+most_kept_of_others = 4096
+
+-- From this many entries on, a running node begins its journal anew.
+abbrev pub long_journal : ℕ
+long_journal = 512
+
+-- How many notes of a running node wait to be reported at most.
+abbrev pub most_notes : ℕ
+most_notes = 64
+
+-- How many frames wait for one sender at most, how many connections it keeps open, and how many peers that were too
+-- slow it remembers.
+abbrev pub most_waiting_frames : ℕ
+most_waiting_frames = 4096
+
+abbrev pub most_connections : ℕ
+most_connections = 64
+
+abbrev pub most_slow_peers : ℕ
+most_slow_peers = 1024
+
+-- How many clerks drive a simulated cluster at most, each in a thread of its own.
+abbrev pub most_clerks : ℕ
+most_clerks = 32
+
+-- How many packets one `flow` of `sim` settles at most.
+abbrev pub most_in_flow : ℕ
+most_in_flow = 10000

@@ -13,6 +13,7 @@ use Rattle.rapid_model.specs.Refusal as faults
 use Rattle.rapid_model.specs.Refusal.{WorldRefusal}
 use Rattle.rapid_model.specs.Run.{WorldReport, ReportInstalled, ReportHalted, founded, reports_of, step_reports}
 use Rattle.rapid_model.specs.StoredWorld.{StoredWorld, new_world, world_of, event_refusal, with_event, unmarked}
+use Rattle.rapid_model.specs.Limits.{most_in_flow}
 use Rattle.rapid_model.specs.Lines.{line_feed, space, lines, line_words}
 use Rattle.rapid_model.specs.Numbered.{number_under}
 use Rattle.rapid_model.specs.SimLine.{SimLine, Parameters, Found, Events, Lose, Deliver, Drop, Flow, Packets, command_named}
@@ -147,10 +148,6 @@ least_unsettled s = find (λ k. not (set.contains s.settled k)) (range_with_len 
 -- A packet can be delivered in the world of a run.
 abbrev pub can_reach : Simulation → ℕ → Bool
 can_reach s k = can_deliver (world_in s) k
-
--- How many packets one flow settles at most.
-abbrev pub most_in_flow : ℕ
-most_in_flow = 10000
 
 -- ---- texts
 

@@ -1,7 +1,7 @@
 -- Clauses of public calls cite this file.
 -- What the watchers and the seats of a board show.
 use Rattle.std.specs.Prelude.{ℕ, Bool, true, false, ◌≤◌, List, [], if◌then◌else◌}
-use Rattle.rapid_model.specs.Limits.{most_members}
+use Rattle.rapid_model.specs.Limits.{most_members, most_watchers}
 use Rattle.atomic_table.specs.Seated.{TableId}
 use Rattle.rapid_monitor.specs.BoardRule.{is_down_after}
 use Rattle.rapid_monitor.specs.declared.edge.Verdict.{Verdict}
@@ -41,7 +41,7 @@ is_down_verdict Down = true
 
 -- There are boards with as many edges and watchers.
 abbrev pub IsSize : ℕ → ℕ → Type 0
-IsSize edges watchers = (1 ≤ edges) × (edges ≤ most_members) × (1 ≤ watchers) × (watchers ≤ 64)
+IsSize edges watchers = (1 ≤ edges) × (edges ≤ most_members) × (1 ≤ watchers) × (watchers ≤ most_watchers)
 
 -- Why there is no board with as many edges and watchers.
 abbrev pub IsRefusal : ℕ → ℕ → BoardError → Type 0

@@ -4,6 +4,7 @@ use Rattle.std.specs.Prelude.{◌≡◌, ◌≤◌, ℕ, Bool, true, false, List
 use Rattle.std.specs.Map.{values_of}
 use Rattle.rapid_model.specs.Process.{Process}
 use Rattle.rapid_model.specs.Configuration.{Configuration, configuration_id, is_member}
+use Rattle.rapid_model.specs.Limits.{most_kept_of_members, most_kept_of_others}
 use Rattle.rapid_model.specs.Message.{Message}
 use Rattle.rapid_service.specs.Repeating.{Passed, IsRepeat, kind_in, is_of_members}
 use Rattle.rapid_service.specs.declared.said.Kind.{Kind}
@@ -34,8 +35,8 @@ pub record Remembers (r : Filter) (c : Configuration) (now : ℕ) (passed : List
   pub others : All (Contains passed) (values_of r.others)
   pub members_placed : All (IsPlaced c true) r.members
   pub others_placed : All (IsPlaced c false) r.others
-  pub few_members : length r.members ≤ 2048
-  pub few_others : length r.others ≤ 4096
+  pub few_members : length r.members ≤ most_kept_of_members
+  pub few_others : length r.others ≤ most_kept_of_others
 
 -- It is the filter of some configuration.
 abbrev pub IsFilter : Filter → Type 0

@@ -1,6 +1,7 @@
 // How the journal of a desk stays short.
 
 ghost use Rattle.std.specs.Prelude.{◌≡◌, ◌<◌, length, OnOk, OnErr, IfErr};
+ghost use Rattle.rapid_model.specs.Limits.{long_journal};
 ghost use Rattle.rapid_desk.specs.Desks.{NoCheckpoint};
 
 use rapid_desk::{Desk, DeskError};
@@ -19,11 +20,11 @@ const LONG: usize = 512;
 ///
 /// Those of `Desk::checkpoint`, which change nothing: the call may be repeated.
 pub(crate) fn shorten<R: Wait + Copy + Drop>(desk: &mut Desk<R>) -> Result<(), DeskError>
-    ensures short { OnOk result (length desk.new.state.journal < 512) }
+    ensures short { OnOk result (length desk.new.state.journal < long_journal) }
     ensures node { desk.new.state.node ≡ desk.old.state.node }
     ensures published { desk.new.state.published ≡ desk.old.state.published }
     ensures same { (desk.new.seats ≡ desk.old.seats) × (desk.new.count ≡ desk.old.count) × (desk.new.subscriptions ≡ desk.old.subscriptions) }
-    ensures rarely { length desk.old.state.journal < 512 → desk.new ≡ desk.old }
+    ensures rarely { length desk.old.state.journal < long_journal → desk.new ≡ desk.old }
     ensures refused { IfErr result (NoCheckpoint desk.old.state.full) }
     ensures unchanged { OnErr result (desk.new ≡ desk.old) }
 {

@@ -1,6 +1,7 @@
 // What a node reports while it goes on, beside its views.
 
 ghost use Rattle.std.specs.Prelude.{◌≡◌, ◌≤◌, ◌++◌, [], ◌∷◌, Some, vec_len, nat_le, if◌then◌else◌, OnOk, OnErr};
+ghost use Rattle.rapid_model.specs.Limits.{most_notes};
 ghost use Rattle.rapid_service.specs.Asking.{answer_of};
 
 use rapid_endpoint::Endpoint;
@@ -107,7 +108,7 @@ impl fmt::Display for Note {
 pub(crate) struct Notes {
     alloc: Global,
     waiting: Vec<Note>,
-    ghost few: { vec_len waiting ≤ 64 },
+    ghost few: { vec_len waiting ≤ most_notes },
 }
 
 impl Notes {
@@ -127,7 +128,7 @@ impl Notes {
     ///
     /// There is no memory for it: it is not added.
     pub(crate) fn add(&mut self, note: Note) -> Result<(), AllocError>
-        ensures added { OnOk result (self.new.waiting.items ≡ (if nat_le 64 (vec_len self.old.waiting) then self.old.waiting.items else self.old.waiting.items ++ note ∷ [])) }
+        ensures added { OnOk result (self.new.waiting.items ≡ (if nat_le most_notes (vec_len self.old.waiting) then self.old.waiting.items else self.old.waiting.items ++ note ∷ [])) }
         ensures unchanged { OnErr result (self.new.waiting.items ≡ self.old.waiting.items) }
     {
         if self.waiting.len() < MOST_NOTES {

@@ -9,6 +9,7 @@ ghost use Rattle.rapid_model.specs.Configuration.{founding};
 ghost use Rattle.rapid_model.specs.Message.{Probe};
 ghost use Rattle.rapid_model.specs.Node as model;
 ghost use Rattle.rapid_model.specs.Ring.{subjects_of};
+ghost use Rattle.rapid_model.specs.Limits.{most_notes, most_subscriptions, most_waiting_views};
 ghost use Rattle.rapid_node.specs.Steps.{event_of};
 ghost use Rattle.rapid_service.specs.Edges.{place_of};
 ghost use Rattle.rapid_service.specs.Presents.{edges_in};
@@ -342,7 +343,7 @@ impl<R: Wait + Copy + Drop, P: Post + Drop> Service<R, P> {
     /// Those of `Desk::subscribe`. After `OutOfMemory` a subscription more may count.
     pub fn subscribe(&mut self, capacity: usize) -> Result<(Subscription, Option<View>), DeskError>
         ensures state { (self.new.desk.state ≡ self.old.desk.state) × (self.new.me ≡ self.old.me) }
-        ensures ok { OnOk result ((0 < capacity) × (capacity ≤ 1024) × (length self.old.desk.subscriptions < 64)) }
+        ensures ok { OnOk result ((0 < capacity) × (capacity ≤ most_waiting_views) × (length self.old.desk.subscriptions < most_subscriptions)) }
         ensures untaken { IfOk result (λ r. r.0.taken ≡ []) }
         ensures current { IfOk result (λ r. r.1 ≡ option_map (λ present. present.view) self.old.present) }
         ensures refused { IfErr result (NotSubscribed capacity (length self.old.desk.subscriptions)) }
@@ -376,7 +377,7 @@ impl<R: Wait + Copy + Drop, P: Post + Drop> Service<R, P> {
     /// What is to be reported since this was last asked, from the oldest on: at most 64 notes wait.
     pub fn take_notes(&mut self) -> Vec<Note>
         ensures taken { result.items ≡ self.old.notes.waiting.items }
-        ensures few { vec_len result ≤ 64 }
+        ensures few { vec_len result ≤ most_notes }
         ensures none { self.new.notes.waiting.items ≡ [] }
         ensures same { (self.new.desk ≡ self.old.desk) × (self.new.me ≡ self.old.me) }
     {

@@ -1,6 +1,8 @@
 // What the threads of a node share.
 
-ghost use Rattle.std.specs.Prelude.{◌≡◌, ◌<◌, ◌≤◌, ◌++◌, [], List, false, min, max, vec_len, IfOk, OnOk, OnErr};
+ghost use Rattle.std.specs.Prelude.{◌≡◌, ◌<◌, ◌≤◌, ◌++◌, [], ℕ, List, false, min, max, vec_len, IfOk, IfErr, OnOk, OnErr};
+ghost use Rattle.rapid_model.specs.Limits.{most_notes, most_probers, most_waiting_views};
+ghost use Rattle.rapid_desk.specs.Desks.{NotSubscribed};
 ghost use Rattle.rapid_service.specs.EdgeText.{edges_text};
 ghost use Rattle.rapid_service.specs.declared.edge_text.EdgeState.{EdgeState};
 
@@ -50,7 +52,7 @@ impl<R: Wait + Copy + Drop, P: Post + Drop> Shared<R, P> {
         service: Service<R, P>,
         probers: u8,
     ) -> Result<Shared<R, P>, AllocError>
-        ensures { IfOk result (λ shared. shared.probers ≡ max 1 (min probers 16)) }
+        ensures { IfOk result (λ shared. shared.probers ≡ max 1 (min probers most_probers)) }
     {
         let probers = probers.clamp(1, MOST_PROBERS);
         let mut parts = Vec::with_capacity(alloc, usize::from(probers))?;
@@ -256,14 +258,16 @@ impl<R: Wait + Copy + Drop, P: Post + Drop> Shared<R, P> {
     ///
     /// # Errors
     ///
-    /// Those of `Service::subscribe`.
+    /// Those of `Service::subscribe`: `BadCapacity` exactly if the capacity is not 1 to 1,024, else
+    /// `TooManySubscribers` or `OutOfMemory`.
     pub fn subscribe<W: Wait>(
         &self,
         rt: &W,
         capacity: usize,
     ) -> Result<(Subscription, Option<View>), DeskError>
-        ensures room { OnOk result ((0 < capacity) × (capacity ≤ 1024)) }
+        ensures room { OnOk result ((0 < capacity) × (capacity ≤ most_waiting_views)) }
         ensures untaken { IfOk result (λ r. r.0.taken ≡ []) }
+        ensures refused { IfErr result (λ e. (served : ℕ) × NotSubscribed capacity served e) }
     {
         let mut service = self.service.lock(rt);
         service.subscribe(capacity)
@@ -293,7 +297,7 @@ impl<R: Wait + Copy + Drop, P: Post + Drop> Shared<R, P> {
 
     /// What is to be reported since this was last asked.
     pub fn take_notes<W: Wait>(&self, rt: &W) -> Vec<Note>
-        ensures { vec_len result ≤ 64 }
+        ensures { vec_len result ≤ most_notes }
     {
         let mut service = self.service.lock(rt);
         service.take_notes()

@@ -5,7 +5,8 @@ use Rattle.rapid_model.specs.World.{WorldEvent}
 use Rattle.rapid_model.specs.Run.{WorldReport, step_reports}
 use Rattle.rapid_model.specs.StoredWorld.{StoredWorld, StoresEvent, with_event, world_of, unmarked, wants_of}
 use Rattle.rapid_model.specs.SimLine.{SimLine, Parameters, Found, Events, Lose, Deliver, Drop, Flow, Packets}
-use Rattle.rapid_model.specs.SimText.{Simulation, SimState, Underway, Asked, Command, Said, asked, answer, after, printed, world_in, refused, reports_text, taking, taken_text, settling, losing, least_unsettled, can_reach, most_in_flow, silent, event_then, do_events, deliver_then, next_then, do_flow, text_of_lines}
+use Rattle.rapid_model.specs.Limits.{most_in_flow}
+use Rattle.rapid_model.specs.SimText.{Simulation, SimState, Underway, Asked, Command, Said, asked, answer, after, printed, world_in, refused, reports_text, taking, taken_text, settling, losing, least_unsettled, can_reach, silent, event_then, do_events, deliver_then, next_then, do_flow, text_of_lines}
 use Rattle.rapid_sim.specs.Wants.{IsSilent, EventPrints, EventsPrint, DeliveryPrints, IfHolds, NextPrints, FlowPrints, CommandPrints, LinePrints, LinesPrint}
 
 -- An event without a mark leads to the world of the definitions, and reports what they say.

@@ -10,7 +10,8 @@ use Rattle.rapid_model.specs.Run.{WorldReport}
 use Rattle.rapid_model.specs.StoredWorld.{StoredWorld, StoresEvent, wants_of}
 use Rattle.rapid_model.specs.Lines.{line_feed, lines}
 use Rattle.rapid_model.specs.SimLine.{SimLine, Parameters, Found, Events, Lose, Deliver, Drop, Flow, Packets}
-use Rattle.rapid_model.specs.SimText.{Simulation, SimState, Blank, Underway, ByWorld, Asked, Command, asked, after, printed, world_in, refused, refusal_line, reports_text, settling, losing, least_unsettled, can_reach, most_in_flow}
+use Rattle.rapid_model.specs.Limits.{most_in_flow}
+use Rattle.rapid_model.specs.SimText.{Simulation, SimState, Blank, Underway, ByWorld, Asked, Command, asked, after, printed, world_in, refused, refusal_line, reports_text, settling, losing, least_unsettled, can_reach}
 
 -- ---- one event
 

@@ -5,6 +5,7 @@ ghost use Rattle.rapid_model.specs.World as model;
 ghost use Rattle.rapid_model.specs.World.{running_under, peer_at};
 ghost use Rattle.rapid_model.specs.StoredWorld.{world_of, wants_of, last_mark};
 ghost use Rattle.rapid_model.specs.SimText.{least_unsettled, observes_on, failing, losing};
+ghost use Rattle.rapid_model.specs.Limits.{most_in_flow};
 ghost use Rattle.rapid_world.specs.Events.{event_of, error_wants};
 ghost use Rattle.rapid_sim.specs.Wants.{EventsPrint, DeliveryPrints, FlowPrints};
 ghost use Rattle.rapid_sim.specs.Progress.{IsDone, HasStepped, HasFlowed, error_text};
@@ -162,7 +163,7 @@ impl Simulator {
 
     /// Delivers packets, the least first, as long as there are any that are not settled.
     pub(crate) fn flow(&mut self, output: &mut Vec<u8>) -> Result<(), AllocError>
-        ensures { OnOk result (IsDone (FlowPrints 10000 (simulation_of self.old)) (simulation_of self.new) output.old.items output.new.items self.old.met self.new.met) }
+        ensures { OnOk result (IsDone (FlowPrints most_in_flow (simulation_of self.old)) (simulation_of self.new) output.old.items output.new.items self.old.met self.new.met) }
     {
         for _done in 0..MOST_IN_FLOW {
             if !self.flow_once(output)? {

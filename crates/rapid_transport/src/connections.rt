@@ -1,6 +1,7 @@
 // The outgoing connections of a sender.
 
 ghost use Rattle.std.specs.Prelude.{◌≡◌, ◌≤◌, ◌<◌, vec_len, IfSome};
+ghost use Rattle.rapid_model.specs.Limits.{most_connections};
 
 use crate::counted::Metered;
 use crate::counters::Meters;
@@ -48,7 +49,7 @@ struct Connection {
 pub(crate) struct Connections {
     all: Vec<Connection>,
     slow: SlowPeers,
-    ghost few: { vec_len all ≤ 64 },
+    ghost few: { vec_len all ≤ most_connections },
 }
 
 /// The address of an endpoint.
@@ -123,7 +124,7 @@ impl Connections {
 
     /// Closes the oldest connection if there is no room for another.
     fn make_room(&mut self)
-        ensures { vec_len self.new.all < 64 }
+        ensures { vec_len self.new.all < most_connections }
     {
         if self.all.len() >= MOST_CONNECTIONS {
             self.all.remove(0);

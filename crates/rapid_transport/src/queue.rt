@@ -1,6 +1,7 @@
 // The queue of a sender: frames, each with the endpoint that it goes to.
 
 ghost use Rattle.std.specs.Prelude.{◌≡◌, ◌<◌, ◌≤◌, List, [], ◌∷◌, ◌++◌, OnOk, IfOk, IfErr, MatchOption};
+ghost use Rattle.rapid_model.specs.Limits.{most_waiting_frames};
 ghost use Rattle.rapid_line.specs.Line.{StartsWith, Untaken};
 ghost use Rattle.rapid_transport.specs.declared.error.TransportError.TheVariants.{QueueFull};
 ghost use Rattle.rapid_transport.specs.Counting.{one_more};
@@ -62,7 +63,7 @@ impl SenderQueue {
     /// An empty queue with room for this many frames, 1 to 4,096: the end that puts, and the one
     /// that takes.
     pub fn new(alloc: Global, capacity: usize) -> Result<(SenderQueue, SenderEnd), AllocError>
-        requires { (0 < capacity) × (capacity ≤ 4096) }
+        requires { (0 < capacity) × (capacity ≤ most_waiting_frames) }
         ensures queue { IfOk result (λ ends. ends.0.queue ≡ ends.1.queue) }
         ensures empty { IfOk result (λ ends. (ends.0.put ≡ []) × (ends.0.known ≡ []) × (ends.1.taken ≡ [])) }
         ensures room { IfOk result (λ ends. ends.0.room ≡ capacity) }

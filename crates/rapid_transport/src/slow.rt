@@ -1,6 +1,7 @@
 // Peers that were too slow, and are left alone for a while.
 
 ghost use Rattle.std.specs.Prelude.{◌≤◌, ◌<◌, vec_len};
+ghost use Rattle.rapid_model.specs.Limits.{most_slow_peers};
 
 use rapid_endpoint::Endpoint;
 use std::alloc::Global;
@@ -45,7 +46,7 @@ impl Slow {
 #[derive(Drop)]
 pub(crate) struct SlowPeers {
     all: Vec<Slow>,
-    ghost few: { vec_len all ≤ 1024 },
+    ghost few: { vec_len all ≤ most_slow_peers },
 }
 
 impl SlowPeers {
@@ -58,7 +59,7 @@ impl SlowPeers {
 
     /// Lets the first peer go if there is no room for another.
     fn make_room(&mut self)
-        ensures { vec_len self.new.all < 1024 }
+        ensures { vec_len self.new.all < most_slow_peers }
     {
         if self.all.len() >= MOST_SLOW {
             self.all.remove(0);

@@ -2,7 +2,7 @@
 
 ghost use Rattle.std.specs.Prelude.{◌≡◌, ◌⊎◌, ℕ, ◌+◌, ◌*◌, ◌<◌, ◌≤◌, List, [], ◌∷◌, length, vec_len, All, Some, IfOk, IfErr};
 ghost use Rattle.rapid_model.specs.Configuration as model;
-ghost use Rattle.rapid_model.specs.Limits.{most_views};
+ghost use Rattle.rapid_model.specs.Limits.{most_views, most_seats};
 ghost use Rattle.rapid_view.specs.CellRule.{place, writing};
 
 use crate::known::{Known, Published};
@@ -79,7 +79,7 @@ impl ViewCell {
         seats: usize,
         views: usize,
     ) -> Result<(ViewWriter<R>, Vec<ViewSeat>), ViewError>
-        requires seats { (0 < seats) × (seats ≤ 64) }
+        requires seats { (0 < seats) × (seats ≤ most_seats) }
         requires views { (0 < views) × (views ≤ most_views) }
         ensures writer { IfOk result (λ r. (r.0.seen ≡ model.stamp view ∷ []) × (r.0.room ≡ views)) }
         ensures shown { IfOk result (λ r. r.0.shown ≡ Some view) }

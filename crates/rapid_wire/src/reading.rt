@@ -98,7 +98,9 @@ fn read_processes(
 ) -> Result<(Vec<Process>, &[u8]), WireFault>
     ensures { Gives (λ x. (x.0.items, x.1.now)) result (many count process_at bytes.now) }
 {
-    let mut processes = Vec::new(alloc);
+    // no more room than the bytes can fill, whatever number they announce
+    let most = count.min(bytes.len() / PROCESS_BYTES);
+    let mut processes = Vec::with_capacity(alloc, most)?;
     let mut rest = bytes;
     for _ in 0..count {
         let (front, after) = read_front(rest, PROCESS_BYTES)?;

@@ -13,6 +13,7 @@ ghost use Rattle.rapid_model.specs.Detector.{empty_detector};
 ghost use Rattle.rapid_model.specs.Learner.{fresh_learner};
 ghost use Rattle.rapid_model.specs.Outbox as outbox;
 ghost use Rattle.rapid_model.specs.Ring.{observers_of};
+ghost use Rattle.rapid_model.specs.Limits.{most_members};
 ghost use Rattle.rapid_alerts.specs.Alerts.{alert_of};
 ghost use Rattle.rapid_alerts.specs.Refusals.{Refuses};
 ghost use Rattle.rapid_join.specs.Hosts.{fresh_host};
@@ -73,7 +74,7 @@ pub(crate) struct Ballots {
 impl Ballots {
     /// Nothing was said, heard or proposed by the member at this place among this many.
     pub(crate) fn new(alloc: Global, size: usize, place: usize) -> Ballots
-        requires size { size ≤ 1024 }
+        requires size { size ≤ most_members }
         requires place { place < size }
         ensures { result ≡ record { acceptor = fresh_acceptor; coordinator = fresh_coordinator size place; learner = fresh_learner size; proposal = None; alloc = alloc } }
     {

@@ -7,7 +7,7 @@ use Rattle.rapid_wire.proofs.reading.read_processes.Goals as goal
 pub returns-in_err-front : goal.returns-in_err-front
 unfolding process_at
 returns-in_err-front c =
-    let p = err_from_is_err_and c.from_residual.result c.from_residual.ensures.1 in
+    let p = err_from_is_err_and c.from_residual-in_err-front.result c.from_residual-in_err-front.ensures.1 in
     rw (p.1, p.2) (ends c.in_err-front.field-0.0 process_at c.loop.processes.items c.args.count c.loop.counter c.loop.rest.now (many c.args.count process_at c.args.bytes.now) c.loop-test.true c.in_err-front.ensures.value c.loop.invariant)
 
 pub loop-preserved : goal.loop-preserved
