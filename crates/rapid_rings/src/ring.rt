@@ -16,6 +16,17 @@ use rapid_endpoint::Process;
 use std::alloc::{AllocError, Global};
 use std::marker::Model;
 
+/// The members of the configuration that follows one.
+#[derive(Clone, Copy, Debug)]
+pub(crate) struct NextMembers<'a> {
+    /// All of them.
+    pub(crate) members: &'a [Process],
+    /// Of each member before: its place among them, if it stays.
+    pub(crate) places: &'a [Option<u16>],
+    /// The places of those that are new.
+    pub(crate) newcomers: &'a [u16],
+}
+
 /// The seats of the members on one ring. Members are named by their places in the configuration.
 #[derive(Debug, Drop)]
 pub(crate) struct Ring {
@@ -53,22 +64,24 @@ impl Ring {
         ranked(alloc, seats, members.len())
     }
 
-    /// The same ring of the members that follow: of those before, these are the places now, and
-    /// these are the places of those that are new.
+    /// The same ring of the members that follow.
     pub(crate) fn next(
         &self,
         alloc: Global,
         number: u8,
-        members: &[Process],
-        places: &[Option<u16>],
-        newcomers: &[u16],
+        after: NextMembers<'_>,
         keys: &KnownKeys,
     ) -> Result<Ring, AllocError>
-        requires ascend { IsTrue (identifiers_ascend members.now) }
+        requires ascend { IsTrue (identifiers_ascend after.entry.members.now) }
         requires before { (before : List ModelProcess) × IsOrder number before self.now
-            × (places.now ≡ map (λ p. position (same_bytes p) members.now) before) × (newcomers.now ≡ places_of_new before members.now) }
-        ensures { IfOk result (λ ring. IsOrder number members.now ring) }
+            × (after.entry.places.now ≡ map (λ p. position (same_bytes p) after.entry.members.now) before) × (after.entry.newcomers.now ≡ places_of_new before after.entry.members.now) }
+        ensures { IfOk result (λ ring. IsOrder number after.entry.members.now ring) }
     {
+        let NextMembers {
+            members,
+            places,
+            newcomers,
+        } = after;
         let mut seats = seats_moved(alloc, self.seats.as_slice(), places, newcomers.len())?;
         let more = seats_at(alloc, number, members, newcomers, keys)?;
         add_seats(&mut seats, more.as_slice())?;

@@ -11,7 +11,7 @@ ghost use Rattle.rapid_model.specs.Ring.{observers_of, subject_on, subjects_of};
 use crate::ObserverTable;
 use crate::known_keys::KnownKeys;
 use crate::places::{places_below, places_in, places_of_strangers};
-use crate::ring::Ring;
+use crate::ring::{NextMembers, Ring};
 use rapid_config::{ConfigId, Configuration, Params};
 use rapid_endpoint::Process;
 use std::alloc::{AllocError, Global};
@@ -96,7 +96,14 @@ impl Rings {
         ensures { IfOk result (λ ring. IsOrder number members.now ring) }
     {
         match self.rings.get(usize::from(number)) {
-            Some(ring) => ring.next(alloc, number, members, places, newcomers, &self.keys),
+            Some(ring) => {
+                let after = NextMembers {
+                    members,
+                    places,
+                    newcomers,
+                };
+                ring.next(alloc, number, after, &self.keys)
+            }
             None => {
                 let places = places_below(alloc, members.len())?;
                 Ring::new(alloc, number, members, places.as_slice())
