@@ -72,9 +72,9 @@ impl Ring {
         after: NextMembers<'_>,
         keys: &KnownKeys,
     ) -> Result<Ring, AllocError>
-        requires ascend { IsTrue (identifiers_ascend after.entry.members.now) }
+        requires ascend { IsTrue (identifiers_ascend after.members.now) }
         requires before { (before : List ModelProcess) × IsOrder number before self.now
-            × (after.entry.places.now ≡ map (λ p. position (same_bytes p) after.entry.members.now) before) × (after.entry.newcomers.now ≡ places_of_new before after.entry.members.now) }
+            × (after.places.now ≡ map (λ p. position (same_bytes p) after.members.now) before) × (after.newcomers.now ≡ places_of_new before after.members.now) }
         ensures { IfOk result (λ ring. IsOrder number after.entry.members.now ring) }
     {
         let NextMembers {
