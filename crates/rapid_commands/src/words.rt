@@ -398,7 +398,7 @@ where
 
 /// Does what the words ask for, of which the first is the program's name. The answer is the status.
 /// If it is 0, what the input prints by the command that the words name, with its options, was
-/// written and nothing else; or the words ask for help or the version, and the input was not read.
+/// written, and nothing else. Or the words ask for help or the version, and the input was not read.
 /// If it is 1, a beginning of that was written, or help or the version could not be written. If it
 /// is 2, nothing was written. If it is 3, a beginning of what the input prints by the command that
 /// the words name was written, or nothing. What `node` writes is not promised, unless its words are

@@ -127,8 +127,9 @@ fn add_implied<T: ObserverTable>(
     Ok(())
 }
 
-/// Adds all that the direct reports imply to what is known with some of it: one pass over those on
-/// whom reports miss, since what is implied goes only to processes with at least L direct reports.
+/// Adds all that the direct reports imply to what is known with some of it. One pass over those on
+/// whom reports miss suffices, since only a process with at least L direct reports gets what is
+/// implied.
 fn close<T: ObserverTable>(
     table: &T,
     subjects: &[Process],

@@ -53,8 +53,8 @@ impl Ring {
         ranked(alloc, seats, members.len())
     }
 
-    /// The same ring of the members that follow: of those before, these are the places now, and
-    /// these are the places of those that are new.
+    /// The same ring of the next members. `places` has the places there of the members before,
+    /// `newcomers` those of the new ones.
     pub(crate) fn next(
         &self,
         alloc: Global,

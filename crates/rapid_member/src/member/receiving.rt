@@ -173,7 +173,7 @@ impl MemberState {
     /// decided, if any.
     ///
     /// On an error a part of its work may be done, so no clause says more than who the member is
-    /// and where. It is of no further use, and nothing that was added to the outputs is to be sent:
+    /// and where. It is of no further use, and nothing that was added to the outputs may be sent.
     /// `Node::step` drops both, and its node is halted.
     #[inline(always)]
     pub fn receive(

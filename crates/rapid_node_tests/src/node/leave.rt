@@ -5,9 +5,10 @@ use crate::node::steps::{Step, Which, Word, lives};
 use rapid_node::Phase;
 use std::test::Fail;
 
-// Of the founders 1 to 3 the first observes the second on the rings 0 and 1, the third on ring 2,
-// and the joiner 8 on ring 0, so the third observes the first on the rings 0 and 1, and the second
-// does on ring 2. This was computed by Python's hashlib, from the rule that none is between.
+// Of the founders 1 to 3 the first observes the second on the rings 0 and 1. It observes the third
+// on ring 2, and the joiner 8 on ring 0. So the third observes the first on the rings 0 and 1. The
+// second observes it on ring 2. This was computed by Python's hashlib, from the rule that none is
+// between.
 
 /// It tells its observer on each ring, as often as it is told itself, and goes on.
 const TOLD: [Step; 5] = [
