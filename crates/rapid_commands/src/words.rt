@@ -298,14 +298,14 @@ fn matches_of<'a, S: AsStr>(alloc: Global, words: &'a [S]) -> Result<ArgMatches<
     grammar(alloc)?.try_get_matches_from(words)
 }
 
-/// The number behind an option, if it is a byte.
+/// The number after an option, if it is a byte.
 fn byte_behind(words: &ArgMatches, option: &str) -> Option<u8>
     ensures { IfSome result (λ n. number_in (rows_of (found_of words.now)) option.now ≡ Some n) }
 {
     words.get_one::<u8>(option)
 }
 
-/// The number behind an option, if it has at most 16 bits.
+/// The number after an option, if it has at most 16 bits.
 fn number_behind(words: &ArgMatches, option: &str) -> Option<u16>
     ensures { IfSome result (λ n. number_in (rows_of (found_of words.now)) option.now ≡ Some n) }
 {

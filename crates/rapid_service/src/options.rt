@@ -188,7 +188,7 @@ fn identifier(text: Option<&str>) -> Result<Option<ProcessId>, OptionsError>
 /// # Errors
 ///
 /// The first that holds. `BadParams` if K, H and L are not in order. `Unreadable` or `NotLocal` of
-/// the endpoint behind `--listen`, then of that behind `--join`. `Unreadable` of the identifier.
+/// the endpoint after `--listen`, then of that after `--join`. `Unreadable` of the identifier.
 pub fn judge(words: NodeWords) -> Result<NodeOptions, OptionsError>
     ensures texts { IfOk result (λ o. AreRead words.entry.listen.now (option_map (λ t. t.now) words.entry.join) (option_map (λ t. t.now) words.entry.id) o.listen o.join o.id) }
     ensures params { IfOk result (λ o. o.params ≡ record { k = words.entry.k; h = words.entry.h; l = words.entry.l }) }

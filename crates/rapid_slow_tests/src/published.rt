@@ -62,7 +62,7 @@ fn let_three_in<R: Wait + Abort>(
 }
 
 /// Checks that a subscriber with room for two hears the views of this many heights in order. Or
-/// after two at the latest it hears that it lagged, and nothing behind that.
+/// after two at the latest it hears that it lagged, and nothing after that.
 fn assert_told<R: Wait + Abort>(rt: &R, subscription: &mut Subscription, heights: u64) {
     let mut last = 0u64;
     for height in 1..heights.saturating_add(1) {

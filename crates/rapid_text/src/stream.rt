@@ -34,7 +34,7 @@ fn split_line(bytes: &[u8]) -> Option<(&[u8], &[u8])>
     None
 }
 
-/// Answers the line that ends behind these bytes. If nothing is kept of it they are all of it, and
+/// Answers the line that ends after these bytes. If nothing is kept of it they are all of it, and
 /// are not copied.
 fn end_line<E: Engine>(
     engine: &mut E,
