@@ -100,8 +100,8 @@ impl<R: Wait + Copy + Drop, P: Post + Drop> Shared<R, P> {
     }
 
     /// Prints the views that the service has entered, while its lock is held: views are printed in
-    /// the order in which they were entered. Who waits for them is woken, and probes begin anew in
-    /// the last of them.
+    /// the order in which they were entered. Those that wait for them are woken, and probes begin
+    /// anew in the last of them.
     fn show<W: Wait>(&self, rt: &W, service: &mut Service<R, P>) -> Result<(), RunningFault> {
         let lines = service.take_lines();
         if !lines.is_empty() {

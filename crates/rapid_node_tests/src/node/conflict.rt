@@ -52,8 +52,8 @@ const SENT: [(u16, To, Said); 14] = [
 /// The founders.
 const FIVE: [u16; 5] = [1, 2, 3, 4, 5];
 
-/// The first member asks for the cut that two of the three members promised for; who has accepted
-/// sends no fast vote.
+/// The first member asks for the cut that two of the three members promised for. One that has
+/// accepted sends no fast vote.
 const ASKED: [Line; 4] = [
     Line::Does(&BALLOT_BEGINS),
     Line::Does(&ALL_ACCEPT),

@@ -38,7 +38,7 @@ fn who_leaves_tells_its_observers(rt: HostRuntime) -> Result<(), Fail> {
     lives(&rt, rt.alloc(), (3, 3, 1), &[1, 2, 3], &TOLD)
 }
 
-/// Who is alone has no observer, and who was removed has none any more.
+/// A member that is alone has no observer, and a removed node has none any more.
 const NOBODY_TOLD: [Step; 4] = [
     Step::Hears(Word::Leave, &[]),
     Step::Hears(Word::Decision(1), &[]),
@@ -84,7 +84,7 @@ fn what_an_observer_does_not_observe_is_ignored(rt: HostRuntime) -> Result<(), F
     lives(&rt, rt.alloc(), (3, 3, 1), &[1, 2, 3], &OF_OTHERS)
 }
 
-/// Who leaves a configuration that was left is told the decision there.
+/// A Leave for a configuration that this node has left is answered with the decision there.
 const LATE_AT_A_MEMBER: [Step; 4] = [
     Step::Hears(Word::Decision(2), &[]),
     Step::Is(Phase::Member),
