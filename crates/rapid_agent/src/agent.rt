@@ -201,8 +201,8 @@ impl<'a, W: Wait> Agent<'a, W> {
         self.shared.ending().end(self.rt, None);
     }
 
-    /// A member that was removed asks the one at this endpoint to let it in as another process.
-    /// This one is behind the same listener, and its identifier is drawn from the source. Its
+    /// A member that was removed asks the one at this endpoint to let it in as another process. The
+    /// new process is behind the same listener, and its identifier is drawn from the source. Its
     /// subscriptions have ended, and its seats are at the views before. The answer is whether it
     /// asks: it does not if it was not removed, or has ended.
     ///

@@ -109,7 +109,7 @@ fn every_kind_cut_after_each_byte(rt: HostRuntime) -> Result<(), Fail> {
     Ok(())
 }
 
-/// Whether a reader is answered so that gives nine bytes a call. It fails at any of its calls
+/// Whether a reader that gives nine bytes a call is answered so. It fails at any of its calls
 /// before the last byte of the frame came.
 fn fails_at_each_read<R: Wait>(rt: &R, alloc: Global, frame: &[u8]) -> bool {
     let needed = frame.len().div_ceil(9);
