@@ -30,7 +30,7 @@ in_time() {
     return 1
 }
 
-# the last view that each of these processes printed has so many members, and they are at one height
+# the last view that each of these processes printed has this many members, and they are at one height
 have() {
     local members=$1 number height
     shift
@@ -41,7 +41,7 @@ have() {
     [[ "$height" != *$'\n'* ]]
 }
 
-# these processes come to a view of so many members; what each prints of it
+# these processes come to a view of this many members; what each prints of it
 come_to() {
     local members=$1 number
     shift

@@ -80,8 +80,9 @@ impl<W: Wait> Server<'_, W> {
     }
 }
 
-/// The server after the next view: of the same process, or of the one that joins in its place if it
-/// was removed, as one is that was stopped for a while. None if no further view comes.
+/// The server after the next view. It is of the same process, or of the one that joins in its place
+/// if it was removed. A process that was stopped for a while is removed. None if no further view
+/// comes.
 fn next_server<'a, W: Wait + Clock + RandomSource + Print>(
     rt: &W,
     agent: &'a Agent<'_, W>,

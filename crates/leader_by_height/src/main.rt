@@ -1,6 +1,7 @@
-//! A process that acts while it leads: the leader of a view is its first member, and each action names
-//! the height of that view as its fencing number. Behind `store` the program is what is acted on: it
-//! takes an action only if no later leader was heard, and none but one leader's at a height.
+//! A process that acts while it leads. The leader of a view is its first member. Each action names
+//! the height of that view as its fencing number. With the word `store` the program is what is
+//! acted on. It takes an action only if no later leader was heard, and of one leader alone at each
+//! height.
 #![tactic(auto)]
 
 ghost use Rattle.std.specs.Prelude.{◌≡◌, ◌↔◌, true, Some, slice_get};
@@ -105,8 +106,8 @@ impl<W: Wait> Leader<'_, W> {
     }
 }
 
-/// The leader after the next view, or after it acted: of the same process, or of the one that joins
-/// in its place if it was removed. None if no further view comes.
+/// The leader after the next view, or after it acted. It is of the same process, or of the one that
+/// joins in its place if it was removed. None if no further view comes.
 fn next_leader<'a, W: Wait + Clock + RandomSource + Print>(
     rt: &W,
     agent: &'a Agent<'_, W>,

@@ -102,7 +102,7 @@ impl<'a, W: Wait> Agent<'a, W> {
         Ok(agent)
     }
 
-    /// As `open`, for a program that prints the views at the console of what is shared: it has to
+    /// As `open`, for a program that prints the views at the console of what is shared. It has to
     /// print there, since a node whose console is full ends.
     ///
     /// # Errors
@@ -153,8 +153,8 @@ impl<'a, W: Wait> Agent<'a, W> {
         self.shared.phase(self.rt)
     }
 
-    /// A seat at the published view, by which one thread reads the last stamp without a lock, and
-    /// the last view: one of eight, from when there is a view.
+    /// A seat at the published view: one of eight, from when there is a view. By it one thread
+    /// reads the last stamp without a lock, and the last view.
     pub fn seat(&self) -> Option<ViewSeat> {
         self.shared.take_seat(self.rt)
     }
@@ -204,10 +204,10 @@ impl<'a, W: Wait> Agent<'a, W> {
         self.shared.ending().end(self.rt, None);
     }
 
-    /// One that was removed asks the member at this endpoint to let it in as another process, behind
-    /// the same listener, with an identifier that is drawn from the source. Its subscriptions have
-    /// ended, and its seats are at the views before. The answer is whether it asks: it does not if
-    /// it was not removed, or has ended.
+    /// A member that was removed asks the one at this endpoint to let it in as another process. The
+    /// new process is behind the same listener, and its identifier is drawn from the source. Its
+    /// subscriptions have ended, and its seats are at the views before. The answer is whether it
+    /// asks: it does not if it was not removed, or has ended.
     ///
     /// # Errors
     ///

@@ -1,5 +1,5 @@
-//! A member of a cluster in one's own program: it founds a cluster or joins one over loopback TCP,
-//! runs in threads of its own, and wakes who is subscribed to its views.
+//! A member of a cluster in one's own program. It founds a cluster or joins one over loopback TCP,
+//! and runs in threads of its own. It wakes those that are subscribed to its views.
 #![tactic(auto)]
 
 ghost use Rattle.rapid_agent.specs.Laws.{ChangesAreDifferences};
@@ -15,8 +15,8 @@ pub use changes::Changes;
 pub use posts::Posts;
 pub use subscriber::{Next, Subscriber};
 
-/// `Changes::between` lists the two differences of sets: a process is in such a list exactly if it is
-/// a member of the one view and not of the other.
+/// `Changes::between` lists the two differences of sets. A process is in such a list exactly if it
+/// is a member of the one view and not of the other.
 pub fn changes_are_differences()
     ensures { ChangesAreDifferences }
 {}

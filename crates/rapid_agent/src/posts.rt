@@ -6,8 +6,8 @@ use rapid_service::Post;
 use rapid_transport::Peers;
 use std::sync::{Arc, Wait};
 
-/// Gives frames to the senders of the peers. A frame that finds a queue full is lost, and so is one
-/// to an endpoint at which no peer can be, which the senders do not dial. The peers count both.
+/// Gives frames to the senders of the peers. A frame that finds a queue full is lost. So is one to
+/// an endpoint at which no peer can be, since the senders do not dial it. The peers count both.
 #[derive(Drop)]
 pub struct Posts {
     pub(crate) peers: Arc<Peers>,

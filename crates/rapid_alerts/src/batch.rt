@@ -104,8 +104,8 @@ impl Batch {
     /// The most alerts of a batch.
     pub const MOST: usize = 2048;
 
-    /// The batch of these alerts. The first of these that holds is the error: `EmptyBatch` if there
-    /// is none, `TooManyAlerts` if there are more than 2,048, `MixedAlerts` if two are of different
+    /// The batch of these alerts. The first of these that holds is the error. `EmptyBatch` if there
+    /// is none, `TooManyAlerts` if there are more than 2,048. `MixedAlerts` if two are of different
     /// observers or of different configurations. `OutOfMemory` comes only if none of them holds.
     pub fn new(alloc: Global, alerts: &[Alert]) -> Result<Batch, BatchError>
         ensures value { IfOk result (λ batch. batch ≡ map alert_of alerts.now) }

@@ -133,10 +133,10 @@ impl<T: ObserverTable> Outbox<T> {
     ///
     /// # Errors
     ///
-    /// The first that holds: `OldConfiguration` if the alert is of another configuration than the
-    /// table's; `WrongObserver` if the owner is not the alert's observer or not the table's
-    /// observer of this subject on this ring; `WrongKind` unless the kind is Remove exactly if the
-    /// subject is a member; `TooManyJoiners` if the alert is on a 513th joiner. `OutOfMemory` comes
+    /// The first that holds. `OldConfiguration` if the alert is of another configuration than the
+    /// table's. `WrongObserver` if the owner is not the alert's observer, or not the table's
+    /// observer of this subject on this ring. `WrongKind` unless the kind is Remove exactly if the
+    /// subject is a member. `TooManyJoiners` if the alert is on a 513th joiner. `OutOfMemory` comes
     /// only for an alert that would be raised. Each leaves the outbox as it was.
     pub fn raise(&mut self, alert: Alert) -> Result<Raising, RaiseError>
         ensures raised { OnOk result (self.new.outbox ≡ model.raise (T.observers self.old.table) self.old.owner self.old.outbox (alert_of alert)) }

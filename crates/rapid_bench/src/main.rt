@@ -1,7 +1,7 @@
-//! Measures the calls that a member makes most, worlds of founders of which some crash, reads of the
-//! published view by one and by four threads, probe windows that they share, and steps of a desk
-//! beside those of its node.
-//! `bench/plain.rs` does the same work in plain Rust, and `bench/README.md` has the figures of both.
+//! Measures the calls that a member makes most, and worlds of founders of which some crash. It
+//! measures reads of the published view by one and by four threads, and probe windows that they
+//! share. It measures steps of a desk beside those of its node. `bench/plain.rs` does the same work
+//! in plain Rust, and `bench/README.md` has the figures of both.
 #![tactic(auto)]
 
 mod cluster;

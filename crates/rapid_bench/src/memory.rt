@@ -73,8 +73,8 @@ fn measure<R: Print + Files + Alloc>(
     Ok(())
 }
 
-/// Prints the figures `round_bytes_one_cut` and `round_bytes_own_cuts`: the bytes of a round after
-/// all voted for one cut of ten processes, and after each voted for another.
+/// Prints the figures `round_bytes_one_cut` and `round_bytes_own_cuts`. These are the bytes of a
+/// round after all voted for one cut of ten processes, and after each voted for another.
 pub fn print<R: Print + Files + Alloc>(rt: &R, alloc: Global) -> Result<()> {
     let mut cuts = Vec::new(alloc);
     for first in 1..=MEMBERS {

@@ -85,7 +85,7 @@ impl<R: Print + Clock + Files + Alloc> Bench<'_, R> {
         Ok(())
     }
 
-    /// Prints how much a step takes in the best run, if copies of a node take these events from the
+    /// Prints how much a step takes in the best run. Copies of a node take these events from the
     /// same start, in about this many steps a run.
     fn print_steps(&self, name: &str, node: &Node, events: &[Event], steps: usize) -> Result<()> {
         let count = (steps / events.len().max(1)).max(2);

@@ -19,7 +19,7 @@ use std::marker::Model;
 use std::sync::ledger::{Blank, Book, Ledger, Share};
 
 /// A world that many threads drive, with what turns remember and the book of a ledger that counts
-/// the stored events. It is kept in a Mutex: whenever that is free the world is the run of its
+/// the stored events. It is kept in a Mutex. Whenever that is free the world is the run of its
 /// stored events, and the book's total is their number.
 #[derive(Drop)]
 pub struct ClusterBook<L: Ledger> {

@@ -191,9 +191,9 @@ fn run_given<
 /// Starts this many clerks, numbered from 0, each in a thread of its own with this many turns to
 /// take. The result is how many turns each took: 0 if its thread could not be started. All memory
 /// is allocated before the first one starts. The caller ensures that the share is one of the book's
-/// ledger, and that it has every part of it and more parts than there are workers. It has every
-/// part again afterwards, and its amount is raised by the number of turns that were taken, which is
-/// the number of events that were stored.
+/// ledger. It has every part of that, and more parts than there are workers. Afterwards it has
+/// every part again. Its amount is raised by the number of turns that were taken, which is the
+/// number of events that were stored.
 ///
 /// # Errors
 ///

@@ -11,7 +11,7 @@ pub enum Job {
     /// This event of the world.
     Event(WorldEvent),
     /// A turn. It delivers the least packet above all that earlier turns have delivered or skipped,
-    /// at whose endpoint a node runs; those below it are skipped for good. If there is none, it is
+    /// at whose endpoint a node runs. Those below it are skipped for good. If there is none, it is
     /// a tick of the next running node, by identifier, going round from the least.
     Turn,
 }

@@ -30,8 +30,8 @@ pub(crate) enum Verdict {
     Ends(Ended),
 }
 
-/// What becomes of a clerk after this answer: it ends if no further event is accepted, or if out of
-/// memory, and goes on after any other refusal.
+/// What becomes of a clerk after this answer. It ends if no further event is accepted, or if out of
+/// memory. It goes on after any other refusal.
 pub(crate) fn judge<T: Drop>(answer: Result<T, WorldError>) -> Verdict
     ensures done { OnOk answer (result ≡ verdict.Done) }
     ensures refused { IfErr answer (λ error. result ≡ verdict_on error) }

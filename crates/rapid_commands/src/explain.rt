@@ -108,7 +108,7 @@ impl Given<'_> {
     }
 }
 
-/// The option that stands at this place among the words of a command. The word behind it is its
+/// The option that stands at this place among the words of a command. The word after it is its
 /// value, unless that is an option too.
 fn option_at<'a, S: AsStr>(command: &str, words: &'a [S], at: usize) -> Option<Given<'a>> {
     let option = words.get(at)?.as_str().strip_prefix("--")?;
@@ -123,7 +123,7 @@ fn option_at<'a, S: AsStr>(command: &str, words: &'a [S], at: usize) -> Option<G
     })
 }
 
-/// The word behind this place, unless it is an option.
+/// The word after this place, unless it is an option.
 fn value_behind<'a, S: AsStr>(words: &'a [S], at: usize) -> Option<&'a str> {
     let word = words.get(at.saturating_add(1))?.as_str();
     if word.starts_with("--") {

@@ -108,7 +108,7 @@ pub(crate) fn names_node<S: AsStr>(words: &[S]) -> bool
     }
 }
 
-/// What the words behind `node` say.
+/// What the words after `node` say.
 fn words_of<'a>(words: &ArgMatches<'a>) -> Option<NodeWords<'a>> {
     Some(NodeWords {
         listen: words.get_str("listen")?,
@@ -122,12 +122,12 @@ fn words_of<'a>(words: &ArgMatches<'a>) -> Option<NodeWords<'a>> {
     })
 }
 
-/// The words behind `node`, if the words of the program name that command.
+/// The words after `node`, if the words of the program name that command.
 pub(crate) fn node_matches<'m, 'a>(matches: &'m ArgMatches<'a>) -> Option<&'m ArgMatches<'a>> {
     matches.subcommand_matches(NODE)
 }
 
-/// What the words behind `node` ask for. A fault is reported.
+/// What the words after `node` ask for. A fault is reported.
 fn options_of<E: Write>(matches: &ArgMatches, err: &mut E) -> Option<NodeOptions> {
     let words = words_of(matches)?;
     match judge(words) {

@@ -301,7 +301,7 @@ fn matches_of<'a, S: AsStr>(alloc: Global, words: &'a [S]) -> Result<ArgMatches<
     grammar(alloc)?.try_get_matches_from(words)
 }
 
-/// The number behind an option, if it is a byte.
+/// The number after an option, if it is a byte.
 fn byte_behind(words: &ArgMatches, option: &str) -> Option<u8>
     ensures read { IfSome result (λ n. number_in (rows_of (found_of words.now)) option.now ≡ Some n) }
     ensures none { IfNone result (¬ IsNumber 8 (one_of option.now (rows_of (found_of words.now)))) }
@@ -309,7 +309,7 @@ fn byte_behind(words: &ArgMatches, option: &str) -> Option<u8>
     words.get_one::<u8>(option)
 }
 
-/// The number behind an option, if it has at most 16 bits.
+/// The number after an option, if it has at most 16 bits.
 fn number_behind(words: &ArgMatches, option: &str) -> Option<u16>
     ensures read { IfSome result (λ n. number_in (rows_of (found_of words.now)) option.now ≡ Some n) }
     ensures none { IfNone result (¬ IsNumber 16 (one_of option.now (rows_of (found_of words.now)))) }
@@ -405,7 +405,7 @@ where
 
 /// Does what the words ask for, of which the first is the program's name. The answer is the status.
 /// If it is 0, what the input prints by the command that the words name, with its options, was
-/// written and nothing else; or the words ask for help or the version, and the input was not read.
+/// written, and nothing else. Or the words ask for help or the version, and the input was not read.
 /// If it is 1, a beginning of that was written, or help or the version could not be written. If it
 /// is 2, the words are refused, and nothing was written. If it is 3, a beginning of what the input
 /// prints by the command that the words name was written, or nothing. What `node` writes is not

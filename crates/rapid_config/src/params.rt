@@ -7,8 +7,8 @@ ghost use Rattle.rapid_model.specs.Configuration.{AreParams};
 use crate::ConfigError;
 use std::marker::Model;
 
-/// The parameters of cut detection: the number of rings K, the stability mark H and the noise
-/// mark L, with 1 <= L <= H <= K <= 16 (Rapid, USENIX ATC 2018).
+/// The parameters of cut detection (Rapid, USENIX ATC 2018). They are the number of rings K, the
+/// stability mark H and the noise mark L, with 1 <= L <= H <= K <= 16.
 #[derive(Clone, Copy, Debug)]
 pub struct Params {
     k: u8,

@@ -36,8 +36,8 @@ fn has_magic(bytes: &[u8]) -> bool
     first == MAGIC
 }
 
-/// The parameters in the bytes and the number of members that they announce, if the bytes are as
-/// many as they have to be; or why not.
+/// The parameters in the bytes, and the number of members that they announce. An error if the bytes
+/// are not as many as they have to be.
 pub(crate) fn check_head(bytes: &[u8]) -> Result<(Params, usize), ConfigError>
     ensures params { IfOk result (λ r. r.0 ≡ params_in bytes.now) }
     ensures count { IfOk result (λ r. r.1 ≡ count_in bytes.now) }

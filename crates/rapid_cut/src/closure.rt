@@ -127,8 +127,9 @@ fn add_implied<T: ObserverTable>(
     Ok(())
 }
 
-/// Adds all that the direct reports imply to what is known with some of it: one pass over those on
-/// whom reports miss, since what is implied goes only to processes with at least L direct reports.
+/// Adds all that the direct reports imply to what is known with some of it. One pass over those on
+/// whom reports are missing suffices, since only a process with at least L direct reports gets what
+/// is implied.
 fn close<T: ObserverTable>(
     table: &T,
     subjects: &[Process],
@@ -158,8 +159,8 @@ fn may_any_observe<T: ObserverTable>(table: &T, processes: &[Process]) -> bool
     false
 }
 
-/// Adds all that the direct reports imply once these processes came to L, where `active` are all
-/// that have as many. If they observe nobody, what misses is on them alone.
+/// Adds all that the direct reports imply once these processes came to L. `active` are all that
+/// have as many. If they observe nobody, only reports on them are missing.
 pub fn close_grown<T: ObserverTable>(
     table: &T,
     active: &[Process],

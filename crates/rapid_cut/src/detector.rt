@@ -196,10 +196,10 @@ fn take_batch<T: ObserverTable, A: InTurn>(
 /// The cut detector over a table of observers (Rapid, USENIX ATC 2018).
 ///
 /// It takes batches of alerts until they have a cut. The reports are the pairs of subject and ring
-/// of the well-formed alerts that it took, and also each pair whose subject and whose observer on
-/// that ring both have at least L reports. A process is stable with at least H reports and unstable
-/// with L to H - 1. There is a cut if some process is stable and none is unstable: all that are
-/// stable. Of joiners at most 512 are taken; alerts on others are skipped.
+/// of the well-formed alerts that it took. A pair whose subject and whose observer on that ring
+/// both have at least L reports is one too. A process is stable with at least H reports and
+/// unstable with L to H - 1. There is a cut if some process is stable and none is unstable: all
+/// that are stable. Of joiners at most 512 are taken; alerts on others are skipped.
 #[derive(Debug, Drop)]
 pub struct Detector<T: ObserverTable> {
     table: T,
@@ -301,8 +301,8 @@ impl<T: ObserverTable> Detector<T> {
         }
     }
 
-    /// How many alerts of the last batch were skipped: those that are ill-formed or on a 513th
-    /// joiner, and 0 for a batch after the cut.
+    /// How many alerts of the last batch were skipped. These are ill-formed, or on a 513th joiner.
+    /// It is 0 for a batch after the cut.
     pub fn skipped(&self) -> usize
         ensures { result ≡ self.now.detector.skipped }
     {

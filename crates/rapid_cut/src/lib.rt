@@ -16,13 +16,13 @@ mod taken;
 
 pub use detector::Detector;
 
-/// A process is listed as stable exactly if it has at least H reports, and as unstable exactly if
-/// it has from L to H - 1. Both lists ascend.
+/// A process is listed as stable exactly if it has at least H reports. It is listed as unstable
+/// exactly if it has from L to H - 1. Both lists ascend.
 pub fn lists_are_exact()
     ensures { ListsAreExact }
 {}
 
-/// There is a cut exactly if some process has at least H reports and none has from L to H - 1; it
+/// There is a cut exactly if some process has at least H reports and none has from L to H - 1. It
 /// is all processes with at least H, ascending.
 pub fn cut_is_exact()
     ensures { CutIsExact }

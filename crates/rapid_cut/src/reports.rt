@@ -13,7 +13,7 @@ use std::collections::HashMap;
 use std::marker::Model;
 
 /// The direct reports, and all that are known with those that they imply, for the first sixteen
-/// rings: masks for each process that is reported on.
+/// rings. There are masks for each process that is reported on.
 #[derive(Debug, Drop)]
 pub struct KnownReports {
     masks: HashMap<SubjectKey, Masks>,

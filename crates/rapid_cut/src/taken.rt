@@ -26,8 +26,8 @@ use std::alloc::{AllocError, Global};
 /// The most joiners that are reported on.
 const JOINERS: usize = 512;
 
-/// Whether the alert is well-formed: its ring exists, its observer is that ring's, its
-/// configuration is the table's, and its kind is Remove exactly if the subject is a member. Also
+/// Whether the alert is well-formed. Then its ring exists, its observer is that ring's, and its
+/// configuration is the table's. And its kind is Remove exactly if the subject is a member. Also
 /// whether the subject is a member.
 fn check<T: ObserverTable>(table: &T, alert: &Alert) -> (bool, bool)
     ensures value { result.0 ≡ model.is_well_formed (T.observers table.now) (alert_of alert.now) }
@@ -46,8 +46,8 @@ fn check<T: ObserverTable>(table: &T, alert: &Alert) -> (bool, bool)
     (well_formed, member)
 }
 
-/// Whether one report more on the process adds no joiner to those reported on: it is a member, or
-/// there is a direct report on it already. `mask` has the rings of its direct reports.
+/// Whether one report more on the process adds no joiner to those reported on. Then it is a member,
+/// or there is a direct report on it already. `mask` has the rings of its direct reports.
 fn is_counted<T: ObserverTable>(
     table: &T,
     reports: &KnownReports,

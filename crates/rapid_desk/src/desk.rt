@@ -366,7 +366,7 @@ impl<R: Wait + Copy + Drop> Desk<R> {
     }
 
     /// What a subscriber has taken is a beginning of what was put for it, in order, each change
-    /// once, and is known to be taken from then on. The number is that of its subscription among
+    /// once. It is known to be taken from then on. The number is that of its subscription among
     /// those that the desk serves, by age.
     pub fn compare(&mut self, number: usize, subscription: &mut Subscription)
         requires served { IsSomeAnd (slice_get self.old.subscriptions number) (λ s. s.queue ≡ subscription.old.queue) }

@@ -14,9 +14,9 @@ impl Endpoint {
     /// The endpoint that a text such as `127.0.0.1:7000` spells. What stands before the first
     /// colon, or all, is the host.
     ///
-    /// Errors, in this order: `NotFourParts` if the host has not exactly four parts between dots,
-    /// `PartRange` if a part is no number from 0 to 255, `BadPort` if there is no colon or what
-    /// follows it is no number from 0 to 65,535. Numbers have no leading zeros.
+    /// The error is the first that holds. `NotFourParts` if the host has not exactly four parts
+    /// between dots. `PartRange` if a part is no number from 0 to 255. `BadPort` if there is no
+    /// colon, or what follows it is no number from 0 to 65,535. Numbers have no leading zeros.
     pub fn parse(text: &str) -> Result<Endpoint, ParseError>
         ensures { result ≡ endpoint_from text.now }
     {

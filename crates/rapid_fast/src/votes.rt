@@ -11,8 +11,8 @@ use rapid_config::Cut;
 use std::alloc::{AllocError, Global};
 use std::marker::Model;
 
-/// The number of votes for each cut. That of the cut which came first stands apart from the others,
-/// since nearly always all members vote for one cut, and its counter then takes no search.
+/// The number of votes for each cut. That of the cut which came first stands apart from the others.
+/// Nearly always all members vote for one cut, and then its counter takes no search.
 #[derive(Debug, Drop)]
 pub(crate) struct VoteCounts {
     first: Option<(Cut, usize)>,

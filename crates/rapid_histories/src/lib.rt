@@ -49,9 +49,9 @@ pub fn notices_teach()
 {}
 
 /// After any promises since it began a ballot, a coordinator has heard the positions that promised
-/// it, and counts what their first promises report at the highest ballot. A promise brings a
-/// request exactly if it completes a classic quorum and the promises then give a value, and none
-/// does after that.
+/// it. It counts what their first promises report at the highest ballot. A promise brings a request
+/// exactly if it completes a classic quorum and the promises then give a value, and none does after
+/// that.
 pub fn promises_ask()
     ensures counts { PromisesCount }
     ensures complete { PromisesComplete }
@@ -74,8 +74,8 @@ pub fn the_third_of_five_teaches()
     ensures neither { learnt (learner_after 5 two_and_two) 0 high_ballot one_cut ≡ None }
 {}
 
-/// Of five members the third promise of the ballot completes a classic quorum; a second promise of
-/// one, and a promise of another ballot, count for nothing.
+/// Of five members the third promise of the ballot completes a classic quorum. A second promise of
+/// one member, and a promise of another ballot, count for nothing.
 pub fn the_third_of_five_completes()
     ensures before { HasMajority 5 low_ballot two_promises → ⊥ }
     ensures again { HasMajority 5 low_ballot (two_promises ++ (0, (low_ballot, None)) ∷ []) → ⊥ }

@@ -93,9 +93,9 @@ impl Host {
         })
     }
 
-    /// A joiner's first question. The answer is the first of these that holds: `Confirm` of the
-    /// configuration if the joiner is a member, `EndpointInUse` if a member has its identifier or
-    /// its endpoint, `TooManyJoiners` if 512 others are pending here, else `Safe` with its
+    /// A joiner's first question. The answer is the first of these that holds. `Confirm` of the
+    /// configuration if the joiner is a member. `EndpointInUse` if a member has its identifier or
+    /// its endpoint. `TooManyJoiners` if 512 others are pending here. Else `Safe` with its
     /// observers by ring, of whom there is at least one if the host is a member's.
     #[tactic(auto, unfolding(rapid_model::specs::Host::pre_join))]
     pub fn pre_join(&self, joiner: &Process) -> Result<HostAnswer, AllocError>
@@ -115,10 +115,10 @@ impl Host {
     }
 
     /// A joiner's request to its observer on a ring, in the configuration with the identifier. The
-    /// answer is the first of these that holds: `Confirm` of the configuration if the joiner is a
-    /// member, `ConfigurationChanged` if the identifier is another, `EndpointInUse` if a member has
-    /// the joiner's identifier or endpoint, `Nothing` if this member does not observe it on the
-    /// ring, `TooManyJoiners` if 512 others are pending here, else `Raise`, and the joiner is
+    /// answer is the first of these that holds. `Confirm` of the configuration if the joiner is a
+    /// member. `ConfigurationChanged` if the identifier is another. `EndpointInUse` if a member has
+    /// the joiner's identifier or endpoint. `Nothing` if this member does not observe it on the
+    /// ring. `TooManyJoiners` if 512 others are pending here. Else `Raise`, and the joiner is
     /// pending. If out of memory the host is as it was.
     #[tactic(auto, unfolding(rapid_model::specs::Host::join_request))]
     pub fn join_request(
@@ -151,8 +151,8 @@ impl Host {
     }
 
     /// What each pending joiner gets after a change to the next configuration, by ascending
-    /// process: `Confirm` of it if the joiner is a member there, else `ConfigurationChanged`. None
-    /// is pending afterwards. If out of memory the host is as it was.
+    /// process. It is `Confirm` of that if the joiner is a member there, else
+    /// `ConfigurationChanged`. None is pending afterwards. If out of memory the host is as it was.
     pub fn confirms(
         &mut self,
         next: &Configuration,

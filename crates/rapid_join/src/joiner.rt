@@ -62,9 +62,9 @@ impl Joiner {
         }
     }
 
-    /// A reply to this process: at `Safe` one request a ring, rings ascending, to that ring's
-    /// observer; at `ConfigurationChanged` `PreJoin` to the seed; at the others, and at a reply to
-    /// another process, `Nothing`.
+    /// What this process does at a reply to it. At `Safe` it is one request a ring, rings
+    /// ascending, to that ring's observer. At `ConfigurationChanged` it is `PreJoin` to the seed.
+    /// At the others, and at a reply to another process, it is `Nothing`.
     pub fn on_reply(
         &self,
         alloc: Global,

@@ -77,8 +77,8 @@ pub fn line<T: Drop, P: Order<T>>(
 }
 
 impl<T: Drop, P: Order<T>> Sink<T, P> {
-    /// Puts an item if there is room. The item comes back only if at one moment of the call the
-    /// queue was full: as many items as it has room for were still to be taken.
+    /// Puts an item if there is room. The item comes back only if the queue was full at one moment
+    /// of the call. Then as many items as it has room for were still to be taken.
     pub fn put<R: Wait>(&mut self, rt: &R, item: T) -> Result<(), T>
         requires { P.next self.old.put item }
         ensures queue { (self.new.queue ≡ self.old.queue) × (self.new.known ≡ self.old.known) × (self.new.room ≡ self.old.room) }

@@ -1,4 +1,4 @@
-// Outboxes over a table of explicit edges, and batches: each call says by its error that memory ran
+// Outboxes over a table of explicit edges, and batches. Each call says by its error that memory ran
 // out and changes nothing, or makes what it makes with memory.
 
 use crate::numbered::process;

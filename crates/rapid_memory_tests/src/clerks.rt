@@ -50,8 +50,8 @@ fn joins() -> Job {
     Job::Event(Start(process(2), endpoint(1)))
 }
 
-/// The book of a world of process 1 alone, with 3 rings and the marks 3 and 1, and a share with
-/// every part of its ledger.
+/// The book of a world of process 1 alone, and a share with every part of its ledger. There are 3
+/// rings, and the marks are 3 and 1.
 fn alone<L: Ledger>(alloc: Global, blank: Blank) -> Result<(ClusterBook<L>, Share<L>), Fail>
     requires name { blank.name ≡ L.name }
     requires parts { blank.parts ≡ L.parts }

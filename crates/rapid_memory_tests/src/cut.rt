@@ -79,8 +79,8 @@ fn cuts(
     has_cut(detector, alerts.as_slice(), cut, skipped)
 }
 
-/// Whether a batch that removes has this cut and skips this many alerts, given again if out of
-/// memory: the detector is then as it was.
+/// Whether a batch that removes has this cut and skips this many alerts. It is given again if out
+/// of memory: the detector is then as it was.
 fn cuts_again(
     alloc: Global,
     detector: &mut Detector<Table>,

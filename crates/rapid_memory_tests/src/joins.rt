@@ -1,4 +1,4 @@
-// The two sides of a join: each call says by its error that memory ran out and changes nothing, or
+// The two sides of a join. Each call says by its error that memory ran out and changes nothing, or
 // makes what it makes with memory.
 
 use crate::numbered::{Name, THREE, at, founded, process};

@@ -1,8 +1,9 @@
-//! Tests of what each layer does when memory runs out: a call answers with the error that says so and
-//! changes nothing, or works as it does with memory. `./check tests` runs them with ample memory, and
-//! `./check all` once for each allocation, with that one refused. That needs a program built by LLVM, so
-//! they are proved then, and in a crate of their own. Those of a desk are in `rapid_slow_tests`, the
-//! other tests in `rapid_parts_tests`, `rapid_node_tests`, `rapid_world_tests` and `rapid_run_tests`.
+//! Tests of what each layer does when memory runs out. A call answers with the error that says so
+//! and changes nothing, or works as it does with memory. `./check tests` runs them with ample
+//! memory, and `./check all` once for each allocation, with that one refused. That needs a program
+//! built by LLVM, so they are proved then, and in a crate of their own. Those of a desk are in
+//! `rapid_slow_tests`, the other tests in `rapid_parts_tests`, `rapid_node_tests`,
+//! `rapid_world_tests` and `rapid_run_tests`.
 #![tactic(auto)]
 
 #[cfg(test)]

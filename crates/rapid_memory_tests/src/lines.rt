@@ -1,4 +1,4 @@
-// Worlds out of memory: events are refused and nodes halt, and what all nodes installed still lies on
+// Worlds out of memory. Events are refused and nodes halt. What all nodes installed still lies on
 // one line, of which each has a stretch.
 
 ghost use Rattle.std.specs.Prelude.{◌≤◌, length};
@@ -15,8 +15,8 @@ use std::test::Fail;
 /// A line of two configurations.
 type Line = [Configuration; 2];
 
-/// A world of these founders, with 3 rings and the marks 3 and 1, and the line of their configuration
-/// and the one after the cut of the process with this number.
+/// A world of these founders, with 3 rings and the marks 3 and 1. Beside it the line of their
+/// configuration, and of the one after the cut of the process with this number.
 fn begun(alloc: Global, founders: &[Process], number: u16) -> Result<(World, Line), Fail>
     requires { 1 ≤ length founders.now }
 {
@@ -92,8 +92,8 @@ fn next_packet(world: &World) -> u64 {
     world.packets().saturating_add(1)
 }
 
-/// Process 3 of three founders crashes, the two others lose it and vote to take it out, which are too
-/// few for the fast round, and recovery decides. Says how many events were refused.
+/// Process 3 of three founders crashes. The two others lose it and vote to take it out. They are
+/// too few for the fast round, and recovery decides. Says how many events were refused.
 fn recover(world: &mut World) -> usize {
     let crashed = refused(world, &[Crash(id(3))]);
     let lost = lose(world, 1).saturating_add(lose(world, 2));

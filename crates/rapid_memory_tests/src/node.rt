@@ -270,8 +270,8 @@ fn hears(rt: &impl Abort, node: &mut Node, event: Event) -> Result<(), Fail> {
     Ok(())
 }
 
-/// Checks the step of a founder among this many founders at an event: it has the outcome, or, out
-/// of memory, the node has halted and keeps the founding configuration.
+/// Checks the step of a founder among this many founders at an event. It has the outcome. Or the
+/// node, out of memory, has halted and keeps the founding configuration.
 fn tries(rt: &impl Abort, node: &mut Node, event: Event, founders: &[u16], outcome: Outcome) {
     match told(node, event) {
         Ok(outputs) => {

@@ -40,8 +40,8 @@ fn has_line(text: &[u8], line: &[u8]) -> bool {
     text.split(|byte| *byte == b'\n').any(|it| it == line)
 }
 
-/// Whether a line may stand after one that says that memory ran out: another such line or what
-/// follows from it, how many packets were sent, or what is written otherwise.
+/// Whether a line may stand after one that says that memory ran out. It may be another such line or
+/// what follows from it, how many packets were sent, or what is written otherwise.
 fn is_later(line: &[u8], whole: &[u8]) -> bool {
     is_one_of(line, &NAMED)
         || is_one_of(line, &FOLLOWING)

@@ -1,5 +1,5 @@
-// The engines of `detect` and `cluster`: a run ends with an error that says that memory ran
-// out, and has written a beginning of its output.
+// The engines of `detect` and `cluster`. A run ends with an error that says that memory ran out,
+// and has written a beginning of its output.
 
 ghost use Rattle.std.specs.Prelude.{◌≤◌};
 

@@ -1,4 +1,4 @@
-// The fast round and classic recovery: each call says by its error that memory ran out and changes
+// The fast round and classic recovery. Each call says by its error that memory ran out and changes
 // nothing, or answers as it does with memory.
 
 ghost use Rattle.std.specs.Prelude.{◌≡◌, ◌<◌};

@@ -116,7 +116,7 @@ impl Model for Message {
 
 impl Message {
     /// The message of this sender that says this, if the sender can say it. `OtherObserver` if a
-    /// batch has alerts of another than the sender, else `OtherConfiguration` if it has alerts for
+    /// batch has alerts of another than the sender. Else `OtherConfiguration` if it has alerts for
     /// another configuration than the one that it names. `FastBallot` if a Prepare, a Promise, an
     /// Accept or an Accepted is at the fast ballot. `NoObserver` if a reply Safe names no observer.
     pub fn new(sender: Process, body: Body) -> Result<Message, MessageError>

@@ -200,8 +200,8 @@ impl EdgeBoard {
 
     /// Ties what this watcher answers to the results of a seat of the same board. If it had
     /// answered that the seat's edge is down, these hold ten successive results, or fewer, with
-    /// four failures; and if they do, it answers so from now on. It takes no memory, never waits
-    /// and changes no word.
+    /// four failures. If they do, it answers so from now on. It takes no memory, never waits and
+    /// changes no word.
     pub fn told_by(&mut self, seat: &mut EdgeSeat)
         requires { self.old.board ≡ seat.old.board }
         ensures same { (self.new.board ≡ self.old.board) × (self.new.edges ≡ self.old.edges) }

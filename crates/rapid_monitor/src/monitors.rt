@@ -91,7 +91,7 @@ impl Monitors {
     }
 
     /// Takes the result of one more probe on a ring, and gives the verdict of the results on that
-    /// ring; none exactly if no process is observed on it. It takes no memory.
+    /// ring. It gives none exactly if no process is observed on it. It takes no memory.
     pub fn probe(&mut self, ring: u8, ok: bool) -> Option<Verdict>
         ensures after { self.new ≡ probed_at self.old ring ok }
         ensures verdict { result ≡ option_map (λ is_down. if is_down then Down else Up) (is_down_after self.old ring ok) }

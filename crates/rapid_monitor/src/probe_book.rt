@@ -148,8 +148,8 @@ impl ProbeBook {
         ProbeBook::of(alloc, subjects.as_slice())
     }
 
-    /// A part of the book of a process in the configuration of these rings: that of the rings whose
-    /// number divided by the number of parts leaves this one.
+    /// A part of the book of a process in the configuration of these rings. It has the rings whose
+    /// number, divided by the number of parts, leaves this one.
     pub fn part(
         alloc: Global,
         rings: &Rings,

@@ -70,9 +70,9 @@ fn tell<S: EdgeSink>(sink: &mut S, probing: &Probing, goes_down: bool)
 
 /// A round of the probes of a book, of which each edge has one of the seats, in the book's order.
 /// From the second round on a seat takes whether its subject has acknowledged since the last one.
-/// The sink is told of each edge in this order: that it went down, if it was up before, so once for
-/// each seat, and then to probe its subject. If there is no memory nothing has changed, and the sink
-/// is told nothing.
+/// For each edge the sink is first told that it went down, if it was up before. So this is told
+/// once for each seat. Then it is told to probe the edge's subject. If there is no memory nothing
+/// has changed, and the sink is told nothing.
 pub fn probe_part<S: EdgeSink>(
     alloc: Global,
     seats: &mut [EdgeSeat],

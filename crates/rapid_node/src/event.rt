@@ -14,7 +14,8 @@ pub enum Event {
     Tick,
     /// A message comes.
     Receive(Message),
-    /// Who runs the node wants it to leave: a member asks its observers to have it removed. It goes
-    /// on until it is, and a view that still has it has to be told again. Nothing else leaves.
+    /// The node is to leave: a member asks its observers to have it removed. It goes on until it
+    /// is. In a view that still has it, it has to be told again. A node that joins or was removed
+    /// does nothing.
     Leave,
 }

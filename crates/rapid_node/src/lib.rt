@@ -1,5 +1,5 @@
-//! One node of the membership service (Rapid, USENIX ATC 2018), without input and output: how it
-//! joins, what it does with each event as a member, and what it installs.
+//! One node of the membership service (Rapid, USENIX ATC 2018), without input and output. It joins,
+//! does its work at each event as a member, and installs views.
 #![tactic(auto)]
 
 mod event;

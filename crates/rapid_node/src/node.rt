@@ -182,9 +182,8 @@ impl Node {
         }
     }
 
-    /// The member that it observes on a ring, from 0; none if there is no such ring, if it
-    /// observes nobody, and if it is no member. It takes no memory, and costs one search for its
-    /// own process.
+    /// The member that it observes on a ring, from 0. None if there is no such ring, if it observes
+    /// nobody, or if it is no member. It takes no memory, and costs one search for its own process.
     pub fn observed(&self, ring: u8) -> Option<Process>
         ensures { result ≡ option_map (λ x. x.1) (observed_in (model.member_in self.now) self.now.me ring) }
     {
@@ -582,10 +581,10 @@ impl Node {
         }
     }
 
-    /// Whether its step by the event certainly sends nothing and installs nothing. That is so of an
-    /// edge that went down, a fast vote that cannot decide, and a tick of a member at which nothing
-    /// is due. If the answer is false, it may or may not. A driver that has to make room for what a
-    /// step sends makes none for such a step.
+    /// Whether its step by the event certainly sends nothing and installs nothing. Such events are
+    /// an edge that went down, a fast vote that cannot decide, and a tick of a member at which
+    /// nothing is due. If the answer is false, the step may send or install something, or may not.
+    /// A driver that has to make room for what a step sends makes none for such a step.
     #[tactic(auto, using(crate::proofs::Quiet::edge_down_is_quiet, crate::proofs::Quiet::tick_is_quiet, crate::proofs::Quiet::removed_is_quiet, crate::proofs::Quiet::halted_is_quiet, crate::proofs::Quiet::message_is_quiet))]
     pub fn is_quiet(&self, event: &Event) -> bool
         ensures { result ≡ true → IsQuiet self.now (event_of event.now) }
@@ -613,9 +612,10 @@ impl Node {
     ///
     /// # Errors
     ///
-    /// `Halted` exactly if the node had halted; nothing changes. `OutOfMemory`, and `HistoryFull`
-    /// if a decided cut cannot be installed because 65,536 views are installed or the height is the
-    /// last: the node halts, sends nothing of this step and keeps its configuration.
+    /// `Halted` exactly if the node had halted; nothing changes. `HistoryFull` if a decided cut
+    /// cannot be installed, because 65,536 views are installed or the height is the last. After
+    /// this and after `OutOfMemory` the node has halted, sends nothing of this step and keeps its
+    /// configuration.
     pub fn step(&mut self, event: &Event) -> Result<Outputs, NodeFault>
         ensures step { IfOk result (λ sent. HasOutcome self.old.me (step.node_step self.old (event_of event.now)) self.new sent.items) }
         ensures fault { IfErr result (IsFault self.old (event_of event.now) self.new) }
@@ -626,7 +626,7 @@ impl Node {
         self.step_in(&mut views, event)
     }
 
-    /// One step, as [`Node::step`] makes it, by views that nodes share: what the node enters is
+    /// One step, as [`Node::step`] makes it, by views that nodes share. What the node enters is
     /// looked up there, and kept there if it was not found.
     ///
     /// # Errors

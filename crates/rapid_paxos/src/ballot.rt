@@ -26,7 +26,7 @@ impl Model for Ballot {
 }
 
 impl Ballot {
-    /// The first round of a classic ballot, behind that of the fast one.
+    /// The first round of a classic ballot, after that of the fast one.
     pub const FIRST_ROUND: u8 = 2;
 
     /// The last round of a classic ballot.

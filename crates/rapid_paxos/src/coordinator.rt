@@ -37,8 +37,8 @@ impl RoundsUsed {
     }
 }
 
-/// The coordinator of one member: the ballot that it began last, who promised it, and how many of
-/// them reported each cut at the highest ballot of a vote.
+/// The coordinator of one member. It keeps the ballot that it began last, who promised it, and how
+/// many reported each cut at the highest ballot of a vote.
 ///
 /// It asks only for what the rule of Fast Paxos lets it ask for, and once a ballot: the contract of
 /// `rapid_agreement::coordinators_ask_lawfully` says so.
@@ -140,10 +140,10 @@ impl Coordinator {
         Ok(ballot)
     }
 
-    /// Hears the promise of the member at a position. The request to be sent is answered at the
-    /// promise that completes a classic quorum, if the promises heard and the own proposal give a
-    /// cut to ask for. A promise of another ballot than that begun last, or of a position heard
-    /// already, is ignored. If out of memory the coordinator is as it was.
+    /// Hears the promise of the member at a position. The promise that completes a classic quorum
+    /// is answered with the request to be sent. There is one if the promises heard and the own
+    /// proposal give a cut to ask for. A promise of another ballot than that begun last, or of a
+    /// position heard already, is ignored. If out of memory the coordinator is as it was.
     ///
     /// The cut is the one that the rule of Fast Paxos allows (Lamport, 2006). It is the own
     /// proposal if no vote was reported, else the only cut reported at the highest ballot. If

@@ -7,7 +7,7 @@ use std::alloc::Global;
 /// How many calls a sequence has.
 const LENGTH: usize = 4;
 
-/// How many sequences there are: each call is a fast vote, a promise or an accept, for one of two
+/// How many sequences there are. Each call is a fast vote, a promise or an accept, for one of two
 /// cuts, at one of two ballots.
 const SEQUENCES: usize = 20_736;
 

@@ -11,8 +11,8 @@ use std::alloc::{AllocError, Global};
 /// How many calls a sequence has after the first ballot is begun.
 const LENGTH: usize = 3;
 
-/// How many calls there are: one of four positions promises one of two ballots and reports no vote
-/// or a vote at one of two ballots for one of two cuts; or a ballot is begun.
+/// How many calls there are. One of four positions promises one of two ballots. It reports no vote,
+/// or a vote at one of two ballots for one of two cuts. Or a ballot is begun.
 const CALLS: usize = 41;
 
 /// How many sequences there are.

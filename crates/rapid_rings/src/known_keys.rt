@@ -37,7 +37,7 @@ impl Model for RingKeys {
 }
 
 impl RingKeys {
-    /// The keys of a process on so many rings.
+    /// The keys of a process on this many rings.
     fn new(alloc: Global, rings: u8, process: &Process) -> Result<RingKeys, AllocError>
         ensures { IfOk result (λ keys. keys ≡ process.now) }
     {
@@ -63,7 +63,7 @@ impl RingKeys {
     }
 }
 
-/// The keys of a process on so many rings, by ring.
+/// The keys of a process on this many rings, by ring.
 fn keys_of(alloc: Global, rings: u8, process: &Process) -> Result<Vec<[u8; 32]>, AllocError>
     ensures { IfOk result (λ keys. keys.items ≡ map (λ k. model.ring_key k process.now) (range_with_len 0 rings)) }
 {
@@ -147,7 +147,7 @@ impl KnownKeys {
         }
     }
 
-    // The slot in which a process is looked for after so many others.
+    // The slot in which a process is looked for after this many others.
     fn slot(&self, process: &Process, tried: usize) -> Option<&OnceBox<RingKeys>>
         requires { tried < 4 }
     {

@@ -12,7 +12,7 @@ pub trait ObserverTable {
     ghost observers: { Self → Observers };
 
     /// The number of rings and the two marks. A caller learns here that the rules of observers
-    /// hold: the parameters are in order, there is no observer beyond the rings, and at most 1,024
+    /// hold. The parameters are in order, there is no observer beyond the rings, and at most 1,024
     /// members have one.
     fn params(&self) -> Params
         ensures value { result ≡ (observers self.now).params }
@@ -26,7 +26,7 @@ pub trait ObserverTable {
     fn is_member(&self, process: &Process) -> bool
         ensures { result ≡ (observers self.now).is_member process.now };
 
-    /// The member that observes the subject, a member or a joiner, on a ring from 0; none at a ring
+    /// The member that observes the subject, a member or a joiner, on a ring from 0. None at a ring
     /// not below K.
     fn observer(&self, ring: u8, subject: &Process) -> Option<Process>
         ensures { result ≡ (observers self.now).observer ring subject.now };

@@ -17,10 +17,10 @@ use rapid_endpoint::Process;
 use std::alloc::{AllocError, Global};
 use std::marker::Model;
 
-/// The rings of a configuration: on each of them the members are ordered by their keys, and each
+/// The rings of a configuration. On each of them the members are ordered by their keys. Each
 /// process is observed by the member next before it, going round. Rings never change: they are
-/// shared by an `Arc`. The keys of up to 1,024 processes that are no members are hashed once for all
-/// who share them, and for the rings that follow.
+/// shared by an `Arc`. The keys of up to 1,024 processes that are no members are hashed once for
+/// all who share them, and for the rings that follow.
 #[derive(Debug, Drop)]
 pub struct Rings {
     configuration: Configuration,
@@ -80,8 +80,8 @@ impl Rings {
         })
     }
 
-    // The ring with this number of the members that follow: of those before, these are the places
-    // now, and these are the places of those that are new.
+    // The ring with this number of the next members. `places` has the places there of the members
+    // before, `newcomers` those of the new ones.
     fn next_ring(
         &self,
         alloc: Global,
@@ -126,7 +126,7 @@ impl Rings {
         }
     }
 
-    /// The member that the process observes on a ring, from 0; none if there is no such ring, if it
+    /// The member that the process observes on a ring, from 0. None if there is no such ring, if it
     /// observes no member on it, or if it is no member itself. It takes no memory, and costs one
     /// search for the process.
     pub fn subject_on(&self, ring: u8, process: &Process) -> Option<Process>

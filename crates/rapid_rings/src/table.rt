@@ -66,8 +66,8 @@ impl Table {
     }
 
     /// Adds an edge: `observer` observes `subject` on a ring from 0. The first of these that holds
-    /// is the error: `TooMany` if the subject is a member without an observer and 1,024 members
-    /// have one, `RingRange` if the ring is not below K, `EdgeTwice` if the subject has an observer
+    /// is the error. `TooMany` if the subject is a member without an observer and 1,024 members
+    /// have one. `RingRange` if the ring is not below K. `EdgeTwice` if the subject has an observer
     /// on this ring. After each error, `OutOfMemory` too, the table is as it was.
     pub fn add(&mut self, ring: u8, observer: Process, subject: Process) -> Result<(), TableError>
         ensures ok { OnOk result (self.new ≡ after_add self.old ring observer subject) }

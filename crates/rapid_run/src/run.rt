@@ -56,7 +56,7 @@ where
 /// # Errors
 ///
 /// `NoPort` if the port could not be bound, and `NoIdentifier` if the source failed. `Read` and
-/// `Write` if the input or the output failed; `Write` also if the output did not take what was
+/// `Write` if the input or the output failed. `Write` also if the output did not take what was
 /// printed within half a second after the end. `JournalFull` and `Halted` by the node itself, and
 /// `OutOfMemory`, also if a thread could not be started. Each is reported by one line of the error
 /// output, `error: ` and the fault, as soon as it ends the node, whatever the input does. A fault

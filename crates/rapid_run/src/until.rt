@@ -13,7 +13,7 @@ use std::time::{Clock, Duration, Instant};
 const LAST_LINES: u64 = 500;
 
 /// An input or an output of a node. A call that was interrupted is not made again once the node
-/// ends: an input is given up at once, an output after half a second.
+/// ends. An input is given up at once, an output after half a second.
 #[derive(Drop)]
 pub(crate) struct Until<'a, W: Wait + Clock, S: Drop> {
     rt: &'a W,

@@ -9,8 +9,8 @@ use std::test::Fail;
 use std::thread::Threads;
 use std::time::Clock;
 
-/// Words behind the program's name, and with which status they are answered on an empty input, what
-/// is written, and what is reported, all of it exactly.
+/// Words after the program's name. Then the status with which they are answered on an empty input,
+/// what is written, and what is reported, all of it exactly.
 type Row = (&'static str, u8, &'static str, &'static str);
 
 /// What is reported of a node without ticks.

@@ -222,7 +222,7 @@ fn answers_1_if_the_input_fails(rt: HostRuntime) {
         &mut err,
     );
     assert_eq!(rt; status, 1);
-    // the line that ended was answered, and nothing stands behind it
+    // the line that ended was answered, and nothing stands after it
     assert_eq!(rt; out.as_slice(), b"refused NoWatermarks\n".as_slice());
     assert_eq!(rt;
         err.as_slice(),

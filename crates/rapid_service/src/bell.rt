@@ -19,8 +19,8 @@ fn is_still(rings: u64, seen: u64) -> bool
     rings == seen
 }
 
-/// Wakes those who wait for a change. It counts how often it was rung: whoever read the count before
-/// he looked for a change, and found none, misses no ring when he then waits.
+/// Wakes those who wait for a change. It counts how often it was rung. Whoever reads the count,
+/// looks for a change and finds none, misses no ring when it then waits.
 #[derive(Drop)]
 pub struct Bell {
     rings: Mutex<u64>,

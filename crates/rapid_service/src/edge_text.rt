@@ -32,7 +32,7 @@ fn write_edge(edge: &EdgeState, output: &mut Vec<u8>) -> Result<(), AllocError>
     output.extend_from_slice(state_word(edge.is_down))
 }
 
-/// The word behind an edge, and the end of its line.
+/// The word after an edge, and the end of its line.
 fn state_word(is_down: bool) -> &'static [u8]
     ensures { result.now ≡ state_text is_down }
 {

@@ -7,14 +7,14 @@ ghost use Rattle.rapid_desk.specs.Desks.{NoCheckpoint};
 use rapid_desk::{Desk, DeskError};
 use std::sync::Wait;
 
-/// From how many records on a journal is begun anew. A record may hold a batch of 2,048 alerts, and
-/// the entry costs little, since a copy of a node shares its parts: so far less than the 65,536 that
-/// a journal may have.
+/// From how many records on a journal is begun anew. A record may hold a batch of 2,048 alerts. The
+/// entry costs little, since a copy of a node shares its parts. So this is far less than the 65,536
+/// that a journal may have.
 const LONG: usize = 512;
 
-/// Sees that the journal of a desk has fewer than 512 records: if it has more, it is begun anew
-/// at the node as it is. A desk of which this is asked before each step refuses an event as
-/// `JournalFull` only if there was no memory for that again and again.
+/// Begins the journal of a desk anew, at the node as it is, if it has 512 records or more. If this
+/// is asked before each step, the desk refuses an event as `JournalFull` only after memory was
+/// refused again and again.
 ///
 /// # Errors
 ///

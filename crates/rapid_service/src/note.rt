@@ -122,7 +122,7 @@ impl Notes {
         }
     }
 
-    /// Adds a note behind those that wait, unless 64 do.
+    /// Adds a note after those that wait, unless 64 do.
     ///
     /// # Errors
     ///

@@ -68,9 +68,9 @@ pub enum OptionsError {
 }
 
 impl NodeOptions {
-    /// The options of a node at this endpoint. It founds a cluster with K = 10, H = 9 and L = 3, draws
-    /// its identifier, ticks every 100 milliseconds and probes in one thread, unless they are told
-    /// otherwise.
+    /// The options of a node at this endpoint. It founds a cluster with K = 10, H = 9 and L = 3,
+    /// and draws its identifier. It ticks every 100 milliseconds and probes in one thread. The
+    /// other methods change these.
     ///
     /// # Errors
     ///
@@ -130,15 +130,15 @@ impl NodeOptions {
         NodeOptions { params, ..self }
     }
 
-    /// So many milliseconds lie between two ticks of the node; at 0 nothing ticks it. All nodes of a
-    /// cluster have the same number.
+    /// This many milliseconds lie between two ticks of the node; at 0 nothing ticks it. All nodes
+    /// of a cluster have the same number.
     pub fn tick_ms(self, tick_ms: u16) -> NodeOptions
         ensures { result ≡ record self { tick_ms = tick_ms } }
     {
         NodeOptions { tick_ms, ..self }
     }
 
-    /// So many threads probe the observed members, 1 to 16.
+    /// This many threads probe the observed members, 1 to 16.
     pub fn probers(self, probers: u8) -> NodeOptions
         ensures { result ≡ record self { probers = probers } }
     {
@@ -187,8 +187,8 @@ fn identifier(text: Option<&str>) -> Result<Option<ProcessId>, OptionsError>
 ///
 /// # Errors
 ///
-/// `BadParams` if K, H and L are not in order, else `Unreadable` or `NotLocal` of the endpoint
-/// behind `--listen`, else of that behind `--join`, else `Unreadable` of the identifier.
+/// The first that holds. `BadParams` if K, H and L are not in order. `Unreadable` or `NotLocal` of
+/// the endpoint after `--listen`, then of that after `--join`. `Unreadable` of the identifier.
 pub fn judge(words: NodeWords) -> Result<NodeOptions, OptionsError>
     ensures texts { IfOk result (λ o. AreRead words.entry.listen.now (option_map (λ t. t.now) words.entry.join) (option_map (λ t. t.now) words.entry.id) o.listen o.join o.id) }
     ensures params { IfOk result (λ o. o.params ≡ record { k = words.entry.k; h = words.entry.h; l = words.entry.l }) }

@@ -172,9 +172,9 @@ impl Repeats {
     }
 
     /// Whether a message is let through. One that is not let through is equal to one that was since
-    /// the view was entered; for a question whether the sender may join, to one within ten ticks.
-    /// Each that is equal to the one kept of its sender and kind is not let through. One that is let
-    /// through is kept, unless there is no memory or no room for it.
+    /// the view was entered. If it asks whether the sender may join, it is equal to one within ten
+    /// ticks. Each that is equal to the one kept of its sender and kind is not let through. One
+    /// that is let through is kept, unless there is no memory or no room for it.
     pub fn admits(&mut self, message: &Message) -> bool
         ensures dropped { (c : ModelConfiguration) (now : ℕ) (passed : List Passed) → Remembers self.old c now passed → result ≡ false → IsRepeat (configuration_id c) now passed message.now }
         ensures repeats { IsRepeatFor self.old message.now → result ≡ false }

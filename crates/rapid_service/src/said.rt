@@ -77,8 +77,8 @@ pub(crate) fn say_same(one: &Body, other: &Body) -> bool
     }
 }
 
-/// Whether the last message was let through so shortly before that a repeat is dropped: of joiners'
-/// questions within ten ticks, of others at any time.
+/// Whether the last message was let through so shortly before that a repeat is dropped. For a
+/// joiner's question this is within ten ticks, for others at any time.
 pub(crate) fn is_timely(body: &Body, before: u64, now: u64) -> bool
     ensures timely { result ≡ true → IsTimely (body_of body.now) before now }
     ensures told { IsTimely (body_of body.now) before now → result ≡ true }

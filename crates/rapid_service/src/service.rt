@@ -238,9 +238,9 @@ impl<R: Wait + Copy + Drop, P: Post + Drop> Service<R, P> {
         }
     }
 
-    /// A message has come. It is dropped if it repeats one that came before in the current view and
-    /// changes nothing: a step would only take room in the journal of the desk, which stays as it is
-    /// then.
+    /// A message has come. It is dropped if it repeats one that came before in the current view,
+    /// and changes nothing. A step would only take room in the journal of the desk, which stays as
+    /// it is then.
     pub fn receive(&mut self, message: Message) -> Result<Received, RunningFault>
         ensures repeats { IfOk result (λ received. received ≡ fate.Dropped → IsSomeAnd self.old.present (λ present. IsRepeatFor present.repeats message)) }
         ensures drops { IsSomeAnd self.old.present (λ present. IsRepeatFor present.repeats message) → result ≡ Ok fate.Dropped }

@@ -28,9 +28,9 @@ use std::sync::{Mutex, Wait};
 /// rings.
 const MOST_PROBERS: u8 = 16;
 
-/// What the threads of a node share: its service under a lock, each part of its probes under a lock
-/// of its own, what is printed, and whether it goes on. The lock of a part is taken alone or under
-/// that of the service, and none is taken under it.
+/// What the threads of a node share. This is its service under a lock, and each part of its probes
+/// under a lock of its own. It is also what is printed, and whether it goes on. The lock of a part
+/// is taken alone or under that of the service, and none is taken under it.
 #[derive(Drop)]
 pub struct Shared<R: Wait + Copy + Drop, P: Post + Drop> {
     alloc: Global,
@@ -46,7 +46,8 @@ pub struct Shared<R: Wait + Copy + Drop, P: Post + Drop> {
 
 impl<R: Wait + Copy + Drop, P: Post + Drop> Shared<R, P> {
     /// The node of a service, which goes on. The members that it observes are probed in this many
-    /// parts, 1 to 16: by the thread that ticks it, and by those that run `run_prober`.
+    /// parts, 1 to 16. This is done by the thread that ticks it, and by those that run
+    /// `run_prober`.
     pub fn new(
         alloc: Global,
         service: Service<R, P>,
@@ -101,8 +102,8 @@ impl<R: Wait + Copy + Drop, P: Post + Drop> Shared<R, P> {
     }
 
     /// Prints the views that the service has entered, while its lock is held: views are printed in
-    /// the order in which they were entered. Who waits for them is woken, and probes begin anew in
-    /// the last of them.
+    /// the order in which they were entered. Those that wait for them are woken, and probes begin
+    /// anew in the last of them.
     fn show<W: Wait>(&self, rt: &W, service: &mut Service<R, P>) -> Result<(), RunningFault> {
         let lines = service.take_lines();
         if !lines.is_empty() {

@@ -277,10 +277,10 @@ pub struct SimRan {
 
 /// Reads lines, drives a simulated cluster by them, and writes what they print, and nothing else.
 /// Says how it ended, and how many times memory ran out. If that is 0, what was written is what the
-/// input prints; else it is what the input may print if memory runs out this often. After a fault a
-/// beginning of such a text was written. The fault is `Read` if the input could not be read, `Write`
-/// if the output could not be written, `OutOfMemory` if there was no memory to read and answer
-/// lines. After `OutOfMemory` the count says nothing of what was written.
+/// input prints. Else it is what the input may print if memory runs out this often. After a fault a
+/// beginning of such a text was written. The fault is `Read` if the input could not be read, and
+/// `Write` if the output could not be written. It is `OutOfMemory` if there was no memory to read
+/// and answer lines. After `OutOfMemory` the count says nothing of what was written.
 pub fn run_sim_counted<R: Read, W: Write>(alloc: Global, reader: &mut R, writer: &mut W) -> SimRan
     ensures written { OnOk result.ended (IfSome (R.remaining reader.old) (λ input.
         (text : List ℕ) × SimPrints input text result.met × Appends (W.contents writer.old) (W.contents writer.new) text)) }

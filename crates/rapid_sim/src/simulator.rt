@@ -133,7 +133,7 @@ impl Simulator {
     }
 
     /// Settles the least packet that is not settled, and delivers it if a node runs at its
-    /// endpoint; the answer is whether the flow goes on.
+    /// endpoint. The answer is whether the flow goes on.
     fn pass(&mut self, packet: u64, output: &mut Vec<u8>) -> Result<bool, AllocError>
         requires from_1 { 1 ≤ packet }
         requires least { least_unsettled (simulation_of self.old) ≡ Some packet }

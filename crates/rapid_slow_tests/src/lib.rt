@@ -1,6 +1,6 @@
-//! Tests that need a program built by LLVM: limits that are reached after tens of thousands of steps, and
-//! a desk of which the gate refuses each allocation. `rt test` proves them. The other tests of what stands
-//! here are in `rapid_node_tests` and `rapid_world_tests`.
+//! Tests that need a program built by LLVM. They are of limits that are reached after tens of
+//! thousands of steps, and of a desk of which each allocation is refused. `rt test` proves them.
+//! The other tests of what stands here are in `rapid_node_tests` and `rapid_world_tests`.
 #![tactic(auto)]
 
 #[cfg(test)]

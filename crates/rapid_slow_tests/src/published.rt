@@ -18,8 +18,8 @@ enum Answer {
     Halted,
 }
 
-/// Gives the decision to let in a process to a desk, and checks that it published the next view, or
-/// has changed nothing, or has halted and published nothing.
+/// Gives the decision to let in a process to a desk. Checks that it published the next view, or has
+/// changed nothing, or has halted and published nothing.
 fn decide<R: Wait + Abort>(
     rt: &R,
     alloc: Global,
@@ -61,8 +61,8 @@ fn let_three_in<R: Wait + Abort>(
     Ok(())
 }
 
-/// Checks that a subscriber with room for two hears the views of this many heights in order, or
-/// after two at the latest that it lagged, and nothing behind that.
+/// Checks that a subscriber with room for two hears the views of this many heights in order. Or
+/// after two at the latest it hears that it lagged, and nothing after that.
 fn assert_told<R: Wait + Abort>(rt: &R, subscription: &mut Subscription, heights: u64) {
     let mut last = 0u64;
     for height in 1..heights.saturating_add(1) {

@@ -1,5 +1,5 @@
-// `sim` at the end of what a world takes: an event that is one too many is refused by name, also within
-// a flow, and changes nothing.
+// `sim` at the end of what a world takes. An event that is one too many is refused by name, also
+// within a flow, and changes nothing.
 
 use rapid_sim::run_sim;
 use std::alloc::Global;

@@ -26,8 +26,9 @@ fn tick_often(world: &mut World, thousands: usize) -> usize {
     accepted
 }
 
-/// Checks that a full world of process 1 refuses each kind of event as one too many, also if it is refused
-/// otherwise too: none runs under the number 2, no packet was sent, and there is no edge.
+/// Checks that a full world of process 1 refuses each kind of event as one too many. This is so
+/// also if it would be refused otherwise: none runs under the number 2, no packet was sent, and
+/// there is no edge.
 fn assert_full(rt: &impl Abort, world: &mut World) {
     let (one, two) = (process(1), process(2));
     let events = [

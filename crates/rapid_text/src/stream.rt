@@ -34,7 +34,7 @@ fn split_line(bytes: &[u8]) -> Option<(&[u8], &[u8])>
     None
 }
 
-/// Answers the line that ends behind these bytes. If nothing is kept of it they are all of it, and
+/// Answers the line that ends after these bytes. If nothing is kept of it they are all of it, and
 /// are not copied.
 fn end_line<E: Engine>(
     engine: &mut E,
@@ -196,8 +196,9 @@ fn answer_all<E: Engine, R: Read, W: Write>(
 
 /// Answers the lines of an input, which the reader gives, and writes what they print and nothing
 /// else. After a fault a beginning of that is written. The fault is `Read` if the input could not
-/// be read, `Write` if the output could not be written, `OutOfMemory` if out of memory, whatever
-/// else failed then. After `Read` and `Write` the engine has counted how often memory ran out.
+/// be read, and `Write` if the output could not be written. It is `OutOfMemory` if out of memory,
+/// whatever else failed then. After `Read` and `Write` the engine has counted how often memory ran
+/// out.
 pub fn run<E: Engine, R: Read, W: Write>(
     alloc: Global,
     engine: &mut E,

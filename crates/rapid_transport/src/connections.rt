@@ -61,8 +61,8 @@ pub(crate) fn address_of(endpoint: Endpoint) -> SocketAddr {
 /// Opens a connection. It fails after 0.1 seconds, and a write fails after half of that without
 /// room. If nobody listens at a port of the ephemeral range, the system may take that very port for
 /// this end. Such a connection leads to itself and is given up at once, else the owner of the port
-/// could not listen at it. So that Linux does not hold the port for a minute more, it is closed with
-/// a byte that nobody has read: it ends by a reset then.
+/// could not listen at it. It is closed with a byte that nobody has read, so it ends by a reset.
+/// Otherwise Linux would hold the port for a minute more.
 fn connect<R>(rt: &R, to: Endpoint) -> io::Result<TcpStream>
 where
     R: Net<Listener = TcpListener, Stream = TcpStream>,
@@ -94,7 +94,7 @@ pub(crate) fn is_exhausted(error: &io::Error) -> bool {
 }
 
 /// Whether the peer has closed the connection. Nothing ever comes by an outgoing connection. So a
-/// look at what there is to read finds nothing, or the connection has ended: a peer that sends
+/// look at what there is to read finds nothing, or the connection has ended. A peer that sends
 /// something back is none of ours.
 fn is_closed(stream: &TcpStream) -> io::Result<bool> {
     stream.set_nonblocking(true)?;
@@ -176,8 +176,8 @@ impl Connections {
     }
 
     /// Sends a frame to this endpoint, by the open connection or else by a new one. The answer says
-    /// whether it was sent without a fault. If the open one fails, as it does once somebody has cut
-    /// it, all of the frame goes by a new one, and the answer is false. Nothing is sent to an
+    /// whether it was sent without a fault. If the open one fails, for example since somebody has
+    /// cut it, all of the frame goes by a new one. The answer is false then. Nothing is sent to an
     /// endpoint that is not local. A peer that is too slow is left alone for a while: nothing is
     /// sent to it then.
     pub(crate) fn deliver<R>(

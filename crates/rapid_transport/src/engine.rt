@@ -31,9 +31,9 @@ fn refill<R: CountedRead>(reader: &mut R, feed: &mut Feed) -> Result<bool, Trans
     Ok(true)
 }
 
-/// The next message of the reader's bytes, which go through the feed: what the feed answers of the
-/// bytes that it held and of those that were read. It reads only if no whole frame is held. None if
-/// the input has ended between frames.
+/// The next message of the reader's bytes, which go through the feed. It is what the feed answers
+/// of the bytes that it held and of those that were read. It reads only if no whole frame is held.
+/// None if the input has ended between frames.
 ///
 /// # Errors
 ///
@@ -78,8 +78,8 @@ fn write_some<W: CountedWrite>(writer: &mut W, bytes: &[u8]) -> Result<usize, Tr
     Ok(count)
 }
 
-/// Writes a frame: all of it, or after an error a beginning of it that is not the whole, after
-/// which the connection is given up.
+/// Writes a frame: all of it, or after an error a beginning of it that is not the whole. The
+/// connection is given up after an error.
 ///
 /// # Errors
 ///

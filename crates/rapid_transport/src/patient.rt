@@ -12,7 +12,7 @@ const WHOLE_FRAME: u64 = 5_000;
 
 /// A stream whose reads fail if a frame takes too long. Between frames they wait without a limit. A
 /// peer connects only to write at once. So one that is silent from the first, or stops within a
-/// frame, only holds a reader and the memory of a part of a frame.
+/// frame, only holds a reader and a part of a frame.
 #[derive(Drop)]
 pub(crate) struct Patient<'a, R: Clock> {
     rt: &'a R,

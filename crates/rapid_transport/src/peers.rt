@@ -178,8 +178,8 @@ impl Peers {
     /// senders have threads of their own, all of which have ended when it returns. The ends are
     /// those that `listen` gave. A connection beyond 256 is closed at once, and so is one by which
     /// something comes that is no frame. A connection is closed too if its first frame is not whole
-    /// within 5 seconds, or a later frame within 5 seconds from its first bytes on. Between frames
-    /// there is no limit.
+    /// within 5 seconds. So is one of which a later frame is not whole within 5 seconds from its
+    /// first bytes on. Between frames there is no limit.
     ///
     /// # Errors
     ///

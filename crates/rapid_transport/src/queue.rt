@@ -22,9 +22,9 @@ impl<T> Order<T> for AnyOrder {
     ghost next = { λ before item. Unit {0} };
 }
 
-/// The end of a sender's queue that puts. Contracts see the queue, the frames that were put, each
-/// with its destination, those of them that are known to be taken, for how many there is room, and
-/// how many found it full.
+/// The end of a sender's queue that puts. Contracts see the queue, and the frames that were put,
+/// each with its destination. They also see those of them that are known to be taken, for how many
+/// there is room, and how many found it full.
 #[derive(Drop)]
 pub struct SenderQueue {
     sink: Sink<(Endpoint, Bytes), AnyOrder>,

@@ -32,8 +32,8 @@ impl Readers {
         }
     }
 
-    /// Takes in a connection that is to be read, by a second handle of it, and gives its number;
-    /// none if 256 are read already, or if out of memory.
+    /// Takes in a connection that is to be read, by a second handle of it, and gives its number.
+    /// None if 256 are read already, or if out of memory.
     pub(crate) fn admit(&mut self, stream: TcpStream) -> Option<u64> {
         if self.all.len() >= MOST_READERS {
             return None;

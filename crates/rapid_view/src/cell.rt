@@ -38,7 +38,7 @@ fn seat_of(
 {
     let kept = view.try_copy(alloc)?;
     let stamps = writer.reader()?;
-    // the library does not tell a lack of places from a lack of memory
+    // the library does not tell whether a place or memory is lacking
     let Ok(list) = list.handle() else {
         return Err(ViewError::NoPlace);
     };

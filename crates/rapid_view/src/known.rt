@@ -4,9 +4,9 @@ use atomic_table::{Join, Play, Split, TableRule};
 use rapid_config::Stamp;
 use std::collections::LinkedList;
 
-/// What a seat knows: whether it is the writer's, for how many stamps there is room, and the list
-/// as far as it has seen it. Also what another seat passed to it, and the words that it has stored
-/// of the next stamp. It is a type for contracts: no value of it is ever made.
+/// What a seat knows. It knows whether it is the writer's, for how many stamps there is room, and
+/// the list as far as it has seen it. It also knows what another seat passed to it, and the words
+/// that it has stored of the next stamp. It is a type for contracts: no value of it is ever made.
 pub struct Known {
     pub writes: bool,
     pub room: u64,

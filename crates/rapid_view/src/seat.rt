@@ -117,12 +117,12 @@ impl ViewSeat {
         self.stamps.stamp()
     }
 
-    /// Sees to it that the view that this seat keeps is that of the last stamp of a published list
-    /// that begins with all that this seat had seen. Afterwards the seat has seen that list, also if
-    /// it answers an error, which leaves the view that it keeps. `Behind` if the view of the last
-    /// stamp is still to be put in the list, or the writer is gone before this seat has found it.
+    /// Keeps the view of the last stamp of a published list. That list begins with all that this
+    /// seat had seen. Afterwards the seat has seen that list, also if it answers an error, which
+    /// leaves the view that it keeps. `Behind` if the view of the last stamp is still to be put in
+    /// the list. `Behind` too if the writer is gone before this seat has found it.
     ///
-    /// While the last stamp is that of the view kept, it reads this stamp and no more, so it takes
+    /// While the last stamp is that of the view kept, it reads this stamp and no more. So it takes
     /// no memory then, and waits for nobody.
     pub fn refresh<R: Wait>(&mut self, rt: &R) -> Result<(), ViewError>
         ensures cell { self.new.cell ≡ self.old.cell }
@@ -150,13 +150,13 @@ impl ViewSeat {
         &self.kept
     }
 
-    /// The view of the last stamp of a published list that begins with all that this seat had seen.
-    /// Afterwards the seat has seen that list, also if it answers an error. `Behind` if the view of
-    /// the last stamp is still to be put in the list, or the writer is gone before this seat has
-    /// found it.
+    /// The view of the last stamp of a published list. That list begins with all that this seat had
+    /// seen. Afterwards the seat has seen that list, also if it answers an error. `Behind` if the
+    /// view of the last stamp is still to be put in the list. `Behind` too if the writer is gone
+    /// before this seat has found it.
     ///
-    /// It is a copy, to be kept or sent on. All copies of a view share one list and one count of it,
-    /// so where several threads read one view again and again, `refresh` and `view` serve better:
+    /// It is a copy, to be kept or sent on. All copies of a view share one list and one count of
+    /// it. So if several threads read one view again and again, `refresh` and `view` serve better:
     /// these count nothing.
     pub fn members<R: Wait>(&mut self, rt: &R) -> Result<View, ViewError>
         ensures cell { self.new.cell ≡ self.old.cell }

@@ -147,7 +147,7 @@ impl StampWriter {
         StampReader::of_writer(cell, seat)
     }
 
-    /// Whether a stamp of this height may be published: `NotNext` if it is not one more than the
+    /// Whether a stamp of this height may be published. `NotNext` if it is not one more than the
     /// last height, else `CellFull` if there is room for no more.
     pub(crate) fn check(&self, height: u64) -> Result<(), ViewError>
         ensures { MatchResult result (λ _. MayFollow self.now.room self.now.seen height) (λ e. Refused self.now.room self.now.seen height e) }

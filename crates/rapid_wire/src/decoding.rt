@@ -55,9 +55,9 @@ fn read_message(
     Ok(message_of(sender, body))
 }
 
-/// The kind of a whole frame, and what follows it. The first that holds: `BadBody` below two bytes,
-/// `BadVersion` if the first is not the version of this format, `BadKind` if the second is no kind
-/// of a message.
+/// The kind of a whole frame, and what follows it. The error is the first that holds. `BadBody`
+/// below two bytes. `BadVersion` if the first is not the version of this format. `BadKind` if the
+/// second is no kind of a message.
 #[tactic(auto, using(crate::proofs::Fronts::short_fault, crate::proofs::Fronts::version_fault, crate::proofs::Fronts::kind_fault, crate::proofs::Fronts::opened))]
 fn open_frame(whole: &[u8]) -> Result<(FrameKind, &[u8]), WireFault>
     ensures kind { IfOk result (λ x. IsKind (number_of x.0)) }

@@ -24,9 +24,10 @@ fn put_payload(alloc: Global, out: &mut Vec<u8>, message: &Message) -> Result<()
     put_body(alloc, out, body)
 }
 
-/// The frame of a message: the length of what follows in four bytes, high byte first, then the
-/// version of the format, the message's kind, its sender and its body. It is the one spelling of
-/// the message. The memory of the frame is taken at once, and no more than it needs.
+/// The frame of a message. It begins with the length of what follows in four bytes, high byte
+/// first. Then come the version of the format, the message's kind, its sender and its body. It is
+/// the one spelling of the message. The memory of the frame is taken at once, and no more than it
+/// needs.
 pub fn encode(alloc: Global, message: &Message) -> Result<Vec<u8>, AllocError>
     ensures { IfOk result (λ bytes. IsFrame bytes.items message.now) }
 {

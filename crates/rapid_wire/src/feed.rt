@@ -24,10 +24,10 @@ const MOST_BYTES: usize = 65_536;
 /// not yet answered as messages. If messages are taken until there is none before each next piece,
 /// it never holds more than one frame and one piece. A fault is for good.
 ///
-/// A byte is copied as it is fed. It is copied again only if the bytes that are held move to the
-/// front of the buffer, which happens once at least as many were answered, or if the buffer grows,
-/// which at least doubles it. So feeding a stream byte by byte takes linear time, and once the
-/// buffer has its size each byte is copied at most twice.
+/// A byte is copied as it is fed. It is copied again if the bytes that are held move to the front
+/// of the buffer. This happens once at least as many were answered. It is also copied if the buffer
+/// grows, which at least doubles it. So feeding a stream byte by byte takes linear time, and once
+/// the buffer has its size each byte is copied at most twice.
 #[derive(Debug, Drop)]
 pub struct Feed {
     held: BytesMut,
@@ -46,8 +46,8 @@ impl Model for Feed {
     ghost invariant = { λ f. IsLasting f.fault };
 }
 
-/// The whole frame in front of the bytes, after its length, and how many bytes it has with that;
-/// none if no whole frame is there.
+/// The whole frame in front of the bytes, after its length, and how many bytes it has with that.
+/// None if no whole frame is there.
 #[tactic(auto, using(crate::proofs::Fronts::begins_at, crate::proofs::Fronts::too_long_at, crate::proofs::Fronts::not_whole_at))]
 fn first_frame(bytes: &[u8]) -> Result<Option<(&[u8], usize)>, WireFault>
     ensures whole { IfOk result (λ o. IfSome o (λ x. BeginsWith bytes.now x.0.now (drop x.1 bytes.now))) }
@@ -143,8 +143,9 @@ impl Feed {
     /// The next message of the stream; none if no whole frame is there. The first fault that stands
     /// in a message's place is answered then and at each later call. The fault is `TooLong` as soon
     /// as the four bytes of a length above 65,536 are there. The others come once the whole frame
-    /// is there, in this order: `BadBody` if it has no kind, `BadVersion`, `BadKind`, `BadBody` if
-    /// it is not spelt as a message is. `OutOfMemory` leaves the feed as it was.
+    /// is there, and the first that holds is answered. They are `BadBody` if it has no kind,
+    /// `BadVersion`, `BadKind`, and `BadBody` if it is not spelt as a message is. `OutOfMemory`
+    /// leaves the feed as it was.
     #[tactic(auto, using(crate::proofs::Feeds::same_fault, crate::proofs::Feeds::next_none, crate::proofs::Feeds::next_some, crate::proofs::Feeds::next_fault, crate::proofs::Feeds::is_lasting))]
     pub fn next(&mut self) -> Result<Option<Message>, WireFault>
         ensures { IsNext self.old self.new result }

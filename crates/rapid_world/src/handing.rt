@@ -21,7 +21,7 @@ use rapid_endpoint::Process;
 use rapid_node::{Event, Views};
 use std::alloc::{AllocError, Global};
 
-/// Puts what was sent behind the other packets, if anything was.
+/// Puts what was sent after the other packets, if anything was.
 fn post(mail: &mut Mail, sending: Option<Sending>)
     requires room { 0 < mail.old.room }
     requires next { IfSome sending (λ s. s.first ≡ length mail.old.packets) }
@@ -32,7 +32,7 @@ fn post(mail: &mut Mail, sending: Option<Sending>)
     }
 }
 
-/// A peer takes an event, and what it sends is put behind the other packets. All that needs memory
+/// A peer takes an event, and what it sends is put after the other packets. All that needs memory
 /// comes before anything changes.
 fn speak(
     alloc: Global,
@@ -57,7 +57,7 @@ fn speak(
     Ok(told)
 }
 
-/// A peer takes an event, and what it sends is put behind the other packets.
+/// A peer takes an event, and what it sends is put after the other packets.
 pub(crate) fn hand(
     alloc: Global,
     views: &mut Views,

@@ -32,7 +32,7 @@ impl Model for Mail {
     ghost invariant = { λ m. AreNumbered 0 m.sendings.items m.sent };
 }
 
-/// Puts an element behind the others, for which there is room.
+/// Puts an element after the others, for which there is room.
 pub(crate) fn push_within<T: Drop>(elements: &mut Vec<T>, element: T)
     requires { vec_len elements.old < vec_capacity elements.old }
     ensures { elements.new.items ≡ elements.old.items ++ element ∷ [] }
@@ -78,7 +78,7 @@ impl Mail {
         self.sendings.reserve(1)
     }
 
-    /// Puts what one step sent behind the others.
+    /// Puts what one step sent after the others.
     #[tactic(auto, using(crate::proofs::Mails::posted, crate::proofs::Mails::numbered))]
     pub(crate) fn post(&mut self, sending: Sending)
         requires room { 0 < self.old.room }

@@ -174,7 +174,7 @@ impl Nodes {
         self.add(peer)
     }
 
-    /// The one at a place takes an event, and what it sends is put behind the other packets.
+    /// The one at a place takes an event, and what it sends is put after the other packets.
     pub(crate) fn hand(
         &mut self,
         place: usize,

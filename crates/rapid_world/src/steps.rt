@@ -155,8 +155,8 @@ impl World {
         }
     }
 
-    /// The place of the node that runs under an identifier, and its edge on a ring: the identifier
-    /// of the configuration, and the member that it observes.
+    /// The place of the node that runs under an identifier, and its edge on a ring. The edge is the
+    /// identifier of the configuration, and the member that it observes.
     fn edge(
         &self,
         id: &ProcessId,
@@ -196,8 +196,8 @@ impl World {
         }
     }
 
-    /// One step by an event, and what it reports. A node that halts in it, since it is out of
-    /// memory or has no room for a further view, is no error: the event is accepted.
+    /// One step by an event, and what it reports. It is no error that a node halts in it, since it
+    /// is out of memory or has no room for a further view. The event is accepted.
     ///
     /// # Errors
     ///
@@ -206,8 +206,8 @@ impl World {
     /// endpoint. `NoSuchNode` if none runs under the identifier, or at the endpoint of the packet;
     /// before the latter `NoSuchPacket` if none with the number was sent. `NotObserved` if the node
     /// observes nobody on the ring. `OutOfMemory` if the event is not refused, but the world itself
-    /// has no memory for it, to read the frame of a packet or to write those that its node sends.
-    /// Each leaves the world as it was.
+    /// has no memory for it. It may need that to read the frame of a packet, or to write those that
+    /// its node sends. Each leaves the world as it was.
     pub fn step(&mut self, event: &WorldEvent) -> Result<Vec<Report>, WorldError>
         ensures stored { IfOk result (λ reports. StoresEvent self.old self.new (event_of event.now) (map report_of reports.items)) }
         ensures refused { IfErr result (Refuses (event_refusal self.old (event_of event.now))) }

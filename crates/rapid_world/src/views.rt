@@ -40,8 +40,8 @@ impl World {
         running_ids(self.alloc(), self.peers().as_slice())
     }
 
-    /// The identifier of the next node that runs: the least above the one given, or if there is
-    /// none, or none is given, the least of all; none if no node runs. It takes no memory.
+    /// The identifier of the next node that runs. It is the least above the one given. If there is
+    /// none, or none is given, it is the least of all. None if no node runs. It takes no memory.
     pub fn next_running(&self, last: Option<ProcessId>) -> Option<ProcessId>
         ensures { result ≡ next_node (model.running (world_of self.now)) last }
     {

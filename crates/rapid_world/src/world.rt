@@ -34,7 +34,7 @@ use std::alloc::{AllocError, Global};
 use std::marker::Model;
 
 /// A world of many nodes and the packets between them, which runs by events. Its value is how it
-/// was founded and the events that it accepted, each with the mark whether its node halted in it
+/// was founded, and the events that it accepted. Each has a mark whether its node halted in it
 /// because it was out of memory.
 #[derive(Drop)]
 pub struct World {
@@ -198,8 +198,8 @@ impl World {
         Ok(Vec::new(self.alloc))
     }
 
-    /// The node at a place has a result of a probe of whom it observes on a ring by this event, which
-    /// is stored with its mark.
+    /// By this event the node at a place has the result of a probe of the member that it observes
+    /// on a ring. The event is stored with its mark.
     pub(crate) fn probe_at(
         &mut self,
         event: WorldEvent,

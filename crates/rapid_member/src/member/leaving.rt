@@ -17,10 +17,10 @@ use std::alloc::AllocError;
 
 impl MemberState {
     /// Tells its observer on each ring, by ring, that it wants to leave. A member that is alone has
-    /// none. It goes on as before until it is removed: the wish is not kept, so it has to be told
+    /// none. It goes on as before until it is removed. The wish is not kept, so it has to be told
     /// again in a view that still has it.
     ///
-    /// On an error a part may be said, and nothing that was added to the outputs is to be sent:
+    /// On an error a part may be said, and nothing that was added to the outputs may be sent.
     /// `Node::step` drops them, and its node is halted.
     #[tactic(auto, unfolding(rapid_model::specs::Member::farewells))]
     pub fn leave(&self, out: &mut Vec<Output>) -> Result<(), AllocError>
@@ -44,7 +44,7 @@ impl MemberState {
         answer(out, me, &observer, Body::Leave(id, ring))
     }
 
-    /// Takes a Leave for a ring of the configuration: REMOVE is raised on its sender, unless the
+    /// Takes a Leave for a ring of the configuration. REMOVE is raised on its sender, unless the
     /// sender is no member that is observed on the ring.
     pub(super) fn take_leave(&mut self, from: &Process, ring: u8) -> Result<(), AllocError>
         ensures state { OnOk result (self.new ≡ (member.take_leave self.old from.now ring).state) }

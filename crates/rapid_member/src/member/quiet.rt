@@ -37,8 +37,8 @@ impl MemberState {
         }
     }
 
-    /// Whether the next tick certainly sends nothing and decides nothing: no alert waits, neither a
-    /// repeat nor a ballot is due, and no process is unstable. False says nothing of it.
+    /// Whether the next tick certainly sends nothing and decides nothing. Then no alert waits,
+    /// neither a repeat nor a ballot is due, and no process is unstable. False says nothing of it.
     #[tactic(auto, using(crate::proofs::Quiet::tick_says_nothing))]
     pub fn has_quiet_tick(&self) -> bool
         ensures { result ≡ true → SaysNothing (tick.on_tick self.now) }

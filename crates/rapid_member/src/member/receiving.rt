@@ -169,11 +169,11 @@ impl MemberState {
         self.answer_joiner(out, joiner, ring, &answered)
     }
 
-    /// A message at a member, where these are the decisions of its node, and the cut that was
-    /// decided, if any.
+    /// Takes a message at a member. These are the decisions of its node. The answer is the cut that
+    /// was decided, if any.
     ///
     /// On an error a part of its work may be done, so no clause says more than who the member is
-    /// and where. It is of no further use, and nothing that was added to the outputs is to be sent:
+    /// and where. It is of no further use, and nothing that was added to the outputs may be sent.
     /// `Node::step` drops both, and its node is halted.
     #[inline(always)]
     pub fn receive(

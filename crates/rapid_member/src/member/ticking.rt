@@ -300,7 +300,7 @@ impl MemberState {
     /// begun if one is due. The result is the cut that was decided, if any.
     ///
     /// On an error a part of this may be done, so no clause says more than who the member is and
-    /// where. It is of no further use, and nothing that was added to the outputs is to be sent:
+    /// where. It is of no further use, and nothing that was added to the outputs may be sent.
     /// `Node::step` drops both, and its node is halted.
     #[tactic(auto, unfolding(rapid_model::specs::Tick::on_tick))]
     pub fn on_tick(&mut self, out: &mut Vec<Output>) -> Result<Option<Cut>, AllocError>

@@ -5,7 +5,7 @@ use crate::node::plays::{Line, plays};
 use crate::node::said::{Said, To};
 use std::test::Fail;
 
-/// Five founders: two vote for one joiner and two for another, no vote is heard, and the first
+/// Of five founders two vote for one joiner and two for another, and no vote is heard. The first
 /// member begins a ballot at its tick 20. The packets from 21 on are its Prepare, to the members 2
 /// to 5.
 const BALLOT_BEGINS: [Action; 5] = [
@@ -16,8 +16,9 @@ const BALLOT_BEGINS: [Action; 5] = [
     Action::Tick(1, 20),
 ];
 
-/// Two members hear of the ballot and promise, the last member, who did not vote yet, accepts with
-/// all others and then hears of the second joiner. The packets from 31 on are notices of votes.
+/// Two members hear of the ballot and promise. The last member, which did not vote yet, accepts
+/// with all others, and then hears of the second joiner. The packets from 31 on are notices of
+/// votes.
 const ALL_ACCEPT: [Action; 9] = [
     Action::Deliver(21),
     Action::Deliver(22),
@@ -51,8 +52,8 @@ const SENT: [(u16, To, Said); 14] = [
 /// The founders.
 const FIVE: [u16; 5] = [1, 2, 3, 4, 5];
 
-/// The first member asks for the cut that two of the three members promised for; who has accepted
-/// sends no fast vote.
+/// The first member asks for the cut that two of the three members promised for. One that has
+/// accepted sends no fast vote.
 const ASKED: [Line; 4] = [
     Line::Does(&BALLOT_BEGINS),
     Line::Does(&ALL_ACCEPT),

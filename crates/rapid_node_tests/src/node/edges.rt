@@ -4,9 +4,9 @@ use crate::node::said::{Said, To};
 use crate::node::steps::{Step, Which, Word, lives};
 use std::test::Fail;
 
-// Of the founders 1 to 3 the first observes the second on the rings 0 and 1, the third on ring 2,
-// and the joiner 8 on ring 0. This was computed by Python's hashlib, from the rule that none is
-// between. An edge that is ignored is not reported at the next tick.
+// Of the founders 1 to 3 the first observes the second on the rings 0 and 1. It observes the third
+// on ring 2, and the joiner 8 on ring 0. This was computed by Python's hashlib, from the rule that
+// none is between. An edge that is ignored is not reported at the next tick.
 
 /// An edge of another observer, on no ring, and to a process that is no member.
 const OF_OTHERS: [Step; 6] = [

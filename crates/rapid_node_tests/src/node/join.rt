@@ -70,7 +70,7 @@ fn a_joiner_asks_again(rt: HostRuntime) -> Result<(), Fail> {
     plays(&rt, rt.alloc(), (3, 3, 1), &[1], &ASKS_AGAIN)
 }
 
-/// Who is a member already and asks again is confirmed.
+/// A member that asks again is confirmed.
 const CONFIRMED: [Line; 4] = [
     Line::Does(&JOIN),
     Line::Does(&[Action::Drop(6), Action::Tick(2, 10), Action::Flow]),

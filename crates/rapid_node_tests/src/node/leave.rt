@@ -5,9 +5,10 @@ use crate::node::steps::{Step, Which, Word, lives};
 use rapid_node::Phase;
 use std::test::Fail;
 
-// Of the founders 1 to 3 the first observes the second on the rings 0 and 1, the third on ring 2,
-// and the joiner 8 on ring 0, so the third observes the first on the rings 0 and 1, and the second
-// does on ring 2. This was computed by Python's hashlib, from the rule that none is between.
+// Of the founders 1 to 3 the first observes the second on the rings 0 and 1. It observes the third
+// on ring 2, and the joiner 8 on ring 0. So the third observes the first on the rings 0 and 1. The
+// second observes it on ring 2. This was computed by Python's hashlib, from the rule that none is
+// between.
 
 /// It tells its observer on each ring, as often as it is told itself, and goes on.
 const TOLD: [Step; 5] = [
@@ -37,7 +38,7 @@ fn who_leaves_tells_its_observers(rt: HostRuntime) -> Result<(), Fail> {
     lives(&rt, rt.alloc(), (3, 3, 1), &[1, 2, 3], &TOLD)
 }
 
-/// Who is alone has no observer, and who was removed has none any more.
+/// A member that is alone has no observer, and a removed node has none any more.
 const NOBODY_TOLD: [Step; 4] = [
     Step::Hears(Word::Leave, &[]),
     Step::Hears(Word::Decision(1), &[]),
@@ -83,7 +84,7 @@ fn what_an_observer_does_not_observe_is_ignored(rt: HostRuntime) -> Result<(), F
     lives(&rt, rt.alloc(), (3, 3, 1), &[1, 2, 3], &OF_OTHERS)
 }
 
-/// Who leaves a configuration that was left is told the decision there.
+/// A Leave for a configuration that this node has left is answered with the decision there.
 const LATE_AT_A_MEMBER: [Step; 4] = [
     Step::Hears(Word::Decision(2), &[]),
     Step::Is(Phase::Member),

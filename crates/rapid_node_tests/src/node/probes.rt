@@ -26,8 +26,8 @@ fn a_probe_is_acknowledged(rt: HostRuntime) -> Result<(), Fail> {
     lives(&rt, rt.alloc(), (3, 3, 1), &[1, 2], &ACKNOWLEDGED)
 }
 
-/// Who is still a member acknowledges a probe about the configuration that it left, and then sends
-/// the decision there.
+/// A node that is still a member acknowledges a probe about the configuration that it left, and
+/// then sends the decision there.
 const LATE_AT_A_MEMBER: [Step; 3] = [
     Step::Hears(Word::Decision(2), &[]),
     Step::Is(Phase::Member),
@@ -47,7 +47,7 @@ fn a_late_probe_at_a_member(rt: HostRuntime) -> Result<(), Fail> {
     lives(&rt, rt.alloc(), (3, 3, 1), &[1, 2], &LATE_AT_A_MEMBER)
 }
 
-/// Who was removed sends the decision alone.
+/// A removed node sends the decision alone.
 const LATE_AT_A_REMOVED_NODE: [Step; 4] = [
     Step::Hears(Word::Decision(1), &[]),
     Step::Is(Phase::Removed),

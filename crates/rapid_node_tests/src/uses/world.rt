@@ -36,8 +36,8 @@ fn deliver(world: &mut World, first: u64, end: u64) -> Result<()> {
     Ok(())
 }
 
-/// Each running node ticks, and what can be delivered of the packets from this number on is; the
-/// number of the first packet that is left.
+/// Each running node ticks, and of the packets from this number on those that can be delivered are.
+/// The answer is the number of the first packet that is left.
 fn turn(world: &mut World, first: u64) -> Result<u64> {
     tick(world)?;
     let end = world.packets().saturating_add(1);

@@ -20,7 +20,7 @@ enum Call<'a> {
     Remove(&'a [Edge], &'a [u16], usize),
     /// A batch that lets in, and the same.
     Join(&'a [Edge], &'a [u16], usize),
-    /// A batch that lets in this many joiners, from 2 on, whom process 1 observes, by ring 0, has
+    /// A batch that lets in this many joiners, from 2 on, whom process 1 observes on ring 0. It has
     /// no cut, and skips this many alerts.
     JoinMany(u16, usize),
     /// A batch of one alert of another configuration, which is skipped.

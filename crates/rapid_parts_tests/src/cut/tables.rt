@@ -57,8 +57,8 @@ fn add_members(table: &mut Table, members: u16) -> Result<(), TableError> {
 pub enum Start<'a> {
     /// These edges.
     Edges(u8, u8, u8, &'a [Edge]),
-    /// This many joiners, from 2 on, each observed by process 1 on rings 0 and 1, and the member
-    /// 1000, observed on ring 0, with K = H = 2 and L = 1.
+    /// This many joiners, from 2 on, each observed by process 1 on rings 0 and 1, with K = H = 2
+    /// and L = 1. The member 1000 is observed on ring 0.
     Joiners(u16),
     /// This many members, from 2 on, each observed by process 1 on sixteen rings, with H = 9 and L
     /// = 3.

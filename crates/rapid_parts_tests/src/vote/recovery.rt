@@ -58,8 +58,8 @@ fn asks(
     Ok(is_accept(&accept, wanted))
 }
 
-/// Promises of this many members, each with a fast vote or none, the coordinator's own proposal,
-/// and the cut that it asks for at the last of them, if any.
+/// Promises of this many members, each with a fast vote or none, and the coordinator's own
+/// proposal. Last comes the cut that it asks for at the last promise, if any.
 type Case<'a> = (usize, &'a [Option<u8>], Option<u8>, Option<u8>);
 
 /// Whether the coordinator asks for the cut at the last promise, and for nothing before.

@@ -43,7 +43,7 @@ const HEAD: [u8; 47] = [
     0, 0, 0, 0, 0, 0, 0, 0, 0, 0, 0, 0, 0, 0, 0, 0, 3, 3, 1,
 ];
 
-/// Puts these pieces behind the bytes.
+/// Puts these pieces after the bytes.
 fn append(bytes: &mut Vec<u8>, pieces: &[&[u8]]) -> Result<(), AllocError> {
     for piece in pieces {
         bytes.extend_from_slice(piece)?;

@@ -31,7 +31,7 @@ const HEAD: [u8; 47] = [
 /// A classic ballot of the last round and the last position.
 const LAST_BALLOT: &[u8] = &[250, 3, 255];
 
-/// A body with a list of processes: its kind, what is in front of the list, with its count, and
+/// A body with a list of processes. Its kind, what is in front of the list, with its count, and
 /// what is in front of each process in it. Then how many processes there are, and whether it is
 /// read.
 type Row<'a> = (u8, &'a [&'a [u8]], &'a [u8], u16, bool);

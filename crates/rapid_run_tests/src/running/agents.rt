@@ -18,7 +18,7 @@ const FOUNDER: u16 = 7_511;
 
 const JOINER: u16 = 7_512;
 
-/// How many milliseconds lie between two ticks: a member is removed once it is silent for some 1.6
+/// How many milliseconds lie between two ticks. A member is removed once it is silent for some 1.6
 /// seconds, which a busy machine does not come to.
 const TICK_MS: u16 = 40;
 

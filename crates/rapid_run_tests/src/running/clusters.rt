@@ -226,9 +226,9 @@ fn keep_cutting<R: Wait + Clock>(rt: &R, places: &[Place]) -> Result<(), &'stati
     }
 }
 
-/// Ends the nodes that go when all show the first text, and sees that those that stay come to one
-/// line that ends with the second text. With cuts, connections are cut before that and while the
-/// others see that two are gone.
+/// Ends the nodes that go when all show the first text. Sees that those that stay come to one line
+/// that ends with the second text. With cuts, connections are cut before that and while the others
+/// see that two are gone.
 fn lose<R: Wait + Clock>(
     rt: &R,
     alloc: Global,

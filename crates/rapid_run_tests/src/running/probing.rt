@@ -34,8 +34,8 @@ fn named(slots: &[Option<Process>; 16]) -> u32 {
     count
 }
 
-/// One more round of each part, before which process 2 alone has acknowledged: how many probes are to
-/// go out, and how many edges went down.
+/// One more round of each part, before which process 2 alone has acknowledged. How many probes are
+/// to go out, and how many edges went down.
 fn round(alloc: Global, parts: &mut Vec<Part>) -> Result<(u32, u32), AllocError> {
     let mut probes = 0u32;
     let mut downs = 0u32;
@@ -75,8 +75,8 @@ fn are_down(states: &[EdgeState], silent: bool) -> bool {
     true
 }
 
-/// Sees that, in as many parts, each edge is probed in each round, and that those to who does not
-/// acknowledge go down at the fifth, each once.
+/// Sees that in this many parts each edge is probed in each round. Sees that each edge whose
+/// subject does not acknowledge goes down once, at the fifth round.
 fn probe_in<R: Abort>(rt: &R, alloc: Global, count: u8) -> Result<(), Fail> {
     let mut watch = watch_of_five(alloc)?;
     let mut parts = watch.take_parts(count)?.expect(rt, "parts");

@@ -224,7 +224,7 @@ fn an_output_that_fails(rt: HostRuntime) {
 }
 
 /// Waits until the failure of the output is reported, for some seconds at most, and ends the input
-/// then; the answer is whether it was reported.
+/// then. The answer is whether it was reported.
 fn is_told<R: Wait + Clock>(rt: &R, told: &Mutex<Vec<u8>>, over: &AtomicBool) -> bool {
     let mut is_told = false;
     for _ in 0..1_000 {
@@ -238,8 +238,8 @@ fn is_told<R: Wait + Clock>(rt: &R, told: &Mutex<Vec<u8>>, over: &AtomicBool) ->
     is_told
 }
 
-/// Runs a node whose output fails, and whose input is quiet after a line; whether the fault was
-/// reported before the input ended, and how the node ended.
+/// Runs a node whose output fails, and whose input is quiet after a line. The answer is whether the
+/// fault was reported before the input ended, and how the node ended.
 fn quiet<'a, R>(
     rt: &'a R,
     alloc: Global,

@@ -34,7 +34,7 @@ fn process(number: u8, endpoint: Endpoint) -> Process {
 }
 
 /// The bytes by which process 2 at this endpoint asks the founder at this port on each ring to let
-/// it in, and then process 3 asks whether it may join, which is answered.
+/// it in. Then process 3 asks whether it may join, which is answered.
 fn requests(alloc: Global, port: u16, joiner: Endpoint, last: Endpoint) -> Result<Vec<u8>, Fail> {
     let me = process(1, Endpoint::new([127, 0, 0, 1], port));
     let founding = Configuration::seed(alloc, Params::new(RINGS, 9, 3)?, &[me])?;

@@ -109,8 +109,8 @@ fn every_kind_cut_after_each_byte(rt: HostRuntime) -> Result<(), Fail> {
     Ok(())
 }
 
-/// Whether a reader that gives nine bytes a call, and fails at any of its calls before the last byte of
-/// the frame came, is answered so.
+/// Whether a reader that gives nine bytes a call is answered so. It fails at any of its calls
+/// before the last byte of the frame came.
 fn fails_at_each_read<R: Wait>(rt: &R, alloc: Global, frame: &[u8]) -> bool {
     let needed = frame.len().div_ceil(9);
     for calls in 0..needed {
@@ -153,8 +153,8 @@ fn sent(
     Ok((answer, written.len() == calls && frame.starts_with(written)))
 }
 
-/// Whether a writer that ends so at any of its calls is answered this error, and has a beginning of the
-/// frame; and whether one that lasts has the whole.
+/// Whether a writer that ends so at any of its calls is answered this error, and has a beginning of
+/// the frame. Also whether one that lasts has the whole.
 fn stops_at_each_write(
     alloc: Global,
     frame: &[u8],

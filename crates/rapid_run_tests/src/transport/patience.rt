@@ -152,9 +152,9 @@ where
     begun.elapsed(rt)
 }
 
-/// Sends frames by a connection that is silent between them for longer than a frame may take, one
-/// of them in two pieces, while another stops within a frame. Whether that other was closed in
-/// time, and all frames came. Stops the peers then.
+/// Sends frames by a connection that is silent between them for longer than a frame may take. One
+/// of them comes in two pieces. Another connection stops within a frame meanwhile. Whether that
+/// other was closed in time, and all frames came. Stops the peers then.
 fn pause<R>(rt: &R, peers: &Peers, port: u16, tally: &Tally) -> bool
 where
     R: Net<Listener = TcpListener, Stream = TcpStream> + Wait + Clock,

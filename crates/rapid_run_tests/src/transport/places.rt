@@ -141,8 +141,8 @@ fn nobody_elsewhere_is_dialled(rt: HostRuntime) -> Result<(), Fail> {
     Ok(())
 }
 
-/// Posts frames to a dead port, no more at a time than a queue has room for, until all were lost,
-/// and stops the peers; whether they were.
+/// Posts frames to a dead port, no more at a time than a queue has room for, until all were lost.
+/// Then stops the peers. The answer is whether they were lost.
 fn post_to_dead<R>(rt: &R, alloc: Global, peers: &Peers) -> bool
 where
     R: Net<Listener = TcpListener, Stream = TcpStream> + Wait + Clock,

@@ -8,8 +8,8 @@ use std::alloc::{AllocError, Global};
 use std::process::Abort;
 use std::test::Fail;
 
-/// What sending the worked frame to such a writer answers, how many bytes are written, whether they
-/// are a beginning of the frame, and how many calls failed.
+/// What sending the worked frame to such a writer answers, and how many bytes are written. Then
+/// whether they are a beginning of the frame, and how many calls failed.
 fn sent(
     alloc: Global,
     step: usize,

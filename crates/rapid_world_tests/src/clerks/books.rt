@@ -15,8 +15,8 @@ pub(crate) fn joins() -> Job {
     Job::Event(WorldEvent::Start(process(2), endpoint(1)))
 }
 
-/// The book of a world of process 1 alone, with 3 rings and the marks 3 and 1, and a share with
-/// every part of its ledger.
+/// The book of a world of process 1 alone, and a share with every part of its ledger. There are 3
+/// rings, and the marks are 3 and 1.
 pub(crate) fn alone<L: Ledger>(
     alloc: Global,
     blank: Blank,

@@ -12,8 +12,8 @@ use std::sync::ledger::{Blank, Ledger};
 use std::sync::{Mutex, Wait};
 use std::test::*;
 
-/// Of these jobs, which a clerk of this ledger was given in a world of process 1: how many it did,
-/// how many it skipped, and why it ended.
+/// A clerk of this ledger is given these jobs in a world of process 1. How many it did, how many it
+/// passed over, and why it ended.
 fn told_in<L: Ledger, R: Wait>(
     rt: &R,
     alloc: Global,

@@ -47,7 +47,7 @@ impl Gate for Door {
 }
 
 /// At their first turn the workers 0 and 1 each note that they came, and wait until the other came
-/// too; who waited in vain is not let in.
+/// too. One that waited in vain is not let in.
 #[derive(Drop)]
 pub(crate) struct Meeting {
     first: AtomicU64,

@@ -45,8 +45,8 @@ fn turns_are_taken(rt: HostRuntime) -> Result<(), Fail> {
     Ok(())
 }
 
-/// A clerk goes on after an event that is refused and a turn that no node can take, and not if the
-/// gate does not let it in.
+/// A clerk goes on after an event that is refused, and after a turn that no node can take. It ends
+/// if the gate does not let it in.
 #[test]
 fn refused_jobs_are_not_counted(rt: HostRuntime) -> Result<(), Fail> {
     let door = Door::until(4);

@@ -12,7 +12,7 @@ use std::sync::Wait;
 use std::test::*;
 use std::thread::Threads;
 
-/// What stands behind the first line, once three nodes have met.
+/// What stands after the first line, once three nodes have met.
 const THREE_NODES: &[u8] = b"node 1 height 1 members 1 2 3
 node 2 height 1 members 1 2 3
 node 3 height 1 members 1 2 3
@@ -55,7 +55,7 @@ fn after_nine_turns<R: Threads + Wait + Sync>(
     Ok(text)
 }
 
-/// Whether a text is these two, one behind the other.
+/// Whether a text is these two, one after the other.
 fn is_joined(text: &[u8], first: &[u8], rest: &[u8]) -> bool {
     text.strip_prefix(first) == Some(rest)
 }

@@ -24,8 +24,8 @@ impl Read for Faulty<'_> {
     }
 }
 
-/// A writer that takes one byte a call, is interrupted now and then, and fails at one of its calls,
-/// or takes nothing from there on.
+/// A writer that takes one byte a call, and is interrupted now and then. It fails at one of its
+/// calls, or takes nothing from there on.
 #[derive(Drop)]
 pub struct Narrow {
     pub written: Vec<u8>,

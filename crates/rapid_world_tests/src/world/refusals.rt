@@ -39,7 +39,7 @@ fn refuses_by_the_rules(rt: HostRuntime) -> Result<(), Fail> {
     Ok(())
 }
 
-/// Who crashed never starts again, and another may start at its endpoint.
+/// A process that crashed never starts again, and another may start at its endpoint.
 #[test]
 fn a_crash_ends_a_node(rt: HostRuntime) -> Result<(), Fail> {
     let mut world = alone(rt.alloc())?;
@@ -59,8 +59,8 @@ fn a_crash_ends_a_node(rt: HostRuntime) -> Result<(), Fail> {
     Ok(())
 }
 
-/// Those that run follow one another by identifier and begin again at the least; who crashed is left
-/// out.
+/// Those that run follow one another by identifier and begin again at the least. One that crashed
+/// is left out.
 #[test]
 fn running_nodes_follow_one_another(rt: HostRuntime) -> Result<(), Fail> {
     let mut world = alone(rt.alloc())?;
