@@ -9,6 +9,7 @@ ghost use Rattle.rapid_agent.specs.Opening.{IsOpenedBy};
 use crate::arrivals::Arrivals;
 use crate::posts::Posts;
 use crate::subscriber::Subscriber;
+use rapid_config::Params;
 use rapid_desk::DeskError;
 use rapid_endpoint::{Endpoint, Process};
 use rapid_node::Phase;
@@ -23,7 +24,7 @@ use std::thread::{self, Threads};
 use std::time::{Clock, Duration};
 
 /// The most threads that probe the observed members.
-const MOST_PROBERS: u8 = 16;
+const MOST_PROBERS: u8 = Params::MOST_RINGS;
 
 /// A member of a cluster in one's own program: its node, its listener and what its threads share.
 /// Threads share it by reference. It does nothing by itself until `run` or `run_while`.

@@ -6,6 +6,7 @@ ghost use Rattle.rapid_model.specs.Process.{is_in, same_identifier};
 ghost use Rattle.rapid_model.specs.Cut.{is_ascending};
 ghost use Rattle.rapid_model.specs.Configuration.{AreMembers, identifiers_ascend};
 ghost use Rattle.rapid_model.specs.Apply.{collides, insert_process, with_joiners, next_members};
+ghost use Rattle.rapid_model.specs.Limits.{most_members};
 ghost use Rattle.rapid_config.specs.Endpoints.{AreEndpointsOf};
 
 use crate::endpoint_key::EndpointKey;
@@ -65,7 +66,7 @@ fn admit(
     requires members { AreMembers members.old.items }
     requires endpoints { AreEndpointsOf members.old.items endpoints.old.keys }
     ensures admitted { OnOk result
-        (members.new.items ≡ (if not (collides members.old.items joiner.now) && nat_lt (length members.old.items) 1024 then insert_process joiner.now members.old.items else members.old.items)) }
+        (members.new.items ≡ (if not (collides members.old.items joiner.now) && nat_lt (length members.old.items) most_members then insert_process joiner.now members.old.items else members.old.items)) }
     ensures members { OnOk result (AreMembers members.new.items) }
     ensures endpoints { OnOk result (AreEndpointsOf members.new.items endpoints.new.keys) }
 {

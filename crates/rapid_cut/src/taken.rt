@@ -19,12 +19,10 @@ use crate::in_turn::InTurn;
 use crate::mask::{Masks, bit, has_any, has_bit, with};
 use crate::reports::KnownReports;
 use rapid_alerts::{Alert, Kind};
+use rapid_config::Cut;
 use rapid_endpoint::Process;
 use rapid_rings::ObserverTable;
 use std::alloc::{AllocError, Global};
-
-/// The most joiners that are reported on.
-const JOINERS: usize = 512;
 
 /// Whether the alert is well-formed. Then its ring exists, its observer is that ring's, and its
 /// configuration is the table's. And its kind is Remove exactly if the subject is a member. Also
@@ -81,7 +79,7 @@ fn has_room<T: ObserverTable>(
     let _ = table;
     let _ = reports;
     let _ = alert;
-    counted || joiners < JOINERS
+    counted || joiners < Cut::MOST_JOINERS
 }
 
 /// How many joiners are reported on once there is a report on this process too.

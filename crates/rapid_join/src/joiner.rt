@@ -11,9 +11,6 @@ use rapid_endpoint::{Endpoint, Process};
 use std::alloc::{AllocError, Global};
 use std::marker::Model;
 
-/// After how many ticks a joiner asks again.
-const PATIENCE: u8 = 10;
-
 /// The side of a process that joins: it asks its seed at its ticks 1, 11, 21 and so on. It keeps
 /// nothing of a reply.
 #[derive(Debug, Drop)]
@@ -36,6 +33,9 @@ impl Model for Joiner {
 }
 
 impl Joiner {
+    /// After how many ticks a joiner asks again.
+    pub const QUESTION_PERIOD: u8 = 10;
+
     /// The process, which joins by the seed at this endpoint and had no tick.
     pub fn new(process: Process, seed: Endpoint) -> Joiner
         ensures { result ≡ record { process = process; joiner = fresh_joiner seed } }
@@ -54,7 +54,7 @@ impl Joiner {
         ensures after { self.new ≡ record self.old { joiner = after_tick self.old.joiner } }
     {
         let is_time = self.ticks == 0;
-        self.ticks = (self.ticks + 1) % PATIENCE;
+        self.ticks = (self.ticks + 1) % Joiner::QUESTION_PERIOD;
         if is_time {
             JoinerAnswer::PreJoin(self.seed)
         } else {

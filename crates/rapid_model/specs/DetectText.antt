@@ -1,7 +1,7 @@
 -- What `detect` prints: the state of a run, which lines are refused, and the output of an input.
 use Rattle.std.specs.Prelude.{ℕ, ◌+◌, Bool, true, false, not, ◌==◌, List, [], ◌∷◌, ◌++◌, length, flat_map, codes, decimal, nat_lt, if◌then◌else◌, Option, Some, None, is_some}
 use Rattle.std.specs.Option.{option_map}
-use Rattle.rapid_model.specs.Limits.{most_joiners}
+use Rattle.rapid_model.specs.Limits.{most_joiners, most_edge_lines, most_batch_lines}
 use Rattle.rapid_model.specs.Bytes.{Line, Word, Text}
 use Rattle.rapid_model.specs.Cut.{Cut}
 use Rattle.rapid_model.specs.Configuration.{Params}
@@ -82,9 +82,9 @@ later_refusal d (Watermarks params) = Some BadLine
 later_refusal d (Joiner p) = if d.is_reporting then Some TooLate else if nat_lt d.joiner_lines most_joiners then None else Some TooMany
 later_refusal d (Edge x) =
     if d.is_reporting then Some TooLate
-    else if not (nat_lt d.edge_lines 16384) then Some TooMany
+    else if not (nat_lt d.edge_lines most_edge_lines) then Some TooMany
     else option_map table_refusal (add_fault d.table x.ring x.subject)
-later_refusal d (Report kind x) = if nat_lt (length d.alerts) 16384 then None else Some TooMany
+later_refusal d (Report kind x) = if nat_lt (length d.alerts) most_batch_lines then None else Some TooMany
 later_refusal d Batch = None
 
 -- Why a command is refused, if it is.

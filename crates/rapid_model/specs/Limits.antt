@@ -62,6 +62,14 @@ longest_line = 256
 abbrev pub resend_period : ℕ
 resend_period = 20
 
+-- How many ticks longer than the one before it each member waits until it begins a classic ballot.
+abbrev pub recovery_step : ℕ
+recovery_step = 4
+
+-- Every this many ticks a joiner asks once more.
+abbrev pub question_period : ℕ
+question_period = 10
+
 -- After this many ticks at which it was unstable, a process is echoed.
 abbrev pub echo_age : ℕ
 echo_age = 40
@@ -114,6 +122,17 @@ most_slow_peers = 1024
 -- How many clerks drive a simulated cluster at most, each in a thread of its own.
 abbrev pub most_clerks : ℕ
 most_clerks = 32
+
+-- How many lines `edge` the input of `detect` has at most, and how many alerts one of its batches.
+abbrev pub most_edge_lines : ℕ
+most_edge_lines = 16384
+
+abbrev pub most_batch_lines : ℕ
+most_batch_lines = 16384
+
+-- How often one line of `sim` repeats an event at most.
+abbrev pub most_repeats : ℕ
+most_repeats = 1000
 
 -- How many packets one `flow` of `sim` settles at most.
 abbrev pub most_in_flow : ℕ

@@ -10,6 +10,7 @@ use Rattle.rapid_model.specs.World.{WorldEvent}
 use Rattle.rapid_model.specs.Lines.{number_up_to}
 use Rattle.rapid_model.specs.Numbered.{numbered_identifier, local_endpoint, named}
 use Rattle.rapid_model.specs.DetectLine.{marks_in}
+use Rattle.rapid_model.specs.Limits.{most_repeats}
 
 -- What a line can ask for; nodes go by identifier, packets by number.
 pub data SimLine : Type 0 where
@@ -47,7 +48,7 @@ result_named w = if bytes_eq w (codes "ok") then Some true else if bytes_eq w (c
 -- How often an event happens: from 1 to 1,000 times, once if no word says it.
 abbrev pub count_in : List Word → Option ℕ
 count_in [] = Some 1
-count_in (w ∷ []) = number_from_1 1000 w
+count_in (w ∷ []) = number_from_1 most_repeats w
 count_in _ = None
 
 -- One identifier.

@@ -13,12 +13,13 @@ use crate::edge_seat::{EdgeSeat, find};
 use crate::probe_word::is_down;
 use crate::{BoardError, Verdict};
 use atomic_table::{Seat, Table};
+use rapid_config::Configuration;
 use std::alloc::{AllocError, Global};
 use std::marker::Model;
 use std::sync::Arc;
 
 /// How many edges a board has at most.
-const MOST_EDGES: usize = 1_024;
+const MOST_EDGES: usize = Configuration::MOST;
 
 /// How many watchers look at a board at most.
 const MOST_WATCHERS: usize = 64;

@@ -9,13 +9,10 @@ ghost use Rattle.rapid_rings.specs.Faults.{Reports, ReportsIfAny};
 use crate::edge_map::EdgeMap;
 use crate::process_set::ProcessSet;
 use crate::{ObserverTable, TableError};
-use rapid_config::{ConfigId, Params};
+use rapid_config::{ConfigId, Configuration, Params};
 use rapid_endpoint::Process;
 use std::alloc::{AllocError, Global};
 use std::marker::Model;
-
-/// How many members may be observed.
-const OBSERVED_LIMIT: usize = 1024;
 
 /// A table of explicit edges. A process that was not declared a joiner is a member.
 #[derive(Debug, Drop)]
@@ -87,7 +84,7 @@ impl Table {
         ensures { ReportsIfAny (add_fault self.now ring subject.now) result }
     {
         let counts = !self.joiners.contains(subject) && !self.observed.contains(subject);
-        if counts && self.observed.len() >= OBSERVED_LIMIT {
+        if counts && self.observed.len() >= Configuration::MOST {
             Some(TableError::TooMany)
         } else if ring >= self.params.k() {
             Some(TableError::RingRange)

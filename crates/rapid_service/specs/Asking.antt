@@ -4,6 +4,7 @@ use Rattle.std.specs.Prelude.{ℕ, ◌%◌, ◌/◌, ◌==◌, ◌&&◌, ◌||�
 use Rattle.rapid_join.specs.declared.reply.Reply.{Reply}
 use Rattle.rapid_join.specs.declared.reply.Reply.TheVariants as reply
 use Rattle.rapid_model.specs.Bytes.{Endpoint}
+use Rattle.rapid_model.specs.Limits.{question_period}
 use Rattle.rapid_service.specs.declared.note.Answer.{Answer}
 use Rattle.rapid_service.specs.declared.note.Answer.TheVariants.{Nothing, Safe, InUse, Changed, TooMany}
 use Rattle.rapid_service.specs.declared.note.Note.{Note}
@@ -18,7 +19,7 @@ answer_of reply.TooManyJoiners = TooMany
 
 -- A question is asked at this tick, counted from 1.
 abbrev pub asks_at : ℕ → Bool
-asks_at tick = tick % 10 == 1
+asks_at tick = tick % question_period == 1
 
 -- Of questions in vain the first is reported, and each tenth.
 abbrev pub is_told : ℕ → Bool
@@ -28,7 +29,7 @@ is_told question = (question == 1) || (nat_le 1 question && (question % 10 == 0)
 -- its last question. When the next question is asked, the one before was in vain.
 abbrev pub note_at : Endpoint → ℕ → Answer → Option Note
 note_at seed tick answer =
-    if asks_at tick && is_told (tick / 10) then Some (note.InVain (record { question = tick / 10; seed = seed; answer = answer })) else None
+    if asks_at tick && is_told (tick / question_period) then Some (note.InVain (record { question = tick / question_period; seed = seed; answer = answer })) else None
 
 -- The reply to the last question after this tick: none if one is asked at it.
 abbrev pub answer_at : ℕ → Answer → Answer

@@ -5,6 +5,7 @@ use Rattle.std.specs.BTreeMap as tree
 use Rattle.rapid_model.specs.Bytes.{ConfigurationId}
 use Rattle.rapid_model.specs.Process.{same_bytes}
 use Rattle.rapid_model.specs.Message.{Message, Body, Batch, FastVote, Prepare, Promise, Accept, Accepted, Decision, PreJoin, Reply, JoinRequest, Confirm, Probe, ProbeAck, Leave}
+use Rattle.rapid_model.specs.Limits.{question_period}
 use Rattle.rapid_service.specs.declared.said.Kind.{Kind}
 use Rattle.rapid_service.specs.declared.said.Kind.TheVariants as kind
 
@@ -12,10 +13,6 @@ use Rattle.rapid_service.specs.declared.said.Kind.TheVariants as kind
 pub record Passed : Type 0 where
   pub message : Message
   pub ticks : ℕ
-
--- Within this many ticks a joiner's question is a repeat.
-abbrev pub question_ticks : ℕ
-question_ticks = 10
 
 -- An equal message was let through.
 abbrev pub WasPassed : List Passed → Message → Type 0
@@ -32,7 +29,7 @@ abbrev pub IsRepeatIn : ConfigurationId → ℕ → List Passed → Message → 
 IsRepeatIn here now passed m (Batch id xs) = (id ≡ here) × WasPassed passed m
 IsRepeatIn here now passed m (FastVote id v) = (id ≡ here) × WasPassed passed m
 IsRepeatIn here now passed m (JoinRequest id k) = (id ≡ here) × WasPassed passed m
-IsRepeatIn here now passed m PreJoin = WasPassedWithin question_ticks now passed m
+IsRepeatIn here now passed m PreJoin = WasPassedWithin question_period now passed m
 IsRepeatIn here now passed m (Prepare id b) = ⊥
 IsRepeatIn here now passed m (Promise id b vote) = ⊥
 IsRepeatIn here now passed m (Accept id b v) = ⊥
@@ -82,7 +79,7 @@ is_of_members (kind.Request k) = false
 
 -- If it asks to join, it is within this many ticks.
 abbrev pub IsTimely : Body → ℕ → ℕ → Type 0
-IsTimely PreJoin before now = now < before + question_ticks
+IsTimely PreJoin before now = now < before + question_period
 IsTimely (Batch id xs) before now = Unit {0}
 IsTimely (FastVote id v) before now = Unit {0}
 IsTimely (JoinRequest id k) before now = Unit {0}

@@ -6,11 +6,12 @@ ghost use Rattle.rapid_service.specs.Asking.{answer_of, is_told, note_at, answer
 
 use crate::note::{Answer, InVain, Note};
 use rapid_endpoint::Endpoint;
-use rapid_join::Reply;
+use rapid_join::{Joiner, Reply};
 
-/// How many ticks lie between two questions, and how many questions between two that are reported.
-const TICKS_PER_QUESTION: u64 = 10;
+/// How many ticks lie between two questions.
+const QUESTION_PERIOD: u64 = Joiner::QUESTION_PERIOD as u64;
 
+/// How many questions lie between two that are reported.
 const QUESTIONS_PER_NOTE: u64 = 10;
 
 /// The questions of a joiner, which asks its seed at its ticks 1, 11, 21 and so on until it has a
@@ -59,12 +60,12 @@ impl Asking {
         ensures seed { self.new.seed ≡ self.old.seed }
     {
         self.ticks = self.ticks.saturating_add(1);
-        if self.ticks % TICKS_PER_QUESTION != 1 {
+        if self.ticks % QUESTION_PERIOD != 1 {
             return None;
         }
         let answer = self.answer;
         self.answer = Answer::Nothing;
-        let question = self.ticks / TICKS_PER_QUESTION;
+        let question = self.ticks / QUESTION_PERIOD;
         if !is_told(question) {
             return None;
         }

@@ -8,10 +8,11 @@ ghost use Rattle.rapid_service.specs.Repeating.{IsTimely, kind_in, is_of_members
 
 use rapid_alerts::Batch;
 use rapid_config::ConfigId;
+use rapid_join::Joiner;
 use rapid_message::Body;
 
 /// Within how many ticks a joiner's question is a repeat.
-const QUESTION_TICKS: u64 = 10;
+const QUESTION_TICKS: u64 = Joiner::QUESTION_PERIOD as u64;
 
 /// The kinds of messages of which the last of each sender is kept.
 #[derive(Clone, Copy, Debug, PartialEq, Eq, PartialOrd, Ord)]

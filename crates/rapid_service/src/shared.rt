@@ -16,6 +16,7 @@ use crate::note::Note;
 use crate::part::{Part, PartRound};
 use crate::post::Post;
 use crate::service::Service;
+use rapid_config::Params;
 use rapid_desk::{DeskError, Subscription};
 use rapid_endpoint::Process;
 use rapid_message::{Body, Message};
@@ -26,7 +27,7 @@ use std::sync::{Mutex, Wait};
 
 /// In how many parts the observed members are probed at most: a member observes on at most as many
 /// rings.
-const MOST_PROBERS: u8 = 16;
+const MOST_PROBERS: u8 = Params::MOST_RINGS;
 
 /// What the threads of a node share. This is its service under a lock, and each part of its probes
 /// under a lock of its own. It is also what is printed, and whether it goes on. The lock of a part

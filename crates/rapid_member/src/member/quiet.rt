@@ -6,18 +6,19 @@ ghost use Rattle.rapid_model.specs.Receive as receive;
 ghost use Rattle.rapid_model.specs.Reports.{unstable};
 ghost use Rattle.rapid_model.specs.Ring.{observers_of};
 ghost use Rattle.rapid_model.specs.Tick as tick;
+ghost use Rattle.rapid_model.specs.Limits.{resend_period};
 ghost use Rattle.rapid_member.specs.Quiet.{SaysNothing};
 
 use super::MemberState;
-use super::ticking::AGAIN;
+use super::ticking::RESEND_PERIOD;
 use rapid_message::{Body, Message};
 
 impl MemberState {
     /// Whether no repeat is due at the next tick.
     fn repeats_nothing(&self) -> bool
-        ensures { result ≡ true → ((tick.clock_moved self.now).tick % 20 == 0) ≡ false }
+        ensures { result ≡ true → ((tick.clock_moved self.now).tick % resend_period == 0) ≡ false }
     {
-        self.tick.saturating_add(1) % AGAIN != 0
+        self.tick.saturating_add(1) % RESEND_PERIOD != 0
     }
 
     /// Whether no ballot is due at the next tick.

@@ -11,6 +11,7 @@ ghost use Rattle.rapid_alerts.specs.Alerts.{alert_of};
 ghost use Rattle.rapid_message.specs.Bodies.{IsFrom};
 ghost use Rattle.rapid_member.specs.Members.{IsSameMember};
 ghost use Rattle.rapid_model.specs.Batch.{batch_of};
+ghost use Rattle.rapid_model.specs.Limits.{echo_age};
 ghost use Rattle.rapid_member.specs.Saying.{says_batch};
 
 use super::MemberState;
@@ -24,14 +25,12 @@ use rapid_rings::ObserverTable;
 use std::alloc::AllocError;
 use std::sync::Arc;
 
-/// How many ticks after its first vote the member at position 0 begins a classic ballot.
-const FIRST_RECOVERY: u64 = 20;
-
 /// How many ticks each later position waits longer, so that mostly one member begins a ballot.
 const RECOVERY_STEP: u64 = 4;
 
-/// After how many ticks votes and alerts go out again.
-pub(super) const AGAIN: u64 = 20;
+/// After how many ticks votes and alerts go out again. So many ticks after its first vote the member
+/// at position 0 begins a classic ballot.
+pub(super) const RESEND_PERIOD: u64 = 20;
 
 impl MemberState {
     /// The member's alert on a process for a ring.
@@ -94,7 +93,7 @@ impl MemberState {
 
     /// The alerts that the member raises as an echo on those of these processes that have the age.
     fn echoes(&self, unstable: &[Process]) -> Result<Vec<Alert>, AllocError>
-        ensures { IfOk result (λ alerts. map alert_of alerts.items ≡ flat_map (tick.echoes self.now) (filter (λ p. tick.age_of self.now.ages p == 40) unstable.now)) }
+        ensures { IfOk result (λ alerts. map alert_of alerts.items ≡ flat_map (tick.echoes self.now) (filter (λ p. tick.age_of self.now.ages p == echo_age) unstable.now)) }
     {
         let mut alerts = Vec::new(self.alloc);
         for process in unstable {
@@ -105,7 +104,7 @@ impl MemberState {
 
     /// Adds the alerts that the member raises as an echo on a process, if it has the age.
     fn push_due(&self, alerts: &mut Vec<Alert>, process: &Process) -> Result<(), AllocError>
-        ensures { OnOk result (map alert_of alerts.new.items ≡ map alert_of alerts.old.items ++ flat_map (tick.echoes self.now) (filter (λ p. tick.age_of self.now.ages p == 40) (process.now ∷ []))) }
+        ensures { OnOk result (map alert_of alerts.new.items ≡ map alert_of alerts.old.items ++ flat_map (tick.echoes self.now) (filter (λ p. tick.age_of self.now.ages p == echo_age) (process.now ∷ []))) }
     {
         if self.rest.waiting.ages.of(process) == ECHO_AGE {
             self.push_echoes(alerts, process)?;
@@ -165,7 +164,7 @@ impl MemberState {
         ensures decided { (tick.repeats self.old).decided ≡ None }
         ensures same { IsSameMember self.old self.new }
     {
-        if self.tick % AGAIN != 0 {
+        if self.tick % RESEND_PERIOD != 0 {
             return Ok(());
         }
         let rest = Arc::make_mut(&mut self.rest)?;
@@ -237,7 +236,7 @@ impl MemberState {
     {
         // a later place waits longer, so that mostly one member begins a ballot and none overtakes
         // it
-        let patience = FIRST_RECOVERY + RECOVERY_STEP * self.place() as u64;
+        let patience = RESEND_PERIOD + RECOVERY_STEP * self.place() as u64;
         match self.first_vote {
             Some(first) => first < at && (at - first) % patience == 0,
             None => false,
