@@ -1,6 +1,6 @@
 // What subscribers hear.
 
-use crate::desk::founding::{alone, decide, edge_down, founding, let_three_in, step};
+use crate::desk::founding::{after, alone, decide, edge_down, founding, let_three_in, step};
 use rapid_desk::{Desk, DeskError, Subscription, Taken};
 use std::alloc::Global;
 use std::process::Abort;
@@ -56,6 +56,31 @@ fn a_subscriber_lags_after_its_capacity(rt: HostRuntime) -> Result<(), Fail> {
     let mut desk = alone(&rt, rt.alloc(), 1)?;
     let mut subscription = desk.subscribe(2)?;
     lags(&rt, rt.alloc(), &mut *desk, &mut subscription)
+}
+
+/// The subscriber, which has room for one, takes each of three changes before the next comes.
+fn keeps_up<R: Wait + Abort>(
+    rt: &R,
+    alloc: Global,
+    desk: &mut Desk<&R>,
+    subscription: &mut Subscription,
+) -> Result<(), Fail> {
+    let mut configuration = founding(alloc)?;
+    for number in 2..5u16 {
+        decide(alloc, desk, configuration.id(), number)?;
+        configuration = after(alloc, &configuration, number)?;
+        let told = Told::Change(configuration.height());
+        assert!(rt; next(rt, subscription) == told, "at {number}");
+    }
+    assert!(rt; next(rt, subscription) == Told::Empty);
+    Ok(())
+}
+
+#[test]
+fn a_subscriber_that_takes_each_change_does_not_lag(rt: HostRuntime) -> Result<(), Fail> {
+    let mut desk = alone(&rt, rt.alloc(), 1)?;
+    let mut subscription = desk.subscribe(1)?;
+    keeps_up(&rt, rt.alloc(), &mut *desk, &mut subscription)
 }
 
 /// Gives the decision to let in process 2 to the desk of process 1 alone.

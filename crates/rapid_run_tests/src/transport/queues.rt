@@ -48,6 +48,18 @@ fn one_frame_too_many(rt: HostRuntime) -> Result<(), Fail> {
     Ok(())
 }
 
+/// What was taken makes room again: the queue of two takes six frames, and loses none.
+#[test]
+fn a_queue_that_is_emptied_has_room_again(rt: HostRuntime) -> Result<(), Fail> {
+    let (mut queue, mut end) = SenderQueue::new(rt.alloc(), 2)?;
+    for _ in 0..3 {
+        fill(&rt, rt.alloc(), &mut queue, 2)?;
+        assert_eq!(rt; ports(&rt, &mut end), 2);
+    }
+    assert_eq!(rt; queue.losses(), 0);
+    Ok(())
+}
+
 #[test]
 fn frames_that_failed_are_losses(rt: HostRuntime) -> Result<(), Fail> {
     let (mut queue, mut end) = SenderQueue::new(rt.alloc(), 1)?;

@@ -4,11 +4,12 @@ ghost use Rattle.std.specs.Prelude.{◌≡◌, ◌≤◌};
 
 use crate::clerks::books::{alone, joins};
 use crate::clerks::gates::Door;
-use rapid_clerks::{Clerk, Ended, Job};
+use rapid_clerks::{Clerk, DoJob, Ended, Job, TurnJob};
 use rapid_world::WorldEvent::Deliver;
+use rapid_world::{Report, WorldError};
 use std::alloc::Global;
 use std::marker::Brand;
-use std::sync::ledger::{Blank, Ledger};
+use std::sync::ledger::{Blank, Ledger, Share};
 use std::sync::{Mutex, Wait};
 use std::test::*;
 
@@ -57,6 +58,43 @@ fn a_clerk_that_is_not_let_in_says_so(rt: HostRuntime) -> Result<(), Fail> {
     let jobs = [Job::Event(Deliver(1)), Job::Turn, Job::Turn, Job::Turn];
     assert_eq!(rt; told(&rt, rt.alloc(), &door, &jobs)?, (1, 1, Ended::Shut));
     assert_eq!(rt; (door.came(), door.left()), (3, 2));
+    Ok(())
+}
+
+/// What takes no further event.
+#[derive(Clone, Copy, Debug)]
+struct FullBook;
+
+impl<L: Ledger> DoJob<L, TurnJob> for FullBook {
+    fn do_job(&mut self, _share: &mut Share<L>, _job: &TurnJob) -> Result<Vec<Report>, WorldError> {
+        Err(WorldError::EventsFull)
+    }
+}
+
+/// What a clerk of this ledger says of two turns that find no room for an event.
+fn told_when_full<L: Ledger, R: Wait>(
+    rt: &R,
+    alloc: Global,
+    blank: Blank,
+    door: &Door,
+) -> Result<(u64, u64, Ended), Fail>
+    requires name { blank.name ≡ L.name }
+    requires parts { blank.parts ≡ L.parts }
+    requires room { 33 ≤ blank.parts }
+{
+    let (_book, share) = alone::<L>(alloc, blank)?;
+    let mut clerk = Clerk::new(0, share);
+    let done = clerk.run(rt, &Mutex::new(FullBook), door, &[TurnJob, TurnJob]);
+    Ok((done, clerk.passed, clerk.ended))
+}
+
+/// A clerk ends at the first job for which there is no room.
+#[test]
+fn a_clerk_says_that_no_further_event_is_accepted(rt: HostRuntime) -> Result<(), Fail> {
+    let door = Door::until(2);
+    let told = told_when_full::<Brand, HostRuntime>(&rt, rt.alloc(), Blank::new(33), &door)?;
+    assert_eq!(rt; told, (0, 0, Ended::Full));
+    assert_eq!(rt; (door.came(), door.left()), (1, 1));
     Ok(())
 }
 

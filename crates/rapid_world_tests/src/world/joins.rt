@@ -55,12 +55,9 @@ fn events_are_kept_and_refused(rt: HostRuntime) -> Result<(), Fail> {
     Ok(())
 }
 
-/// With memory nothing is skipped but what is refused, of each kind of event.
-#[test]
-fn only_refused_events_are_passed_over(rt: HostRuntime) -> Result<(), Fail> {
-    let mut world = alone(rt.alloc())?;
-    let _joined = world.run(&join());
-    let ran = world.run_counted(&[
+/// Events of each kind, after a join: four of them are refused.
+fn of_each_kind() -> [WorldEvent; 11] {
+    [
         Probe(id(1), 0, false),
         Probe(id(3), 0, false),
         Probe(id(2), 1, true),
@@ -72,7 +69,25 @@ fn only_refused_events_are_passed_over(rt: HostRuntime) -> Result<(), Fail> {
         Crash(id(3)),
         Crash(id(3)),
         Leave(id(3)),
-    ]);
+    ]
+}
+
+/// With memory nothing is skipped but what is refused, of each kind of event.
+#[test]
+fn only_refused_events_are_passed_over(rt: HostRuntime) -> Result<(), Fail> {
+    let mut world = alone(rt.alloc())?;
+    let _joined = world.run(&join());
+    let ran = world.run_counted(&of_each_kind());
     assert_eq!(&rt; (ran.accepted, ran.wanted), (7, 0));
+    Ok(())
+}
+
+/// So too by a run that does not say how often memory ran out.
+#[test]
+fn a_run_skips_only_refused_events(rt: HostRuntime) -> Result<(), Fail> {
+    let mut world = alone(rt.alloc())?;
+    let _joined = world.run(&join());
+    assert_eq!(&rt; world.run(&of_each_kind()), 7);
+    assert_eq!(&rt; world.accepted(), 16);
     Ok(())
 }
