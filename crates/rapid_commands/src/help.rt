@@ -7,8 +7,8 @@ pub(crate) const VERSION: &str = "0.1.0";
 pub(crate) const STATUSES: &str =
     "Status: 0 at the end of the input and after help and the version, 1 if standard input or output
 failed, 2 if the words were refused, 3 if memory ran out. Of node see rapidd node --help.
-Faults go to standard error as error: .., and what a node reports while it goes on as note: .. or
-warning: ..; all else goes to standard output.";
+Faults go to standard error as error: .. . What a node reports while it goes on goes there as
+note: .. or warning: .. . All else goes to standard output.";
 
 /// What `detect --help` says of the lines.
 pub(crate) const DETECT_LINES: &str = "Lines:
@@ -72,8 +72,8 @@ were refused, 3 if memory ran out.";
 /// What `cluster --help` says of what it does.
 pub(crate) const CLUSTER_TURNS: &str =
     "Process 1 is the founder, and the others ask it to let them in. A turn delivers the least packet
-that no turn has delivered or skipped and at whose endpoint a node runs, or if there is none
-lets the clock of the next node tick. At the end it prints
+that no turn has delivered or skipped and at whose endpoint a node runs. If there is none, the
+clock of the next node ticks. At the end it prints
   events E                       how many starts and turns there were
   node N height H members ..     for each member; node N joining for one that has no view
   agree yes|no                   no if two nodes hold different identifiers at one height
@@ -96,9 +96,9 @@ error.
 An ENDPOINT is 127.x.x.x:PORT with a port from 1 to 65535, such as 127.0.0.1:7401. K, H and L are those
 of a cluster that the node founds, 1 <= L <= H <= K <= 16; one that joins takes those of its cluster.
 
-All that a node does by itself it does at its ticks: it asks to be let in, probes those that it observes
-at every tenth tick, reports and votes. With --tick-ms 0, the default, only the lines tick make it tick.
-Such a member neither notices crashes nor takes part in removing them, and may hold up its whole
+A node acts by itself at its ticks alone. It asks to be let in, reports and votes. At every tenth tick
+it probes those that it observes. With --tick-ms 0, the default, only the lines tick make it tick. Such
+a member neither notices crashes nor takes part in removing them, and may hold up its whole
 cluster. For anything but driving nodes by hand give all nodes of a cluster the same number, such as
 --tick-ms 100.
 
