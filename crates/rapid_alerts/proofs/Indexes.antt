@@ -1,21 +1,19 @@
 -- The index of alerts: how its sets go with the sets of the program, and what it says of the joiners.
-use Rattle.std.proofs.Common.{◌≡◌, ℕ, ◌+◌, Bool, true, false, cond, not, ◌&&◌, ◌||◌, List, [], ◌∷◌, ◌++◌, length, map, filter, refl, sym, ap, subst, ◌∙◌, arith, nat_lt}
+use Rattle.std.proofs.Common.{◌≡◌, ℕ, ◌+◌, Bool, true, false, cond, ◌||◌, List, [], ◌∷◌, ◌++◌, length, map, refl, sym, ap, ◌∙◌, arith}
 use Rattle.std.specs.List.{list_any}
 use Rattle.std.specs.declared.cmp.Ordering.{Ordering}
 use Rattle.std.specs.Ordering.{eq_by_cmp}
-use Rattle.std.specs.Cmp.{IsTotalOrder, eq_by_cmp_equiv}
-use Rattle.std.specs.BTreeSet.{insert_key}
+use Rattle.std.specs.Cmp.{IsTotalOrder}
 use Rattle.std.specs.FinSet as set
 use Rattle.std.specs.FinMap.{IsAntisymmetric}
 use Rattle.std.proofs.lemmas.List.Folds.{list_any-append}
 use Rattle.std.proofs.lemmas.List.{map-append}
 use Rattle.rapid_model.specs.Process.{Process, ProcessSet, process_cmp, is_in, same_bytes}
-use Rattle.rapid_model.specs.Alert.{Alert, Kind, Remove, Join, is_remove}
-use Rattle.rapid_model.specs.Reports.{Report, Reports, report_cmp, report_of}
+use Rattle.rapid_model.specs.Alert.{Alert, Remove, Join, is_remove}
+use Rattle.rapid_model.specs.Reports.{Reports, report_of}
 use Rattle.rapid_model.specs.Outbox.{distinct, joiners_in, has_room}
-use Rattle.rapid_model.proofs.Orders.{processes_total, processes_exact, reports_total, reports_exact, tie_decides, same_bytes_decides}
-use Rattle.rapid_model.proofs.InOrder.{any_insert}
-use Rattle.rapid_alerts.specs.Outboxes.{Index, joining, joined, index_of, indexed, has_room as index_has_room}
+use Rattle.rapid_model.proofs.Orders.{processes_total, processes_exact, reports_total, reports_exact, same_bytes_decides}
+use Rattle.rapid_alerts.specs.Outboxes.{Index, joining, index_of, indexed, has_room as index_has_room}
 
 or_false : (b : Bool) → (b || false) ≡ b
 or_false true = refl
@@ -30,31 +28,6 @@ or_comm false false = refl
 -- ---- sets of any keys
 
 module _ {K : Type 0} {R : K → K → Ordering} (o : IsTotalOrder R) (exact : IsAntisymmetric R) where
-  -- the keys after an insert are those of the set with the key
-  pub inserted : (ks : List K) (x : K) → set.from_list {R = R} (insert_key R ks x) ≡ set.insert (set.from_list ks) x
-  inserted ks x =
-      set.same_set o exact _ _ (λ q.
-      set.contains-from_list o (insert_key R ks x) q ∙ any_insert R o ks x q
-      ∙ ap (λ b. eq_by_cmp R q x || b) (sym (set.contains-from_list o ks q))
-      ∙ sym (set.contains-insert o (set.from_list ks) x q))
-
-  -- a new key that was inserted is taken back
-  pub taken_back : (ks ms ns : List K) (x : K) → ms ≡ insert_key R ks x → ((q : K) → list_any (eq_by_cmp R q) ns ≡ cond (eq_by_cmp R x q) false (list_any (eq_by_cmp R q) ms)) → set.contains (set.from_list {R = R} ks) x ≡ false
-      → set.from_list {R = R} ns ≡ set.from_list ks
-  taken_back ks ms ns x is h new =
-      set.same_set o exact _ _ (λ q.
-      set.contains-from_list o ns q ∙ h q ∙ ap (λ l. cond (eq_by_cmp R x q) false (list_any (eq_by_cmp R q) l)) is
-      ∙ ap (cond (eq_by_cmp R x q) false) (any_insert R o ks x q)
-      ∙ lost q
-      ∙ sym (set.contains-from_list o ks q))
-    where
-      lost : (q : K) → cond (eq_by_cmp R x q) false (eq_by_cmp R q x || list_any (eq_by_cmp R q) ks) ≡ list_any (eq_by_cmp R q) ks
-      lost q =
-          elim (eq_by_cmp R x q) as (λ b. eq_by_cmp R x q ≡ b → cond b false (eq_by_cmp R q x || list_any (eq_by_cmp R q) ks) ≡ list_any (eq_by_cmp R q) ks) [
-            | true ↦ λ e. sym new ∙ ap (set.contains (set.from_list {R = R} ks)) ((tie_decides o exact x q).0 e) ∙ set.contains-from_list o ks q
-            | false ↦ λ e. ap (λ b. b || list_any (eq_by_cmp R q) ks) ((eq_by_cmp_equiv o).symm q x ∙ e)
-          ] refl
-
   -- the set of a list with one more at its end
   pub set_of_more : (ks : List K) (x : K) → set.from_list {R = R} (ks ++ x ∷ []) ≡ set.insert (set.from_list ks) x
   set_of_more ks x =
@@ -130,23 +103,3 @@ room_is xs a =
     in_distinct (joining xs) a.subject ∙ sym (set.contains-from_list processes_total (joining xs) a.subject) in
     let many : length (joiners_in xs) ≡ set.len (index_of xs).joiners = sym (length_distinct (joining xs)) in
     rw (there, many) refl
-
--- ---- the sets of the program
-
--- the sets after an alert was added
-pub added_is : (ks ms : List Report) (js ns : List Process) (a : Alert) {i : Index} → ms ≡ insert_key report_cmp ks (report_of a) → ns ≡ joined js a → record { reports = set.from_list ks; joiners = set.from_list js } ≡ i
-    → record { reports = set.from_list ms; joiners = set.from_list ns } ≡ indexed i a
-added_is ks ms js ns a r j is =
-    let reports = ap set.from_list r ∙ inserted reports_total reports_exact ks (report_of a) in
-    let joiners = ap set.from_list j ∙ by_kind (is_remove a.kind) in
-    index_is reports joiners ∙ ap (λ (x : Index). indexed x a) is
-  where
-    by_kind : (b : Bool) → set.from_list {R = process_cmp} (cond b js (insert_key process_cmp js a.subject)) ≡ cond b (set.from_list js) (set.insert (set.from_list js) a.subject)
-    by_kind true = refl
-    by_kind false = inserted processes_total processes_exact js a.subject
-
--- the sets after an alert was taken back
-pub back_is : (ks ms ns : List Report) (js us : List Process) (x : Report) {i : Index} → ms ≡ insert_key report_cmp ks x → ((q : Report) → list_any (eq_by_cmp report_cmp q) ns ≡ cond (eq_by_cmp report_cmp x q) false (list_any (eq_by_cmp report_cmp q) ms))
-    → us ≡ js → set.contains i.reports x ≡ false → record { reports = set.from_list ks; joiners = set.from_list js } ≡ i → record { reports = set.from_list ns; joiners = set.from_list us } ≡ i
-back_is ks ms ns js us x r h j new is =
-    index_is (taken_back reports_total reports_exact ks ms ns x r h (ap (λ (y : Index). set.contains y.reports x) is ∙ new)) (ap set.from_list j) ∙ is

@@ -1,5 +1,5 @@
 -- What is answered to an alert, by the index of those that were raised.
-use Rattle.std.proofs.Common.{◌≡◌, ℕ, zero, suc, ◌+◌, ◌<◌, ◌≤◌, ◌==◌, Bool, true, false, cond, not, ◌&&◌, ◌||◌, List, [], ◌∷◌, ◌++◌, length, map, refl, sym, ap, subst, ◌∙◌, ◌⊎◌, inl, inr, arith, nat_lt, Option, Some, None}
+use Rattle.std.proofs.Common.{◌≡◌, ℕ, zero, suc, ◌<◌, ◌≤◌, ◌==◌, Bool, true, false, cond, not, ◌&&◌, ◌||◌, List, [], ◌∷◌, ◌++◌, map, refl, sym, ap, subst, ◌∙◌, ◌⊎◌, inl, inr, arith, nat_lt, Option, Some, None}
 use Rattle.std.specs.Prelude.{All}
 use Rattle.std.specs.List.{list_any}
 use Rattle.std.specs.Ordering.{eq_by_cmp}
@@ -10,11 +10,11 @@ use Rattle.std.proofs.lemmas.List.Elements.{All-append}
 use Rattle.std.specs.FinSet as set
 use Rattle.rapid_model.specs.Process.{Process, same_bytes}
 use Rattle.rapid_model.specs.Ring.{Observers, observes}
-use Rattle.rapid_model.specs.Alert.{Alert, Kind, Remove, Join, is_remove, same_kind, same_alert, kind_for, kind_fits, is_well_formed}
+use Rattle.rapid_model.specs.Alert.{Alert, Kind, Remove, Join, same_kind, same_alert, kind_for, kind_fits, is_well_formed}
 use Rattle.rapid_model.specs.Reports.{Report, report_cmp, report_of}
 use Rattle.rapid_model.specs.Outbox.{Outbox, Raising, Raised, Already, WrongObserver, WrongKind, OldConfiguration, TooManyJoiners, is_own, has_room, raising, after_raising}
 use Rattle.rapid_model.proofs.Orders.{reports_total, reports_exact, tie_decides, same_bytes_decides}
-use Rattle.rapid_alerts.specs.Outboxes.{OwnedOutbox, Index, index_of, indexed, has_room as index_has_room, answered, verdict, is_sound, refusal, are_once, AreRaised, IsOutbox}
+use Rattle.rapid_alerts.specs.Outboxes.{OwnedOutbox, Index, indexed, has_room as index_has_room, answered, verdict, is_sound, refusal, are_once, IsOutbox}
 use Rattle.rapid_alerts.specs.Refusals.{Refuses, RefusesIfAny}
 use Rattle.rapid_alerts.specs.declared.errors.RaiseError.{RaiseError}
 use Rattle.rapid_alerts.proofs.Indexes.{index_more, room_is}
@@ -218,18 +218,23 @@ pub refused_by : (r : Option Raising) (seen room : Bool) {x : Raising} (e : Rais
 refused_by None seen room e is h = absurd h
 refused_by (Some y) seen room e is h = subst (λ z. Refuses z e) (sym is) h
 
--- an alert that is raised is sound, and was not raised before
+-- an alert that is raised is sound, was not raised before, and there is room for it
 pub raised_parts : (t : Observers) (owner : Process) (o : Outbox) (i : Index) (a : Alert) → IsOutbox t owner o i → raising t owner o a ≡ Raised
-    → (is_sound t owner a ≡ true) × (set.contains i.reports (report_of a) ≡ false)
+    → (is_sound t owner a ≡ true) × (set.contains i.reports (report_of a) ≡ false) × (index_has_room i a ≡ true)
 raised_parts t owner o i a h e =
-    elim (refusal t owner a) as (λ r. refusal t owner a ≡ r → answered r (set.contains i.reports (report_of a)) (index_has_room i a) ≡ Raised → (is_sound t owner a ≡ true) × (set.contains i.reports (report_of a) ≡ false)) [
+    elim (refusal t owner a) as (λ r. refusal t owner a ≡ r → answered r (set.contains i.reports (report_of a)) (index_has_room i a) ≡ Raised → (is_sound t owner a ≡ true) × (set.contains i.reports (report_of a) ≡ false) × (index_has_room i a ≡ true)) [
       | Some x ↦ λ r k. absurd (never x r k)
-      | None ↦ λ r k. (passed_is_sound t owner a r, not_seen (set.contains i.reports (report_of a)) k)
+      | None ↦ λ r k. (passed_is_sound t owner a r, not_seen (set.contains i.reports (report_of a)) k, roomy (set.contains i.reports (report_of a)) (index_has_room i a) k)
     ] refl (sym (raising_is t owner o i a h) ∙ e)
   where
     not_seen : (b : Bool) → cond b Already (cond (not (index_has_room i a)) TooManyJoiners Raised) ≡ Raised → b ≡ false
     not_seen true k = cc
     not_seen false k = refl
+
+    roomy : (b room : Bool) → cond b Already (cond (not room) TooManyJoiners Raised) ≡ Raised → room ≡ true
+    roomy true room k = cc
+    roomy false true k = refl
+    roomy false false k = cc
 
     refuses : (c w k : Bool) → cond (not c) (Some OldConfiguration) (cond (not w) (Some WrongObserver) (cond (not k) (Some WrongKind) None)) ≡ Some Raised → ⊥
     refuses false w k e = cc
@@ -282,6 +287,13 @@ raised_kept t owner o i a h e =
 pub kept_seen : (t : Observers) (owner : Process) (o : Outbox) (i j : Index) (a : Alert) (xs : List Alert) → IsOutbox t owner o i → raising t owner o a ≡ Raised → xs ≡ o.raised ++ a ∷ [] → j ≡ indexed i a
     → IsOutbox t owner (record { raised = xs; flushed = o.flushed }) j
 kept_seen t owner o i j a xs h e r x = rw (r, x) (raised_kept t owner o i a h e)
+
+-- the ring of an alert that is raised is one of sixteen
+pub raised_ring : (t : Observers) (owner : Process) (o : Outbox) (i : Index) (a : Alert) → IsOutbox t owner o i → raising t owner o a ≡ Raised → t.params.k ≤ 16 → a.ring < 16
+raised_ring t owner o i a h e few = within a.ring t.params.k (parts_of t owner a (raised_parts t owner o i a h e).0).ring few
+  where
+    within : (n k : ℕ) → nat_lt n k ≡ true → k ≤ 16 → n < 16
+    within n k l m = grind arith
 
 -- an outbox with its table and owner is seen from inside and outside
 pub raising_along : {T : Type 0} (observers : T → Observers) {v w : OwnedOutbox T} (a : Alert) → v ≡ w → raising (observers v.table) v.owner v.outbox a ≡ raising (observers w.table) w.owner w.outbox a

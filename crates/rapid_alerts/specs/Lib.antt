@@ -1,5 +1,6 @@
 pub mod Alerts
 pub mod Kinds
 pub mod Listing
+pub mod Marks
 pub mod Outboxes
 pub mod Refusals

@@ -2,12 +2,11 @@
 -- Outboxes with their tables and owners, and what they keep to find alerts again.
 use Rattle.std.specs.Prelude.{◌≡◌, ◌≤◌, ℕ, Bool, true, not, ◌&&◌, ◌||◌, nat_lt, List, [], ◌∷◌, length, map, filter, All, if◌then◌else◌, Option, Some, None, refl}
 use Rattle.std.specs.List.{list_any}
-use Rattle.std.specs.BTreeSet.{insert_key}
 use Rattle.std.specs.FinSet as set
-use Rattle.std.specs.Coded.{Coded, code_by, coded×, coded_ℕ, coded_bool, coded_list}
-use Rattle.rapid_model.specs.Process.{Process, ProcessSet, process_cmp, same_bytes}
+use Rattle.std.specs.Coded.{Coded, code_by, coded×, coded_ℕ, coded_list}
+use Rattle.rapid_model.specs.Process.{Process, ProcessSet, same_bytes}
 use Rattle.rapid_model.specs.Ring.{Observers}
-use Rattle.rapid_model.specs.Alert.{Kind, Remove, Join, Alert, is_remove, is_well_formed, kind_fits, same_alert}
+use Rattle.rapid_model.specs.Alert.{Kind, Alert, is_remove, is_well_formed, kind_fits, same_alert}
 use Rattle.rapid_model.specs.Reports.{Reports, report_of}
 use Rattle.rapid_model.specs.Outbox.{Outbox, Raising, Raised, Already, OldConfiguration, WrongObserver, WrongKind, TooManyJoiners, is_own}
 use Rattle.rapid_model.specs.Codes.{bytes_code, processes_code, reports_code}
@@ -36,10 +35,6 @@ joining xs = map (λ a. a.subject) (filter (λ a. not (is_remove a.kind)) xs)
 -- The index of these alerts.
 abbrev pub index_of : List Alert → Index
 index_of xs = record { reports = set.from_list (map report_of xs); joiners = set.from_list (joining xs) }
-
--- The joiners, in order, with that of one more alert.
-abbrev pub joined : List Process → Alert → List Process
-joined js a = if is_remove a.kind then js else insert_key process_cmp js a.subject
 
 -- The index with one more alert.
 abbrev pub indexed : Index → Alert → Index

@@ -1,34 +1,43 @@
 // What finds alerts again.
 
-ghost use Rattle.std.specs.Prelude.{◌≡◌, false, IfOk, OnOk, OnErr};
+ghost use Rattle.std.specs.Prelude.{◌≡◌, ◌<◌, ◌+◌, true, ◌||◌, nat_lt, if◌then◌else◌, IfOk, OnOk, OnErr};
 ghost use Rattle.std.specs.FinSet as set;
+ghost use Rattle.rapid_model.specs.Alert.{is_remove};
 ghost use Rattle.rapid_model.specs.Reports.{report_of};
-ghost use Rattle.rapid_alerts.specs.Alerts.{alert_of};
-ghost use Rattle.rapid_alerts.specs.Outboxes.{empty_index, indexed, joined, has_room};
+ghost use Rattle.rapid_model.specs.Limits.{most_joiners, most_rings};
+ghost use Rattle.rapid_alerts.specs.Alerts.{alert_of, kind_of};
+ghost use Rattle.rapid_alerts.specs.Outboxes.{empty_index, indexed, has_room};
+ghost use Rattle.rapid_alerts.specs.Marks.{IsOn};
 
+use crate::mark::{Marks, has_bit};
 use crate::{Alert, Kind};
 use rapid_config::Cut;
 use rapid_endpoint::Process;
 use std::alloc::{AllocError, Global};
-use std::collections::BTreeSet;
+use std::collections::BTreeMap;
 use std::marker::Model;
 
-/// What alerts report, and the joiners that they are on.
+/// What alerts report, and how many joiners they are on: an entry for each subject.
 #[derive(Debug, Drop)]
 pub(crate) struct Index {
-    reports: BTreeSet<(Process, u8)>,
-    joiners: BTreeSet<Process>,
+    marks: BTreeMap<Process, Marks>,
+    // how many of the subjects are joiners
+    joiners: usize,
 }
 
 impl Model for Index {
+    ghost use Rattle.std.specs.Prelude.{◌≡◌};
     ghost use Rattle.std.specs.FinSet as set;
     ghost use Rattle.rapid_alerts.specs.Outboxes.{Index as ModelIndex, index_code};
+    ghost use Rattle.rapid_alerts.specs.Marks.{index_in, joiners_of};
 
     ghost Value = { ModelIndex };
 
     ghost coded = { index_code };
 
-    ghost view = { λ i. record { reports = set.from_list i.reports.keys; joiners = set.from_list i.joiners.keys } };
+    ghost view = { λ i. index_in i.marks.entries };
+
+    ghost invariant = { λ i. i.joiners ≡ set.len (joiners_of i.marks.entries) };
 }
 
 impl Index {
@@ -37,57 +46,57 @@ impl Index {
         ensures { result ≡ empty_index }
     {
         Index {
-            reports: BTreeSet::new(alloc),
-            joiners: BTreeSet::new(alloc),
+            marks: BTreeMap::new(alloc),
+            joiners: 0,
         }
     }
 
-    /// Whether an alert on this subject and ring is there.
-    pub(crate) fn has(&self, alert: &Alert) -> bool
-        ensures { result ≡ set.contains self.now.reports (report_of (alert_of alert.now)) }
+    /// What is kept of the alerts on a subject.
+    pub(crate) fn on(&self, subject: &Process) -> Marks
+        ensures { IsOn self.now subject.now result }
     {
-        self.reports.contains(&(alert.subject, alert.ring))
+        self.marks.get(subject).copied().unwrap_or(Marks {
+            rings: 0,
+            joins: false,
+        })
     }
 
-    /// Whether an alert that asks to let this process in is there.
-    fn has_joiner(&self, process: &Process) -> bool
-        ensures { result ≡ set.contains self.now.joiners process.now }
+    /// Whether an alert on this subject and ring is there, by the marks of its subject.
+    pub(crate) fn has(&self, alert: &Alert, marks: Marks) -> bool
+        requires { IsOn self.now alert.now.subject marks }
+        ensures { result ≡ set.contains self.now.reports (report_of (alert_of alert.now)) }
     {
-        self.joiners.contains(process)
+        has_bit(marks.rings, alert.ring)
     }
 
     /// How many processes alerts ask to let in.
     fn joiners(&self) -> usize
         ensures { result ≡ set.len self.now.joiners }
     {
-        self.joiners.len()
+        self.joiners
     }
 
-    /// Whether the alert is on no 513th joiner.
-    pub(crate) fn has_room(&self, alert: &Alert) -> bool
+    /// Whether the alert is on no 513th joiner, by the marks of its subject.
+    pub(crate) fn has_room(&self, alert: &Alert, marks: Marks) -> bool
+        requires { IsOn self.now alert.now.subject marks }
         ensures { result ≡ has_room self.now (alert_of alert.now) }
     {
-        match alert.kind {
-            Kind::Remove => true,
-            Kind::Join => self.has_joiner(&alert.subject) || self.joiners() < Cut::MOST_JOINERS,
-        }
+        may_join(alert.kind, marks.joins, self.joiners())
     }
 
-    /// Adds an alert that is not there. If out of memory the index is as it was.
-    pub(crate) fn add(&mut self, alert: &Alert) -> Result<(), AllocError>
-        requires { set.contains self.old.reports (report_of (alert_of alert.now)) ≡ false }
+    /// Adds an alert on a subject that has these marks. If out of memory the index is as it was.
+    pub(crate) fn add(&mut self, alert: &Alert, marks: Marks) -> Result<(), AllocError>
+        requires ring { alert.now.ring < most_rings }
+        requires marks { IsOn self.old alert.now.subject marks }
+        requires room { has_room self.old (alert_of alert.now) ≡ true }
         ensures added { OnOk result (self.new ≡ indexed self.old (alert_of alert.now)) }
         ensures unchanged { OnErr result (self.new ≡ self.old) }
     {
-        let report = (alert.subject, alert.ring);
-        self.reports.insert(report)?;
-        match add_joiner(&mut self.joiners, alert) {
-            Ok(()) => Ok(()),
-            Err(error) => {
-                self.reports.remove(&report);
-                Err(error)
-            }
-        }
+        let now = marks.with(alert.ring, alert.kind);
+        let joiners = counted(alert.kind, marks.joins, self.joiners);
+        self.marks.insert(alert.subject, now)?;
+        self.joiners = joiners;
+        Ok(())
     }
 
     /// An equal index.
@@ -95,22 +104,37 @@ impl Index {
         ensures { IfOk result (λ copy. copy ≡ self.now) }
     {
         Ok(Index {
-            reports: self.reports.clone()?,
-            joiners: self.joiners.clone()?,
+            marks: copied(&self.marks)?,
+            joiners: self.joiners,
         })
     }
 }
 
-/// Adds the subject of an alert that asks to let it in.
-fn add_joiner(joiners: &mut BTreeSet<Process>, alert: &Alert) -> Result<(), AllocError>
-    ensures added { OnOk result (joiners.new.keys ≡ joined joiners.old.keys (alert_of alert.now)) }
-    ensures unchanged { OnErr result (joiners.new.keys ≡ joiners.old.keys) }
+/// The same marks.
+fn copied(marks: &BTreeMap<Process, Marks>) -> Result<BTreeMap<Process, Marks>, AllocError>
+    ensures { IfOk result (λ copy. copy.entries ≡ marks.now.entries) }
 {
-    match alert.kind {
-        Kind::Remove => Ok(()),
-        Kind::Join => {
-            joiners.insert(alert.subject)?;
-            Ok(())
-        }
+    marks.clone()
+}
+
+/// Whether there is room for an alert of this kind: it asks to let nobody in, or one that others
+/// ask for too, or there are fewer than 512 joiners.
+fn may_join(kind: Kind, is_joiner: bool, joiners: usize) -> bool
+    ensures { result ≡ (is_remove (kind_of kind) || is_joiner || nat_lt joiners most_joiners) }
+{
+    match kind {
+        Kind::Remove => true,
+        Kind::Join => is_joiner || joiners < Cut::MOST_JOINERS,
+    }
+}
+
+/// How many joiners there are with one alert more.
+fn counted(kind: Kind, is_joiner: bool, joiners: usize) -> usize
+    requires { (is_remove (kind_of kind) || is_joiner || nat_lt joiners most_joiners) ≡ true }
+    ensures { result ≡ (if is_remove (kind_of kind) || is_joiner then joiners else joiners + 1) }
+{
+    match kind {
+        Kind::Remove => joiners,
+        Kind::Join => { if is_joiner { joiners } else { joiners + 1 } }
     }
 }

@@ -8,6 +8,7 @@ mod batch;
 mod errors;
 mod index;
 mod list;
+mod mark;
 mod outbox;
 
 pub use alert::{Alert, Kind};

@@ -1,14 +1,16 @@
 // The outbox of one observer.
 
-ghost use Rattle.std.specs.Prelude.{◌≡◌, ◌≤◌, ◌+◌, length, take, drop, map, vec_len, OnOk, OnErr, IfOk, IfErr};
+ghost use Rattle.std.specs.Prelude.{◌≡◌, ◌≤◌, ◌+◌, length, take, drop, map, vec_len, OnOk, OnErr, IfOk, IfErr, IfSome};
 ghost use Rattle.rapid_model.specs.Outbox as model;
 ghost use Rattle.rapid_model.specs.Alert.{kind_fits as fits};
 ghost use Rattle.rapid_model.specs.Batch.{batch_of};
 ghost use Rattle.rapid_alerts.specs.Alerts.{alert_of, alerts_in};
-ghost use Rattle.rapid_alerts.specs.Outboxes.{AreRaised, refusal, verdict};
+ghost use Rattle.rapid_alerts.specs.Outboxes.{AreRaised, index_of, refusal, verdict};
+ghost use Rattle.rapid_alerts.specs.Marks.{IsOn, answer_on};
 ghost use Rattle.rapid_alerts.specs.Refusals.{Refuses, RefusesIfAny, answer_of};
 
 use crate::index::Index;
+use crate::mark::Marks;
 use crate::{Alert, AlertList, Batch, Kind, RaiseError};
 use rapid_endpoint::Process;
 use rapid_rings::ObserverTable;
@@ -58,23 +60,26 @@ fn kind_fits<T: ObserverTable>(table: &T, alert: &Alert) -> bool
     }
 }
 
-/// What is answered to an alert after those of an index.
+/// What is answered to an alert after those of an index: the marks of its subject if it is to be
+/// raised, and none if it was raised before.
 fn verdict_of<T: ObserverTable>(
     table: &T,
     owner: &Process,
     index: &Index,
     alert: &Alert,
-) -> Result<Raising, RaiseError>
-    ensures answer { IfOk result (λ raising. verdict (T.observers table.now) owner.now index.now (alert_of alert.now) ≡ answer_of raising) }
+) -> Result<Option<Marks>, RaiseError>
+    ensures answer { IfOk result (λ found. verdict (T.observers table.now) owner.now index.now (alert_of alert.now) ≡ answer_on found) }
+    ensures marks { IfOk result (λ found. IfSome found (IsOn index.now alert.now.subject)) }
     ensures refused { IfErr result (Refuses (verdict (T.observers table.now) owner.now index.now (alert_of alert.now))) }
 {
     match refusal_of(table, owner, alert) {
         Some(error) => Err(error),
         None => {
-            if index.has(alert) {
-                Ok(Raising::Already)
-            } else if index.has_room(alert) {
-                Ok(Raising::Raised)
+            let marks = index.on(&alert.subject);
+            if index.has(alert, marks) {
+                Ok(None)
+            } else if index.has_room(alert, marks) {
+                Ok(Some(marks))
             } else {
                 Err(RaiseError::TooManyJoiners)
             }
@@ -147,32 +152,38 @@ impl<T: ObserverTable> Outbox<T> {
         ensures owner { self.new.owner ≡ self.old.owner }
     {
         match self.judge(&alert)? {
-            Raising::Already => Ok(Raising::Already),
-            Raising::Raised => {
-                self.keep(alert)?;
+            None => Ok(Raising::Already),
+            Some(marks) => {
+                self.keep(alert, marks)?;
                 Ok(Raising::Raised)
             }
         }
     }
 
-    /// What is answered to an alert if there is memory.
-    fn judge(&self, alert: &Alert) -> Result<Raising, RaiseError>
-        ensures answer { IfOk result (λ raising. model.raising (T.observers self.now.table) self.now.owner self.now.outbox (alert_of alert.now) ≡ answer_of raising) }
+    /// What is answered to an alert if there is memory: the marks of its subject if it is to be
+    /// raised, and none if it was raised before.
+    fn judge(&self, alert: &Alert) -> Result<Option<Marks>, RaiseError>
+        ensures answer { IfOk result (λ found. model.raising (T.observers self.now.table) self.now.owner self.now.outbox (alert_of alert.now) ≡ answer_on found) }
+        ensures marks { IfOk result (λ found. IfSome found (IsOn (index_of self.now.outbox.raised) alert.now.subject)) }
         ensures refused { IfErr result (Refuses (model.raising (T.observers self.now.table) self.now.owner self.now.outbox (alert_of alert.now))) }
     {
         verdict_of(&self.table, &self.owner, &self.index, alert)
     }
 
-    /// Keeps an alert that is to be raised. If out of memory the outbox is as it was.
-    fn keep(&mut self, alert: Alert) -> Result<(), AllocError>
-        requires { model.raising (T.observers self.old.table) self.old.owner self.old.outbox (alert_of alert) ≡ model.Raised }
+    /// Keeps an alert that is to be raised, on a subject of these marks. If out of memory the
+    /// outbox is as it was.
+    fn keep(&mut self, alert: Alert, marks: Marks) -> Result<(), AllocError>
+        requires raised { model.raising (T.observers self.old.table) self.old.owner self.old.outbox (alert_of alert) ≡ model.Raised }
+        requires marks { IsOn (index_of self.old.outbox.raised) alert.subject marks }
         ensures kept { OnOk result (self.new.outbox ≡ model.after_raising model.Raised self.old.outbox (alert_of alert)) }
         ensures unchanged { OnErr result (self.new ≡ self.old) }
         ensures table { self.new.table ≡ self.old.table }
         ensures owner { self.new.owner ≡ self.old.owner }
     {
+        // where it is told that there are at most sixteen rings
+        let _ = self.table.params();
         self.raised.push(&alert.subject, alert.ring, alert.kind)?;
-        match self.index.add(&alert) {
+        match self.index.add(&alert, marks) {
             Ok(()) => Ok(()),
             Err(error) => {
                 self.raised.pop();

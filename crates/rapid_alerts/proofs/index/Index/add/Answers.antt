@@ -1,13 +1,22 @@
-use Rattle.std.proofs.Common.{◌≡◌}
-use Rattle.rapid_model.specs.Reports.{report_of}
+use Rattle.std.proofs.Common.{ap, ◌∙◌}
+use Rattle.std.specs.FinSet as set
 use Rattle.rapid_alerts.specs.Alerts.{alert_of}
-use Rattle.rapid_alerts.proofs.Indexes.{added_is, back_is}
+use Rattle.rapid_alerts.specs.Outboxes.{Index}
+use Rattle.rapid_alerts.proofs.Marks.{added_is, added_counted, room_by}
 use Rattle.rapid_alerts.proofs.index.Index.add.Goals as goal
 
-pub returns-in-Ok-clause-added : goal.returns-in-Ok-clause-added
-returns-in-Ok-clause-added c =
-    added_is c.self.inside.reports.keys c.insert.new.self.keys c.self.inside.joiners.keys c.add_joiner.new.joiners.keys (alert_of c.args.alert.now) c.in_ok-insert.ensures.keys c.in-Ok.ensures.added c.self.view_is
+pub counted-joiners-requires : goal.counted-joiners-requires
+counted-joiners-requires c =
+    room_by c.args.self.now (alert_of c.args.alert.now) c.args.marks c.self.inside.joiners c.requires.marks (c.self.invariant ∙ ap (λ (i : Index). set.len i.joiners) c.self.view_is)
+    ∙ c.requires.room
 
-pub returns-in-Err-clause-unchanged : goal.returns-in-Err-clause-unchanged
-returns-in-Err-clause-unchanged c =
-    back_is c.self.inside.reports.keys c.insert.new.self.keys c.remove.new.self.keys c.self.inside.joiners.keys c.add_joiner.new.joiners.keys (report_of (alert_of c.args.alert.now)) c.in_ok-insert.ensures.keys (λ q. c.remove.ensures.updates.0 q) c.in-Err.ensures.unchanged c.requires c.self.view_is
+pub invariant_of-self-2 : goal.invariant_of-self-2
+invariant_of-self-2 c =
+    c.counted-joiners.ensures
+    ∙ added_counted c.self.inside.marks.entries c.insert.new.self.entries (alert_of c.args.alert.now) c.args.marks c.with-now.result c.self.inside.joiners (λ q. c.in_ok-insert.ensures.updates.0 q)
+    (record { rings = c.with-now.ensures.rings; joins = c.with-now.ensures.joins }) c.requires.marks c.self.view_is c.self.invariant
+
+pub returns-clause-added : goal.returns-clause-added
+returns-clause-added c =
+    added_is c.self.inside.marks.entries c.insert.new.self.entries (alert_of c.args.alert.now) c.args.marks c.with-now.result (λ q. c.in_ok-insert.ensures.updates.0 q)
+    (record { rings = c.with-now.ensures.rings; joins = c.with-now.ensures.joins }) c.requires.marks c.self.view_is

@@ -1,17 +1,31 @@
-use Rattle.std.proofs.Common.{[], ◌∷◌, ◌++◌, List, ap, sym, ◌∙◌}
+use Rattle.std.proofs.Common.{[], ◌∷◌, ◌++◌, List, ap, sym, subst, ◌∙◌}
 use Rattle.rapid_model.specs.Alert.{Alert}
 use Rattle.rapid_model.specs.Outbox.{Outbox}
 use Rattle.rapid_alerts.specs.Alerts.{ListedAlerts, alert_of, alerts_in}
+use Rattle.rapid_alerts.specs.Outboxes.{Index, index_of}
+use Rattle.rapid_alerts.specs.Marks.{IsOn}
 use Rattle.rapid_alerts.proofs.Listing.{listed_more}
-use Rattle.rapid_alerts.proofs.Raisings.{raised_parts, parts_of, kept_seen, raising_along, outbox_along}
+use Rattle.rapid_alerts.proofs.Raisings.{raised_parts, raised_ring, parts_of, kept_seen, raising_along, outbox_along}
 use Rattle.rapid_alerts.proofs.outbox.Outbox.keep.Goals as goal
 
-pub add-requires : goal.add-requires
-add-requires g c =
+pub add-requires-clause-ring : goal.add-requires-clause-ring
+add-requires-clause-ring g c =
     let observers = g.T.ObserverTable.observers in
     let a = alert_of c.args.alert in
     let o : Outbox = record { raised = alerts_in c.self.inside.raised; flushed = c.self.inside.flushed } in
-    (raised_parts (observers c.self.inside.table) c.self.inside.owner o c.self.inside.index a c.self.invariant.0 (raising_along observers a c.self.view_is ∙ c.requires)).1
+    raised_ring (observers c.self.inside.table) c.self.inside.owner o c.self.inside.index a c.self.invariant.0 (raising_along observers a c.self.view_is ∙ c.requires.raised) c.params.ensures.rules.params.few
+
+pub add-requires-clause-marks : goal.add-requires-clause-marks
+add-requires-clause-marks g c =
+    subst (λ (i : Index). IsOn i c.args.alert.subject c.args.marks)
+    (sym (c.self.invariant.0.index ∙ ap (λ (x : Outbox). index_of x.raised) (outbox_along c.self.view_is))) c.requires.marks
+
+pub add-requires-clause-room : goal.add-requires-clause-room
+add-requires-clause-room g c =
+    let observers = g.T.ObserverTable.observers in
+    let a = alert_of c.args.alert in
+    let o : Outbox = record { raised = alerts_in c.self.inside.raised; flushed = c.self.inside.flushed } in
+    (raised_parts (observers c.self.inside.table) c.self.inside.owner o c.self.inside.index a c.self.invariant.0 (raising_along observers a c.self.view_is ∙ c.requires.raised)).2
 
 pub invariant_of-self-in-Ok : goal.invariant_of-self-in-Ok
 invariant_of-self-in-Ok g c =
@@ -19,7 +33,7 @@ invariant_of-self-in-Ok g c =
     let t = observers c.self.inside.table in
     let a = alert_of c.args.alert in
     let o : Outbox = record { raised = alerts_in c.self.inside.raised; flushed = c.self.inside.flushed } in
-    let raised = raising_along observers a c.self.view_is ∙ c.requires in
+    let raised = raising_along observers a c.self.view_is ∙ c.requires.raised in
     let parts = parts_of t c.self.inside.owner a (raised_parts t c.self.inside.owner o c.self.inside.index a c.self.invariant.0 raised).0 in
     let pushed = c.in_ok-push.ensures.pushed in (
       kept_seen t c.self.inside.owner o c.self.inside.index c.add.new.self a (alerts_in c.push.new.self) c.self.invariant.0 raised
@@ -35,7 +49,7 @@ returns-in-Ok-clause-kept g c =
     let t = observers c.self.inside.table in
     let a = alert_of c.args.alert in
     let o : Outbox = record { raised = alerts_in c.self.inside.raised; flushed = c.self.inside.flushed } in
-    let raised = raising_along observers a c.self.view_is ∙ c.requires in
+    let raised = raising_along observers a c.self.view_is ∙ c.requires.raised in
     let parts = parts_of t c.self.inside.owner a (raised_parts t c.self.inside.owner o c.self.inside.index a c.self.invariant.0 raised).0 in
     ap (λ (xs : List Alert). let p : Outbox = record { raised = xs; flushed = c.self.inside.flushed } in p)
     (listed_more c.self.inside.raised c.push.new.self a c.in_ok-push.ensures.pushed (parts.observer ∙ sym c.self.invariant.1) (parts.config ∙ sym c.self.invariant.2))

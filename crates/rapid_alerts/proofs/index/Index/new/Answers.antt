@@ -1,0 +1,8 @@
+use Rattle.rapid_alerts.proofs.Marks.{none_in, none_counted}
+use Rattle.rapid_alerts.proofs.index.Index.new.Goals as goal
+
+pub invariant_of-result : goal.invariant_of-result
+invariant_of-result c = none_counted c.new.result.entries c.new.ensures.empty
+
+pub returns : goal.returns
+returns c = none_in c.new.result.entries c.new.ensures.empty
