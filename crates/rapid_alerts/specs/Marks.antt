@@ -19,7 +19,7 @@ has_ring mask k = nat_lt k most_rings && bit_at mask k == 1
 
 -- What is kept of a subject without alerts.
 abbrev pub no_marks : Marks
-no_marks = record { rings = 0; joins = false }
+no_marks = record { rings = 0; place = 65535; joins = false }
 
 -- What is kept of the alerts on a subject.
 abbrev pub marks_of : List (Process × Marks) → Process → Marks

@@ -55,10 +55,7 @@ impl Index {
     pub(crate) fn on(&self, subject: &Process) -> Marks
         ensures { IsOn self.now subject.now result }
     {
-        self.marks.get(subject).copied().unwrap_or(Marks {
-            rings: 0,
-            joins: false,
-        })
+        self.marks.get(subject).copied().unwrap_or(Marks::NONE)
     }
 
     /// Whether an alert on this subject and ring is there, by the marks of its subject.
@@ -84,15 +81,16 @@ impl Index {
         may_join(alert.kind, marks.joins, self.joiners())
     }
 
-    /// Adds an alert on a subject that has these marks. If out of memory the index is as it was.
-    pub(crate) fn add(&mut self, alert: &Alert, marks: Marks) -> Result<(), AllocError>
+    /// Adds an alert on a subject that has these marks and stands at this place in the list of
+    /// alerts. If out of memory the index is as it was.
+    pub(crate) fn add(&mut self, alert: &Alert, marks: Marks, place: u16) -> Result<(), AllocError>
         requires ring { alert.now.ring < most_rings }
         requires marks { IsOn self.old alert.now.subject marks }
         requires room { has_room self.old (alert_of alert.now) ≡ true }
         ensures added { OnOk result (self.new ≡ indexed self.old (alert_of alert.now)) }
         ensures unchanged { OnErr result (self.new ≡ self.old) }
     {
-        let now = marks.with(alert.ring, alert.kind);
+        let now = marks.with(alert.ring, alert.kind, place);
         let joiners = counted(alert.kind, marks.joins, self.joiners);
         self.marks.insert(alert.subject, now)?;
         self.joiners = joiners;

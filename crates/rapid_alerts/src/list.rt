@@ -1,8 +1,9 @@
 // Lists of alerts in which each names its subject by a place.
 
-ghost use Rattle.std.specs.Prelude.{◌≡◌, ◌<◌, ◌≤◌, ◌+◌, ◌++◌, ◌∷◌, true, [], Some, List, slice_get, length, take, drop, IfOk, IfSome, OnOk, OnErr};
+ghost use Rattle.std.specs.Prelude.{◌≡◌, ◌<◌, ◌≤◌, ◌+◌, ◌++◌, ◌∷◌, true, [], Some, List, slice_get, length, take, drop, nat_lt, IfOk, IfSome, OnOk, OnErr};
+ghost use Rattle.std.specs.List.{list_all};
 ghost use Rattle.rapid_model.specs.Message.{AlertItem, item_of};
-ghost use Rattle.rapid_alerts.specs.Alerts.{alert_of, alerts_in, kind_of};
+ghost use Rattle.rapid_alerts.specs.Alerts.{ArePlaced, alert_of, alerts_in, kind_of};
 ghost use Rattle.rapid_alerts.specs.Listing.{Grows};
 
 use crate::{Alert, Kind};
@@ -86,6 +87,31 @@ fn place_for(subjects: &mut Vec<Process>, near: u16, subject: &Process) -> Resul
     }
 }
 
+/// Whether the alert is on a subject before the last of this many.
+fn stands_before(item: &Item, count: usize) -> bool
+    ensures { result ≡ nat_lt (item.now.place + 1) count }
+{
+    usize::from(item.place) + 1 < count
+}
+
+/// Whether each of these alerts is on a subject before the last of this many.
+fn all_stand_before(items: &[Item], count: usize) -> bool
+    ensures { result ≡ list_all (λ item. nat_lt (item.place + 1) count) items.now }
+{
+    items.iter().all(|item| stands_before(item, count))
+}
+
+/// Takes the last subject out if no alert is on it. It takes no memory.
+fn trim(subjects: &mut Vec<Process>, items: &[Item])
+    requires { ArePlaced subjects.old.items items.now }
+    ensures placed { ArePlaced subjects.new.items items.now }
+    ensures grows { Grows subjects.new.items subjects.old.items }
+{
+    if all_stand_before(items, subjects.len()) {
+        let _ = subjects.pop();
+    }
+}
+
 impl AlertList {
     /// No alerts of this observer and this configuration.
     pub fn new(alloc: Global, observer: Process, config: ConfigId) -> AlertList
@@ -113,14 +139,42 @@ impl AlertList {
         ensures pushed { OnOk result (self.new ≡ record self.old { items = self.old.items ++ (record { ring = ring; kind = kind_of kind; subject = subject.now }) ∷ [] }) }
         ensures unchanged { OnErr result (self.new ≡ self.old) }
     {
-        let near = self.last_place();
+        self.push_near(self.last_place(), subject, ring, kind)?;
+        Ok(())
+    }
+
+    /// Adds an alert at the end, and says at which place its subject stands: at this place or the
+    /// next one, or else behind all others. If it is refused the list is as it was.
+    pub(crate) fn push_near(
+        &mut self,
+        near: u16,
+        subject: &Process,
+        ring: u8,
+        kind: Kind,
+    ) -> Result<u16, AllocError>
+        ensures pushed { OnOk result (self.new ≡ record self.old { items = self.old.items ++ (record { ring = ring; kind = kind_of kind; subject = subject.now }) ∷ [] }) }
+        ensures unchanged { OnErr result (self.new ≡ self.old) }
+    {
         let place = place_for(&mut self.subjects, near, subject)?;
         if place >= MOST_SUBJECTS {
+            self.forget_unused();
             return Err(AllocError);
         }
         let place = place as u16;
-        self.items.push(Item { place, ring, kind })?;
-        Ok(())
+        match self.items.push(Item { place, ring, kind }) {
+            Ok(()) => Ok(place),
+            Err(_refused) => {
+                self.forget_unused();
+                Err(AllocError)
+            }
+        }
+    }
+
+    /// Takes the last subject out if no alert is on it.
+    fn forget_unused(&mut self)
+        ensures { self.new ≡ self.old }
+    {
+        trim(&mut self.subjects, self.items.as_slice());
     }
 
     /// Takes the last alert back.
@@ -128,6 +182,7 @@ impl AlertList {
         ensures { (xs : List AlertItem) (x : AlertItem) → self.old.items ≡ xs ++ x ∷ [] → self.new ≡ record self.old { items = xs } }
     {
         let _ = self.items.pop();
+        self.forget_unused();
     }
 
     /// How many alerts there are.

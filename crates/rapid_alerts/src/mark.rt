@@ -13,19 +13,29 @@ use crate::Kind;
 pub(crate) struct Marks {
     /// The rings that they are for, a bit each.
     pub(crate) rings: u16,
+    /// Where the subject stands in the list of alerts.
+    pub(crate) place: u16,
     /// Whether one of them asks to let the subject in.
     pub(crate) joins: bool,
 }
 
 impl Marks {
-    /// The marks with those of one alert more.
-    pub(crate) fn with(self, ring: u8, kind: Kind) -> Marks
+    /// The marks of a subject without alerts. Nobody stands at its place: subjects are fewer.
+    pub(crate) const NONE: Marks = Marks {
+        rings: 0,
+        place: u16::MAX,
+        joins: false,
+    };
+
+    /// The marks with those of one alert more, whose subject stands at this place.
+    pub(crate) fn with(self, ring: u8, kind: Kind, place: u16) -> Marks
         requires { ring < most_rings }
         ensures rings { (k : ℕ) → has_ring result.rings k ≡ (has_ring self.rings k || k == ring) }
         ensures joins { result.joins ≡ (self.joins || not (is_remove (kind_of kind))) }
     {
         Marks {
             rings: with_bit(self.rings, ring),
+            place,
             joins: self.joins || lets_in(kind),
         }
     }

@@ -182,8 +182,10 @@ impl<T: ObserverTable> Outbox<T> {
     {
         // where it is told that there are at most sixteen rings
         let _ = self.table.params();
-        self.raised.push(&alert.subject, alert.ring, alert.kind)?;
-        match self.index.add(&alert, marks) {
+        let place = self
+            .raised
+            .push_near(marks.place, &alert.subject, alert.ring, alert.kind)?;
+        match self.index.add(&alert, marks, place) {
             Ok(()) => Ok(()),
             Err(error) => {
                 self.raised.pop();

@@ -35,9 +35,9 @@ invariant_of-self-in-Ok g c =
     let o : Outbox = record { raised = alerts_in c.self.inside.raised; flushed = c.self.inside.flushed } in
     let raised = raising_along observers a c.self.view_is ∙ c.requires.raised in
     let parts = parts_of t c.self.inside.owner a (raised_parts t c.self.inside.owner o c.self.inside.index a c.self.invariant.0 raised).0 in
-    let pushed = c.in_ok-push.ensures.pushed in (
-      kept_seen t c.self.inside.owner o c.self.inside.index c.add.new.self a (alerts_in c.push.new.self) c.self.invariant.0 raised
-          (listed_more c.self.inside.raised c.push.new.self a pushed (parts.observer ∙ sym c.self.invariant.1) (parts.config ∙ sym c.self.invariant.2))
+    let pushed = c.in_ok-place.ensures.pushed in (
+      kept_seen t c.self.inside.owner o c.self.inside.index c.add.new.self a (alerts_in c.push_near.new.self) c.self.invariant.0 raised
+          (listed_more c.self.inside.raised c.push_near.new.self a pushed (parts.observer ∙ sym c.self.invariant.1) (parts.config ∙ sym c.self.invariant.2))
           c.in-Ok.ensures.added,
       ap (λ (l : ListedAlerts). l.observer) pushed ∙ c.self.invariant.1,
       ap (λ (l : ListedAlerts). l.config) pushed ∙ c.self.invariant.2,
@@ -52,5 +52,5 @@ returns-in-Ok-clause-kept g c =
     let raised = raising_along observers a c.self.view_is ∙ c.requires.raised in
     let parts = parts_of t c.self.inside.owner a (raised_parts t c.self.inside.owner o c.self.inside.index a c.self.invariant.0 raised).0 in
     ap (λ (xs : List Alert). let p : Outbox = record { raised = xs; flushed = c.self.inside.flushed } in p)
-    (listed_more c.self.inside.raised c.push.new.self a c.in_ok-push.ensures.pushed (parts.observer ∙ sym c.self.invariant.1) (parts.config ∙ sym c.self.invariant.2))
+    (listed_more c.self.inside.raised c.push_near.new.self a c.in_ok-place.ensures.pushed (parts.observer ∙ sym c.self.invariant.1) (parts.config ∙ sym c.self.invariant.2))
     ∙ ap (λ (x : Outbox). let p : Outbox = record { raised = x.raised ++ a ∷ []; flushed = x.flushed } in p) (outbox_along c.self.view_is)
