@@ -15,7 +15,7 @@ use Rattle.rapid_desk.specs.declared.notice.Loss.TheVariants.{Full}
 use Rattle.rapid_desk.specs.declared.notice.State.{State}
 use Rattle.rapid_desk.specs.declared.notice.State.TheVariants.{Open, Lagged, Closed}
 use Rattle.rapid_desk.specs.Notices.{Served, with_notice, state_of, height_from, IsNextFrom, IsLost, OfferedIn, Offered, EndedIn, Ended}
-use Rattle.rapid_desk.specs.Desks.{shown_height, IsNextShown, Follow, Await, AreMarked, Announced, Grown, Shown, NotPublished, with_known}
+use Rattle.rapid_desk.specs.Desks.{shown_height, IsNextShown, Follow, Await, AreMarked, Announced, Shown, NotPublished, queues_of, with_known}
 use Rattle.rapid_desk.proofs.Marks.{state_of_more, height_more}
 use Rattle.rapid_desk.proofs.Each.{Partly}
 
@@ -175,6 +175,42 @@ pub follow_in : (b : Bool) (p n m : Node) (published published1 : List Stamp) (o
     → Follow (shown_height published1) new
 follow_in b p n m published published1 old new shown is same f told =
     follow_announced (has_installed p m) (configuration_of m) published published1 old new shown f (subst (λ x. Announced (has_installed p m) (configuration_of x) old new) same (subst (λ x. Announced x (configuration_of n) old new) is told))
+
+-- ---- the queues stay
+
+offered_queue : (c : Configuration) (x y : Served) (st : State) → OfferedIn st c x y → y.queue ≡ x.queue
+offered_queue c x y Open (inl new) = ap (λ (s : Served). s.queue) new.0
+offered_queue c x y Open (inr lost) = ap (λ (s : Served). s.queue) lost.1
+offered_queue c x y Lagged same = ap (λ (s : Served). s.queue) same
+offered_queue c x y Closed same = ap (λ (s : Served). s.queue) same
+
+queues_offered : (c : Configuration) (old new : List Served) → AllZip (Offered c) old new → queues_of new ≡ queues_of old
+queues_offered c [] [] p = refl
+queues_offered c [] (y ∷ ys) p = absurd p
+queues_offered c (x ∷ xs) [] p = absurd p
+queues_offered c (x ∷ xs) (y ∷ ys) p =
+    let one = offered_queue c x y (state_of x.put) p.0 in
+    let rest = queues_offered c xs ys p.1 in
+    λ i. one i ∷ rest i
+
+pub queues_announced : (installed : Bool) (shown : Option Configuration) (old new : List Served) → Announced installed shown old new → queues_of new ≡ queues_of old
+queues_announced true None old new same = ap queues_of same
+queues_announced true (Some c) old new all = queues_offered c old new all
+queues_announced false shown old new same = ap queues_of same
+
+ended_queue : (x y : Served) (st : State) → EndedIn st x y → y.queue ≡ x.queue
+ended_queue x y Open new = ap (λ (s : Served). s.queue) new
+ended_queue x y Lagged same = ap (λ (s : Served). s.queue) same
+ended_queue x y Closed same = ap (λ (s : Served). s.queue) same
+
+pub queues_ended : (old new : List Served) → AllZip Ended old new → queues_of new ≡ queues_of old
+queues_ended [] [] p = refl
+queues_ended [] (y ∷ ys) p = absurd p
+queues_ended (x ∷ xs) [] p = absurd p
+queues_ended (x ∷ xs) (y ∷ ys) p =
+    let one = ended_queue x y (state_of x.put) p.0 in
+    let rest = queues_ended xs ys p.1 in
+    λ i. one i ∷ rest i
 
 -- ---- the end
 

@@ -10,7 +10,7 @@ use Rattle.rapid_node.specs.Steps.{IsFault}
 use Rattle.rapid_node.specs.declared.fault.NodeFault.{NodeFault}
 use Rattle.rapid_node.specs.declared.fault.NodeFault.TheVariants as fault
 use Rattle.rapid_desk.specs.Records.{added_by}
-use Rattle.rapid_desk.specs.States.{DeskState, IsLive, HasEnded, IsDesk, is_journal_full, at_checkpoint}
+use Rattle.rapid_desk.specs.States.{DeskState, IsLive, IsDesk, is_journal_full, at_checkpoint}
 use Rattle.rapid_desk.specs.Desks.{HeldValue, state_with, seed_state, joiner_state, no_installs_in, JoinsEmpty, Keeps}
 use Rattle.rapid_desk.proofs.Ticking.{is_below, not_below, event_length}
 use Rattle.rapid_desk.proofs.Moving.{Enters, went, enters_shows}

@@ -8,7 +8,7 @@ use Rattle.rapid_model.specs.Apply.{apply}
 use Rattle.rapid_model.specs.Joiner.{Joiner}
 use Rattle.rapid_model.specs.Message.{Message, Body, Batch, FastVote, Prepare, Promise, Accept, Accepted, Decision, PreJoin, Reply, JoinRequest, Confirm, Probe, ProbeAck}
 use Rattle.rapid_model.specs.Message as message
-use Rattle.rapid_model.specs.Node.{Node, Decisions, MemberState, Phase, Joining, Member, Removed, Halted, Event, EdgeDown, Tick, Receive, Leave, Says, To, Outcome, configuration_of, seed_node, joiner_node, fresh_member}
+use Rattle.rapid_model.specs.Node.{Node, Decisions, MemberState, Phase, Joining, Member, Removed, Halted, Event, EdgeDown, Tick, Receive, Leave, Says, To, Outcome, configuration_of, seed_node, fresh_member}
 use Rattle.rapid_model.specs.Member.{Work, still, after_effects, current_id}
 use Rattle.rapid_model.specs.Tick.{on_tick}
 use Rattle.rapid_model.specs.Receive.{take, is_about, receive_as_member, receive_as_joiner, joins_on, sends, catch_up}

@@ -1,7 +1,8 @@
 -- Clauses of public calls cite this file.
 -- What contracts see of a desk, and of its steps.
-use Rattle.std.specs.Prelude.{◌≡◌, ◌≢◌, ◌⊎◌, ℕ, ◌+◌, ◌≤◌, ◌<◌, ◌||◌, Bool, true, false, List, [], ◌∷◌, ◌++◌, length, Option, Some, None, MatchOption}
+use Rattle.std.specs.Prelude.{◌≡◌, ◌≢◌, ◌⊎◌, ℕ, ◌+◌, ◌≤◌, ◌<◌, ◌||◌, Bool, true, false, List, [], ◌∷◌, ◌++◌, length, map, Option, Some, None, MatchOption}
 use Rattle.std.specs.List.{AllZip}
+use Rattle.atomic_table.specs.Seated.{TableId}
 use Rattle.rapid_model.specs.Process.{Process}
 use Rattle.rapid_model.specs.Configuration.{Configuration, Stamp, stamp}
 use Rattle.rapid_model.specs.Node as model
@@ -24,22 +25,33 @@ abbrev pub seen_by : Option Publishing → List Stamp
 seen_by None = []
 seen_by (Some w) = w.seen
 
+-- The cell that a writer writes, none if there is no writer yet.
+abbrev pub cell_of : Option Publishing → Option TableId
+cell_of None = None
+cell_of (Some w) = Some w.cell
+
 -- Nothing is published yet.
 abbrev pub is_blank : List Stamp → Bool
 is_blank [] = true
 is_blank (s ∷ stamps) = false
 
--- What a desk has published, whether its seats are still to be taken, and how many they are.
+-- What a desk has published, whether its seats are still to be taken, how many they are, and the cell of what it
+-- publishes.
 pub record BoardValue : Type 0 where
   pub published : List Stamp
   pub seats : Bool
   pub count : ℕ
+  -- none until something is published
+  pub cell : Option TableId
 
--- A desk: what it holds of its node, whether its seats are still to be taken, how many they are, and whom it serves.
+-- A desk: what it holds of its node, whether its seats are still to be taken, how many they are, the cell of what it
+-- publishes, and whom it serves.
 pub record DeskValue : Type 0 where
   pub state : DeskState
   pub seats : Bool
   pub count : ℕ
+  -- none until something is published
+  pub cell : Option TableId
   -- the subscriptions that it serves, by age
   pub subscriptions : List Served
 
@@ -48,6 +60,10 @@ abbrev pub Announced : Bool → Option Configuration → List Served → List Se
 Announced true (Some c) old new = AllZip (Offered c) old new
 Announced true None old new = new ≡ old
 Announced false shown old new = new ≡ old
+
+-- The queues of subscriptions, in order.
+abbrev pub queues_of : List Served → List TableId
+queues_of subscriptions = map (λ (s : Served). s.queue) subscriptions
 
 -- The height of the last view that is published, if there is one.
 abbrev pub shown_height : List Stamp → Option ℕ

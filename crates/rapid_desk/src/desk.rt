@@ -1,6 +1,6 @@
 // A desk: a node, its journal and its published views.
 
-ghost use Rattle.std.specs.Prelude.{◌≡◌, ◌⊎◌, ◌<◌, ◌≤◌, true, ◌++◌, ◌∷◌, ◌||◌, ◌&&◌, not, [], false, All, length, vec_len, slice_get, slice_set, is_some, IsSome, IsSomeAnd, IfOk, IfErr, IfSome, OnOk, OnErr};
+ghost use Rattle.std.specs.Prelude.{◌≡◌, ◌⊎◌, ◌<◌, ◌≤◌, true, ◌++◌, ◌∷◌, ◌||◌, ◌&&◌, not, [], false, All, length, vec_len, slice_get, slice_set, Some, None, is_some, IsSome, IsSomeAnd, IfOk, IfErr, IfSome, OnOk, OnErr};
 ghost use Rattle.std.specs.List.{AllZip};
 ghost use Rattle.atomic_table.specs.Seated.{TableId};
 ghost use Rattle.rapid_line.specs.Line.{StartsWith};
@@ -9,11 +9,12 @@ ghost use Rattle.rapid_model.specs.NodeStep.{node_step};
 ghost use Rattle.rapid_node.specs.Phases.{name_of};
 ghost use Rattle.rapid_node.specs.Steps.{event_of, HasOutcome};
 ghost use Rattle.rapid_model.specs.Configuration.{is_member};
+ghost use Rattle.rapid_model.specs.PublishedList.{IsBeginning};
 ghost use Rattle.rapid_model.specs.Limits.{most_seats, most_subscriptions, most_waiting_views};
 ghost use Rattle.rapid_desk.specs.declared.error.DeskError.TheVariants.{OutOfMemory, Unpublished};
 ghost use Rattle.rapid_desk.specs.Notices.{Offered, Ended};
 ghost use Rattle.rapid_desk.specs.States.{IsDesk, at_checkpoint};
-ghost use Rattle.rapid_desk.specs.Desks.{no_installs_in, shown_height, Announced, seed_state, joiner_state, is_blank, state_with, Await, AreMarked, Shown, Grown, Keeps, Tried, NotEntered, Advances, Refused, NotSubscribed, NoCheckpoint, with_known};
+ghost use Rattle.rapid_desk.specs.Desks.{no_installs_in, shown_height, Announced, seed_state, joiner_state, is_blank, state_with, Await, AreMarked, Shown, Grown, Keeps, Tried, NotEntered, Advances, Refused, NotSubscribed, NoCheckpoint, queues_of, with_known};
 
 use crate::DeskError;
 use crate::board::Board;
@@ -27,6 +28,7 @@ use rapid_node::{Event, Node, Phase};
 use rapid_view::{View, ViewError, ViewSeat};
 use std::alloc::Global;
 use std::marker::Model;
+use std::mem;
 use std::sync::Wait;
 
 /// How many subscriptions a desk serves at most.
@@ -56,7 +58,7 @@ impl<R: Wait + Copy + Drop> Model for Desk<R> {
 
     ghost coded = { Prim.hlevel (codes, node_code) };
 
-    ghost view = { λ d. record { state = state_with d.held d.board.published; seats = d.board.seats; count = d.board.count; subscriptions = d.outlets.items } };
+    ghost view = { λ d. record { state = state_with d.held d.board.published; seats = d.board.seats; count = d.board.count; cell = d.board.cell; subscriptions = d.outlets.items } };
 
     ghost invariant = { λ d. Keeps (state_with d.held d.board.published) × Follow (shown_height d.board.published) d.outlets.items };
 }
@@ -70,6 +72,7 @@ fn publish_shown<R: Wait + Copy + Drop>(
     requires { IsSome (configuration_of node.now) }
     ensures published { IfOk result (λ _. Grown (configuration_of node.now) board.old.published board.new.published) }
     ensures seats { IfOk result (λ _. (board.new.seats ≡ (board.old.seats || is_blank board.old.published)) × (board.new.count ≡ board.old.count)) }
+    ensures cell { IsSome board.old.cell → board.new.cell ≡ board.old.cell }
     ensures unchanged { IfErr result (λ _. board.new ≡ board.old) }
 {
     let Some(configuration) = node.configuration() else {
@@ -90,6 +93,7 @@ fn adopt_installed<R: Wait + Copy + Drop>(
     ensures held { OnOk result ((held.new.entry ≡ held.old.next) × (held.new.journal ≡ []) × (held.new.full ≡ held.old.full) × (held.new.node ≡ held.old.next)) }
     ensures published { OnOk result (Grown (configuration_of held.old.next) board.old.published board.new.published) }
     ensures seats { OnOk result (board.new.seats ≡ (board.old.seats || is_blank board.old.published)) }
+    ensures cell { IsSome board.old.cell → board.new.cell ≡ board.old.cell }
     ensures refused { IfErr result (NotEntered held.old held.new) }
     ensures unchanged { OnErr result (board.new ≡ board.old) }
 {
@@ -119,6 +123,7 @@ fn adopt_next<R: Wait + Copy + Drop>(
     ensures shown { OnOk result (Shown (has_installed held.old.node held.old.next) (configuration_of held.old.next) board.old.published board.new.published) }
     ensures unchanged { OnErr result (board.new ≡ board.old) }
     ensures count { board.new.count ≡ board.old.count }
+    ensures cell { IsSome board.old.cell → board.new.cell ≡ board.old.cell }
 {
     if held.installs() {
         return adopt_installed(held, board, alloc);
@@ -162,14 +167,6 @@ fn end_all<R: Wait>(outlets: &mut Vec<Outlet>, rt: &R)
     for outlet in outlets.iter_mut() {
         outlet.close(rt);
     }
-}
-
-/// Drops subscriptions that have their mark.
-fn drop_marked(outlets: &mut Vec<Outlet>)
-    requires { AreMarked outlets.old.items }
-    ensures { outlets.new.items ≡ [] }
-{
-    outlets.clear();
 }
 
 impl<R: Wait + Copy + Drop> Desk<R> {
@@ -222,6 +219,7 @@ impl<R: Wait + Copy + Drop> Desk<R> {
         requires { (0 < seats) × (seats ≤ most_seats) }
         ensures state { IfOk result (λ desk. desk.state ≡ joiner_state process seed) }
         ensures seats { IfOk result (λ desk. (desk.seats ≡ false) × (desk.count ≡ seats) × (desk.subscriptions ≡ [])) }
+        ensures cell { IfOk result (λ desk. desk.cell ≡ None) }
         ensures refused { IfErr result (λ e. e ≡ OutOfMemory) }
     {
         Ok(Desk {
@@ -234,14 +232,15 @@ impl<R: Wait + Copy + Drop> Desk<R> {
     }
 
     /// The node is the replay of the journal from its entry, and what it installed is published; or
-    /// it has halted. While it joins nothing is published. It does nothing: what it ensures is for
-    /// proofs.
+    /// it has halted. While it joins nothing is published. What is published has a cell, from the
+    /// first view on. It does nothing: what it ensures is for proofs.
     #[inline(always)]
     pub fn tell(&self)
         ensures desk { IsDesk self.now.state }
         ensures joining { no_installs_in self.now.state.node.phase self.now.state.published }
+        ensures cell { is_some self.now.cell ≡ not (is_blank self.now.state.published) }
     {
-        let _ = &self.held;
+        self.board.tell();
     }
 
     /// The phase of the node.
@@ -270,6 +269,7 @@ impl<R: Wait + Copy + Drop> Desk<R> {
         ensures ok { OnOk result ((self.old.state.full ≡ false) × (self.new.state ≡ at_checkpoint self.old.state)) }
         ensures desk { IsDesk self.new.state }
         ensures same { (self.new.seats ≡ self.old.seats) × (self.new.count ≡ self.old.count) × (self.new.subscriptions ≡ self.old.subscriptions) }
+        ensures cell { self.new.cell ≡ self.old.cell }
         ensures refused { IfErr result (NoCheckpoint self.old.state.full) }
         ensures unchanged { OnErr result (self.new ≡ self.old) }
     {
@@ -296,7 +296,9 @@ impl<R: Wait + Copy + Drop> Desk<R> {
         ensures same_seats { OnErr result (self.new.seats ≡ self.old.seats) }
         ensures announced { OnOk result (Announced (has_installed self.old.state.node self.new.state.node) (configuration_of self.new.state.node) self.old.subscriptions self.new.subscriptions) }
         ensures unannounced { OnErr result (self.new.subscriptions ≡ self.old.subscriptions) }
+        ensures queues { queues_of self.new.subscriptions ≡ queues_of self.old.subscriptions }
         ensures count { self.new.count ≡ self.old.count }
+        ensures cell { IsSome self.old.cell → self.new.cell ≡ self.old.cell }
     {
         match self.held.prepare(&event) {
             Ok(sent) => {
@@ -315,14 +317,25 @@ impl<R: Wait + Copy + Drop> Desk<R> {
         }
     }
 
-    /// The seats at the published view, once, from when a view is published.
+    /// The seats at the published view, once, from when a view is published. They are of the cell
+    /// to which the desk publishes.
     pub fn take_seats(&mut self) -> Option<Vec<ViewSeat>>
         ensures some { is_some result ≡ self.old.seats }
         ensures rest { self.new ≡ record self.old { seats = false } }
         ensures all { IfSome result (λ all. vec_len all ≡ self.old.count) }
-        ensures one_cell { IfSome result (λ all. (cell : TableId) × All (λ s. s.cell ≡ cell) all.items) }
+        ensures one_cell { IfSome result (λ all. (cell : TableId) × (self.old.cell ≡ Some cell) × All (λ s. s.cell ≡ cell) all.items) }
     {
         self.board.take_seats()
+    }
+
+    /// What a seat has seen is a beginning of what the desk has published. The seat is one of those
+    /// that this desk gave.
+    pub fn compare_seat(&mut self, seat: &mut ViewSeat)
+        requires { self.old.cell ≡ Some seat.old.cell }
+        ensures same { (self.new ≡ self.old) × (seat.new ≡ seat.old) }
+        ensures order { IsBeginning seat.old.seen self.old.state.published }
+    {
+        self.board.compare_seat(seat);
     }
 
     /// A subscription to the views that come after the one that is published last, with room for
@@ -334,6 +347,7 @@ impl<R: Wait + Copy + Drop> Desk<R> {
     /// serves 64, else `OutOfMemory`.
     pub fn subscribe(&mut self, capacity: usize) -> Result<Subscription, DeskError>
         ensures same { (self.new.state ≡ self.old.state) × (self.new.seats ≡ self.old.seats) × (self.new.count ≡ self.old.count) }
+        ensures cell { self.new.cell ≡ self.old.cell }
         ensures ok { OnOk result ((0 < capacity) × (capacity ≤ most_waiting_views) × (length self.old.subscriptions < most_subscriptions)) }
         ensures served { IfOk result (λ subscription. self.new.subscriptions ≡ self.old.subscriptions ++ record { queue = subscription.queue; since = shown_height self.old.state.published; capacity = capacity; put = []; known = [] } ∷ []) }
         ensures untaken { IfOk result (λ subscription. subscription.taken ≡ []) }
@@ -358,11 +372,17 @@ impl<R: Wait + Copy + Drop> Desk<R> {
     /// Ends the subscriptions made so far, which count no more; what waits in them can still be
     /// taken. Whoever owns a desk whose node has halted closes it, else its subscribers wait for
     /// ever.
-    pub fn close(&mut self)
-        ensures { self.new ≡ record self.old { subscriptions = [] } }
+    ///
+    /// The answer is the desk's ends of them, by age. Each compares what its subscriber takes, now
+    /// and later, with what was put for it. Whoever compares nothing drops them.
+    pub fn close(&mut self) -> Vec<Outlet>
+        ensures rest { self.new ≡ record self.old { subscriptions = [] } }
+        ensures ended { AllZip Ended self.old.subscriptions result.items }
+        ensures marked { AreMarked result.items }
+        ensures queues { queues_of result.items ≡ queues_of self.old.subscriptions }
     {
         end_all(&mut self.outlets, &self.rt);
-        drop_marked(&mut self.outlets);
+        mem::replace(&mut self.outlets, Vec::new(self.alloc))
     }
 
     /// What a subscriber has taken is a beginning of what was put for it, in order, each change

@@ -13,4 +13,5 @@ mod subscription;
 
 pub use desk::Desk;
 pub use error::DeskError;
+pub use outlet::Outlet;
 pub use subscription::{Subscription, Taken};

@@ -15,9 +15,9 @@ use std::alloc::{AllocError, Global};
 use std::marker::Model;
 use std::sync::Wait;
 
-/// The desk's end of a subscription. Contracts see its queue, how many changes may wait, what was
-/// put, and what is known to be taken of that. They also see the height of the view that was
-/// published last when it was made.
+/// The desk's end of a subscription. Once the desk has ended it, `Desk::close` gives it away.
+/// Contracts see its queue, how many changes may wait, what was put, and what is known to be taken
+/// of that. They also see the height of the view that was published last when it was made.
 #[derive(Drop)]
 pub struct Outlet {
     sink: Sink<Notice, Successive>,
@@ -122,9 +122,9 @@ impl Outlet {
         self.state = State::Closed;
     }
 
-    /// What the subscriber has taken is a beginning of what was put, and is known to be taken from
-    /// then on.
-    pub(crate) fn compare(&mut self, subscription: &mut Subscription)
+    /// What the subscriber has taken is a beginning of what was put for it, in order, each change
+    /// once, and is known to be taken from then on. The subscription is that of this end.
+    pub fn compare(&mut self, subscription: &mut Subscription)
         requires { self.old.queue ≡ subscription.old.queue }
         ensures known { self.new ≡ with_known subscription.old.taken self.old }
         ensures same { subscription.new ≡ subscription.old }

@@ -1,6 +1,8 @@
 // What subscribers hear.
 
-use crate::desk::founding::{after, alone, decide, edge_down, founding, let_three_in, step};
+use crate::desk::founding::{
+    after, alone, decide, decision, edge_down, founding, let_three_in, step,
+};
 use rapid_desk::{Desk, DeskError, Subscription, Taken};
 use std::alloc::Global;
 use std::process::Abort;
@@ -111,6 +113,32 @@ fn a_subscriber_takes_what_is_there_and_then_the_end(rt: HostRuntime) -> Result<
     let mut desk = alone(&rt, rt.alloc(), 1)?;
     let mut subscription = desk.subscribe(1)?;
     takes_all(&rt, rt.alloc(), &mut *desk, &mut subscription)
+}
+
+/// The only subscription of the desk hears a change and the end, and all of it is what was put for
+/// it: the desk's end of it, which the desk gives away, says so.
+fn takes_what_was_put<R: Wait + Abort>(
+    rt: &R,
+    alloc: Global,
+    desk: &mut Desk<&R>,
+) -> Result<(), Fail> {
+    assert!(rt; desk.close().is_empty());
+    let mut subscription = desk.subscribe(1)?;
+    let next = decision(alloc, founding(alloc)?.id(), 2)?;
+    desk.step(next)?;
+    let mut ends = desk.close();
+    let mut end = ends.pop().expect(rt, "one end");
+    assert!(rt; ends.is_empty());
+    assert!(rt; matches!(subscription.take(rt), Taken::Change(_)));
+    assert!(rt; matches!(subscription.take(rt), Taken::Closed));
+    end.compare(&mut subscription);
+    Ok(())
+}
+
+#[test]
+fn what_is_taken_after_the_end_was_put(rt: HostRuntime) -> Result<(), Fail> {
+    let mut desk = alone(&rt, rt.alloc(), 1)?;
+    takes_what_was_put(&rt, rt.alloc(), &mut *desk)
 }
 
 /// Makes a subscription of this capacity, and drops it.

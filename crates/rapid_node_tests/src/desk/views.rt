@@ -1,6 +1,8 @@
 // What a desk publishes.
 
-use crate::desk::founding::{after, alone, confirmation, founding, let_three_in, step};
+ghost use Rattle.std.specs.Prelude.{◌≡◌, Some};
+
+use crate::desk::founding::{after, alone, confirmation, decision, founding, let_three_in, step};
 use crate::numbered::process;
 use rapid_config::{Configuration, Stamp};
 use rapid_desk::Desk;
@@ -50,6 +52,32 @@ fn an_untold_seat_sees_what_was_decided(rt: HostRuntime) -> Result<(), Fail> {
     let stamp = seat.stamp();
     assert_eq!(rt; (stamp.height(), stamp.members()), (0, 1));
     sees_three(&rt, rt.alloc(), &mut *desk, &mut seat)
+}
+
+/// What the seat has seen is a beginning of what the desk has published, before and after a view
+/// more.
+fn sees_what_is_published<R: Wait + Abort>(
+    rt: &R,
+    alloc: Global,
+    desk: &mut Desk<&R>,
+    seat: &mut ViewSeat,
+) -> Result<(), Fail>
+    requires { desk.old.cell ≡ Some seat.old.cell }
+{
+    desk.compare_seat(seat);
+    let next = decision(alloc, founding(alloc)?.id(), 2)?;
+    desk.step(next)?;
+    assert_eq!(rt; seat.stamp().height(), 1);
+    desk.compare_seat(seat);
+    Ok(())
+}
+
+#[test]
+fn a_seat_sees_what_its_desk_publishes(rt: HostRuntime) -> Result<(), Fail> {
+    let mut desk = alone(&rt, rt.alloc(), 1)?;
+    let mut seats = desk.take_seats().expect(&rt, "the seats");
+    let mut seat = seats.pop().expect(&rt, "one seat");
+    sees_what_is_published(&rt, rt.alloc(), &mut *desk, &mut seat)
 }
 
 #[test]

@@ -1,8 +1,8 @@
-use Rattle.std.proofs.Common.{subst, ◌∙◌}
+use Rattle.std.proofs.Common.{ap, subst, ◌∙◌}
 use Rattle.rapid_node.specs.Steps.{event_of}
-use Rattle.rapid_desk.specs.Desks.{DeskValue, Refused, state_with}
+use Rattle.rapid_desk.specs.Desks.{DeskValue, Refused, queues_of, state_with}
 use Rattle.rapid_desk.proofs.Settling.{after_refusal}
-use Rattle.rapid_desk.proofs.Following.{await_in, follow_in}
+use Rattle.rapid_desk.proofs.Following.{await_in, follow_in, queues_announced}
 use Rattle.rapid_desk.proofs.desk.Desk.step.Goals as goal
 
 pub announce-requires : goal.announce-requires
@@ -20,3 +20,8 @@ pub returns-in-Err-clause-refused : goal.returns-in-Err-clause-refused
 returns-in-Err-clause-refused g c =
     subst (λ (v : DeskValue). Refused v.state (event_of c.args.event) (state_with c.prepare.new.self c.self.inside.board.published) c.in-Err.error) c.self.view_is
     (after_refusal c.in-Err.error c.self.inside.held c.prepare.new.self c.self.inside.board.published (event_of c.args.event) c.in-Err.ensures.refused c.prepare.ensures.same c.self.invariant.0).1
+
+pub returns-in_ok-adopt_next-in-Ok-clause-queues :
+    goal.returns-in_ok-adopt_next-in-Ok-clause-queues
+returns-in_ok-adopt_next-in-Ok-clause-queues g c =
+    queues_announced _ _ _ _ c.announce.ensures ∙ ap (λ (v : DeskValue). queues_of v.subscriptions) c.self.view_is

@@ -1,4 +1,4 @@
-use Rattle.std.proofs.Common.{◌∙◌, sym, arith}
+use Rattle.std.proofs.Common.{◌∙◌, arith}
 use Rattle.std.proofs.lemmas.Grind.{common_steps}
 use Rattle.rapid_desk.proofs.Marks.{state_of_now}
 use Rattle.rapid_desk.proofs.outlet.Outlet.close.Goals as goal
