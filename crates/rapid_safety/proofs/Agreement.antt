@@ -398,7 +398,7 @@ chosen_supported : (f : Configuration) (es : List MarkedEvent) → AreParams f.p
 chosen_supported f es params are apart c v h =
     let w = run es (founded f) in
     let p = chosen_proposed c.members (said_about w c) (installed_keeps_rules f es are apart c h.0) (installed_votes_own f es are apart c h.0) h.1.0 v h.1.1 in
-    proposals_are_supported f es params are apart p.0 c v p.2
+    (proposals_are_supported f es params are apart p.0 c v p.2).0
 
 pub run_agrees : (f : Configuration) (es : List MarkedEvent) → AreParams f.params → AreMembers f.members → NoCollision (run es (founded f)) → IsAgreed (run es (founded f))
 run_agrees f es ok are apart =

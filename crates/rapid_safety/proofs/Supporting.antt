@@ -5,7 +5,7 @@ use Rattle.std.specs.FinSet as set
 use Rattle.rapid_safety.proofs.Values.{Process, same_bytes, is_in, process_cmp, Cut, Configuration, AreMembers, AreParams, configuration_id, is_member, observers_of, Observers, rings, Message, apply, Alert, is_well_formed}
 use Rattle.rapid_safety.proofs.Parts.{direct_reports, cut_of, Report, Reports, tally, reaches_low, is_implied, Includes, IsClosed, IsLeastClosed, reports, is_stable, subjects, stable, unstable, cut_if, is_unstable, report_cmp, empty_detector}
 use Rattle.rapid_safety.proofs.Working.{Node, Phase, Member, MemberState, Outcome, Event, member_in, member_config, node_step}
-use Rattle.rapid_safety.proofs.Worlds.{World, Peer, Act, Probed, HasHalted, Crashed, Installed, Entry, MarkedEvent, entry, acts_of, run, founded, first_of, proposed_by, acts_in, sent, alerts_said, SentAlert, received, taken_by, alerts_taken, batches_in, IsJustified, NoCollision, IsSupport, IsReportedEnough}
+use Rattle.rapid_safety.proofs.Worlds.{World, Peer, Act, Probed, HasHalted, Crashed, Installed, Entry, MarkedEvent, entry, acts_of, run, founded, first_of, proposed_by, acts_in, sent, alerts_said, SentAlert, received, taken_by, alerts_taken, batches_in, IsJustified, NoCollision, IsSupport, IsSupported, IsReportedEnough}
 use Rattle.rapid_model.proofs.Closure.{count_mono, least_closed}
 use Rattle.rapid_model.proofs.Taken.{taken_were_received}
 use Rattle.rapid_safety.specs.Proposals.{ProposalsSupported}
@@ -360,6 +360,7 @@ proposals_are_supported f es params are apart p c v h =
     let e = from_acts w.log p c act.0 act.1 in
     let here : WasInstalled w.log c = was_installed w.log e.0.who c ((present_run f es are).at e.0 c e.1 e.3) in
     let good : AreParams t.params = subst AreParams (sym (observers_params c)) (params_installed f es are params c here) in
+    let supported : IsSupported w c v =
     record {
       proposer = p;
       member = member_of w.log p c act.0 act.1 ((lived_run f es are).past p c);
@@ -368,4 +369,5 @@ proposals_are_supported f es params are apart p c v h =
       support = all_from (IsSupport w p c) (alerts_taken t p cut.0) (supports f es are apart p c here cut.0 cut.1 cut.2);
       cut = cut.3;
       enough = all_from (IsReportedEnough t (alerts_taken t p cut.0)) v (λ s i. let high = cut_stable t _ v cut.3 s i in record { all = high; direct = stable_direct t good _ s high });
-    }
+    } in
+    (supported, refl)

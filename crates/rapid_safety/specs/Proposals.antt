@@ -8,6 +8,6 @@ use Rattle.rapid_model.specs.World.{World}
 use Rattle.rapid_model.specs.History.{proposed}
 use Rattle.rapid_model.specs.Agreement.{IsSupported}
 
--- Each cut that a member proposed is supported.
+-- Each cut that a member proposed is supported, by alerts that this member took.
 abbrev pub ProposalsSupported : World → Type 0
-ProposalsSupported w = (p : Process) (c : Configuration) (v : Cut) → proposed w p c ≡ Some v → IsSupported w c v
+ProposalsSupported w = (p : Process) (c : Configuration) (v : Cut) → proposed w p c ≡ Some v → (s : IsSupported w c v) × (s.proposer ≡ p)
