@@ -125,11 +125,7 @@ fn are_same(a: &[u8], b: &[u8]) -> bool
 }
 
 /// Whether these bytes are the spelling of the configuration.
-fn is_spelt(
-    alloc: Global,
-    configuration: &Configuration,
-    bytes: &[u8],
-) -> Result<bool, AllocError>
+fn is_spelt(alloc: Global, configuration: &Configuration, bytes: &[u8]) -> Result<bool, AllocError>
     ensures { IfOk result (λ r. r ≡ true → configuration_bytes configuration.now ≡ bytes.now) }
 {
     if bytes.len() != configuration_length(configuration) {
