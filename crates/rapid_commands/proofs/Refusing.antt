@@ -20,31 +20,31 @@ no_number E G k f id (Some n) read only = tt
 no_number E G k f id None read only = by (one_text f id) refl
   where
     by : (o : Option (List ℕ)) → one_text f id ≡ o → ¬ IsNumber k (one_of id (rows_of f))
-    by None e = subst (λ x. ¬ IsNumber k x) (sym e ∙ one_text-rows f id) (λ no. no)
+    by None e = subst (λ x. ¬ IsNumber k x) (sym e ∙ one_text-rows f id) (λ given. given)
     by (Some t) e = subst (λ x. ¬ IsNumber k x) (sym e ∙ one_text-rows f id) (let r = read t e in only t (Err r.0) r.1)
 
 -- Without one of its options there is no setting.
 pub no_k : (rows : List Row) → ¬ IsNumber 8 (one_of (codes "k") rows) → ¬ IsSetting rows
-no_k rows no s = no s.k
+no_k rows lacks s = lacks s.k
 
 pub no_h : (rows : List Row) → ¬ IsNumber 8 (one_of (codes "h") rows) → ¬ IsSetting rows
-no_h rows no s = no s.h
+no_h rows lacks s = lacks s.h
 
 pub no_l : (rows : List Row) → ¬ IsNumber 8 (one_of (codes "l") rows) → ¬ IsSetting rows
-no_l rows no s = no s.l
+no_l rows lacks s = lacks s.l
 
 pub no_nodes : (rows : List Row) → ¬ IsNumber 16 (one_of (codes "nodes") rows) → ¬ IsSetting rows
-no_nodes rows no s = no s.nodes
+no_nodes rows lacks s = lacks s.nodes
 
 pub no_workers : (rows : List Row) → ¬ IsNumber 16 (one_of (codes "workers") rows) → ¬ IsSetting rows
-no_workers rows no s = no s.workers
+no_workers rows lacks s = lacks s.workers
 
 pub no_turns : (rows : List Row) → ¬ IsNumber 16 (one_of (codes "turns") rows) → ¬ IsSetting rows
-no_turns rows no s = no s.turns
+no_turns rows lacks s = lacks s.turns
 
 -- Numbers that do not fit are no setting.
 pub misfit : (rows : List Row) (s : Setting) → setting_in rows ≡ Some s → ¬ (AreParams s.params × (s.workers ≤ 32)) → ¬ IsSetting rows
-misfit rows s is no fits = no (subst (λ o. IfSome o (λ s. AreParams s.params × (s.workers ≤ 32))) is fits.fits)
+misfit rows s is never fits = never (subst (λ o. IfSome o (λ s. AreParams s.params × (s.workers ≤ 32))) is fits.fits)
 
 -- A command of another name, or a cluster without a setting, cannot be done.
 pub cannot_do : {X : Type 0} (o : Option X) (f : X → Text) (g : X → List Row) → ¬ (option_map f o ≡ Some (codes "detect")) → ¬ (option_map f o ≡ Some (codes "sim"))
@@ -61,5 +61,5 @@ refused_by e words (inl memory) fault = absurd (subst IsFault memory fault)
 refused_by e words (inr among) fault = inl (kind_of e, fault, among)
 
 -- Words of which nothing can be done are refused.
-pub refused_so : {found : Option (Text × List Row)} {words : List Text} → found ≡ subcommand_of grammar words → ¬ CanDo found → AreRefused words
-refused_so is no = inr (subst (λ x. ¬ CanDo x) is no)
+pub refused_so : {found : Option (Text × List Row)} (words : List Text) → found ≡ subcommand_of grammar words → ¬ CanDo found → AreRefused words
+refused_so words is never = inr (subst (λ x. ¬ CanDo x) is never)

@@ -24,5 +24,5 @@ returns-in-Some-clause-memory g c = λ is. inr (inl (c.in-Some.invocation, asked
 pub returns-in-Err-clause-fault : goal.returns-in-Err-clause-fault
 returns-in-Err-clause-fault g c = λ is. inr (refused_by c.in-Err.error (map g.S.AsStr.text c.args.words.now) c.in-Err.ensures.fails (c.tell.ensures.fault is))
 
-pub returns-in-None-clause-fault : goal.returns-in-None-clause-fault
-returns-in-None-clause-fault g c = λ is. inr (refused_so c.in-Ok.ensures.found c.in-None.ensures.none)
+pub returns-clause-fault : goal.returns-clause-fault
+returns-clause-fault g c = λ is. inr (refused_so (map g.S.AsStr.text c.args.words.now) c.in-Ok.ensures.found c.in-None.ensures.none)
