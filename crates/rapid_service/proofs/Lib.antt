@@ -4,3 +4,4 @@ pub mod Sames
 pub mod Keeping
 pub mod Finding
 pub mod Observing
+pub mod Entering

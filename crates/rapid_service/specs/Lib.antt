@@ -12,3 +12,5 @@ pub mod Endings
 pub mod NoteText
 pub mod Edges
 pub mod Presents
+pub mod Entering
+pub mod Subscribing

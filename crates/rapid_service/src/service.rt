@@ -3,7 +3,7 @@
 ghost use Rattle.std.specs.Prelude.{◌≡◌, ◌==◌, ℕ, ◌+◌, ◌%◌, ◌<◌, ◌≤◌, ◌++◌, [], ◌∷◌, map, false, Ok, Some, None, length, vec_len, IfOk, IfErr, IfSome, IsSomeAnd, OnOk, OnErr};
 ghost use Rattle.std.specs.Option.{option_map};
 ghost use Rattle.std.proofs.Props.{props};
-ghost use Rattle.rapid_desk.specs.Desks.{NotSubscribed, seed_state, joiner_state};
+ghost use Rattle.rapid_desk.specs.Desks.{NotSubscribed, seed_state, joiner_state, shown_height};
 ghost use Rattle.rapid_node.specs.Phases.{name_of};
 ghost use Rattle.rapid_model.specs.Configuration.{founding};
 ghost use Rattle.rapid_model.specs.Message.{Probe};
@@ -12,9 +12,11 @@ ghost use Rattle.rapid_model.specs.Ring.{subjects_of};
 ghost use Rattle.rapid_model.specs.Limits.{most_notes, most_subscriptions, most_waiting_views};
 ghost use Rattle.rapid_node.specs.Steps.{event_of};
 ghost use Rattle.rapid_service.specs.Edges.{place_of};
+ghost use Rattle.rapid_service.specs.Entering.{EntersOne, EntersSome, views_of};
 ghost use Rattle.rapid_service.specs.Presents.{edges_in};
 ghost use Rattle.rapid_service.specs.Remembering.{IsRepeatFor};
 ghost use Rattle.rapid_service.specs.Stepping.{HasStepped, HasRefused, Steps};
+ghost use Rattle.rapid_service.specs.Subscribing.{StillServes};
 ghost use Rattle.rapid_service.specs.ViewText.{view_text};
 ghost use Rattle.rapid_service.specs.declared.note.Answer.TheVariants.{Nothing};
 ghost use Rattle.rapid_service.specs.declared.received.Received.TheVariants as fate;
@@ -52,7 +54,9 @@ const CHANGES: usize = 4;
 const SEATS: usize = 8;
 
 /// A node at its desk, with the probes of those whom it observes in its current view. It is kept
-/// under a lock, and whoever holds the lock gives it ticks and messages.
+/// under a lock, and whoever holds the lock gives it ticks and messages. A step takes at most one
+/// view of its own subscription, and enters it: the line of the view waits behind those that wait.
+/// Only `take_lines` takes lines away.
 #[derive(Drop)]
 pub struct Service<R: Wait + Copy + Drop, P: Post + Drop> {
     rt: R,
@@ -199,6 +203,7 @@ impl<R: Wait + Copy + Drop, P: Post + Drop> Service<R, P> {
         ensures step { OnOk result (Steps self.old.desk.state model.Tick self.new.desk.state) }
         ensures due { (n : ℕ) → self.old.rounds ≡ n % 10 → IfOk result (λ due. due ≡ ((n + 1) % 10 == 0)) }
         ensures counted { (n : ℕ) → self.old.rounds ≡ n % 10 → OnOk result (self.new.rounds ≡ (n + 1) % 10) }
+        ensures views { OnOk result (EntersOne (views_of self.old.changes.taken self.old.lines.items self.old.present) (views_of self.new.changes.taken self.new.lines.items self.new.present)) }
     {
         self.step(Event::Tick)?;
         self.count_tick();
@@ -211,6 +216,7 @@ impl<R: Wait + Copy + Drop, P: Post + Drop> Service<R, P> {
     pub fn take_parts(&mut self, parts: u8) -> Result<Option<Vec<Part>>, RunningFault>
         ensures none { self.old.present ≡ None → IfOk result (λ r. r ≡ None) }
         ensures desk { self.new.desk ≡ self.old.desk }
+        ensures views { views_of self.new.changes.taken self.new.lines.items self.new.present ≡ views_of self.old.changes.taken self.old.lines.items self.old.present }
     {
         match &mut self.present {
             Some(present) => present.watch.take_parts(parts),
@@ -219,8 +225,10 @@ impl<R: Wait + Copy + Drop, P: Post + Drop> Service<R, P> {
     }
 
     /// A round of a part was made: its edges that went down are given to the node, and its probes
-    /// go out.
-    pub fn hand_on(&mut self, round: &PartRound) -> Result<(), RunningFault> {
+    /// go out. Each edge is a step, so several views may be entered, in order.
+    pub fn hand_on(&mut self, round: &PartRound) -> Result<(), RunningFault>
+        ensures views { OnOk result (EntersSome (views_of self.old.changes.taken self.old.lines.items self.old.present) (views_of self.new.changes.taken self.new.lines.items self.new.present)) }
+    {
         self.hand_down(round.id, &round.downs)?;
         let frame = frame_of(self.alloc, &probe_of(self.me, round.id))?;
         probe_all(&self.rt, &mut self.post, &round.probes, &frame)?;
@@ -231,6 +239,7 @@ impl<R: Wait + Copy + Drop, P: Post + Drop> Service<R, P> {
     pub fn edges(&mut self) -> Result<Vec<EdgeState>, AllocError>
         ensures edges { IfOk result (λ states. map place_of states.items ≡ edges_in self.old.me self.old.present) }
         ensures desk { self.new.desk ≡ self.old.desk }
+        ensures views { views_of self.new.changes.taken self.new.lines.items self.new.present ≡ views_of self.old.changes.taken self.old.lines.items self.old.present }
     {
         match &mut self.present {
             Some(present) => present.watch.states(),
@@ -246,6 +255,8 @@ impl<R: Wait + Copy + Drop, P: Post + Drop> Service<R, P> {
         ensures drops { IsSomeAnd self.old.present (λ present. IsRepeatFor present.repeats message) → result ≡ Ok fate.Dropped }
         ensures desk { IfOk result (λ received. received ≡ fate.Dropped → self.new.desk ≡ self.old.desk) }
         ensures taken { IfOk result (λ received. received ≡ fate.Taken → Steps self.old.desk.state (model.Receive message) self.new.desk.state) }
+        ensures views { OnOk result (EntersOne (views_of self.old.changes.taken self.old.lines.items self.old.present) (views_of self.new.changes.taken self.new.lines.items self.new.present)) }
+        ensures undisturbed { IfOk result (λ received. received ≡ fate.Dropped → views_of self.new.changes.taken self.new.lines.items self.new.present ≡ views_of self.old.changes.taken self.old.lines.items self.old.present) }
     {
         if let Body::Reply(joiner, reply) = message.body() {
             self.hear(joiner, reply);
@@ -261,7 +272,8 @@ impl<R: Wait + Copy + Drop, P: Post + Drop> Service<R, P> {
     /// before until a view comes without it. One that still has it makes it a member that stays,
     /// unless it is asked again; nothing else than a member leaves.
     pub fn leave(&mut self) -> Result<(), RunningFault>
-        ensures { OnOk result (Steps self.old.desk.state model.Leave self.new.desk.state) }
+        ensures step { OnOk result (Steps self.old.desk.state model.Leave self.new.desk.state) }
+        ensures views { OnOk result (EntersOne (views_of self.old.changes.taken self.old.lines.items self.old.present) (views_of self.new.changes.taken self.new.lines.items self.new.present)) }
     {
         self.step(Event::Leave)
     }
@@ -271,6 +283,7 @@ impl<R: Wait + Copy + Drop, P: Post + Drop> Service<R, P> {
         ensures repeats { result ≡ false → IsSomeAnd self.old.present (λ present. IsRepeatFor present.repeats message.now) }
         ensures drops { IsSomeAnd self.old.present (λ present. IsRepeatFor present.repeats message.now) → result ≡ false }
         ensures desk { self.new.desk ≡ self.old.desk }
+        ensures views { views_of self.new.changes.taken self.new.lines.items self.new.present ≡ views_of self.old.changes.taken self.old.lines.items self.old.present }
     {
         match &mut self.present {
             Some(present) => present.repeats.admits(message),
@@ -281,6 +294,7 @@ impl<R: Wait + Copy + Drop, P: Post + Drop> Service<R, P> {
     /// A tick was made in the current view.
     fn count_tick(&mut self)
         ensures desk { self.new.desk ≡ self.old.desk }
+        ensures views { views_of self.new.changes.taken self.new.lines.items self.new.present ≡ views_of self.old.changes.taken self.old.lines.items self.old.present }
         ensures rest { (self.new.rounds ≡ self.old.rounds) × (self.new.me ≡ self.old.me) }
     {
         if let Some(present) = &mut self.present {
@@ -292,6 +306,7 @@ impl<R: Wait + Copy + Drop, P: Post + Drop> Service<R, P> {
     /// questions is noted.
     fn note_question(&mut self)
         ensures desk { self.new.desk ≡ self.old.desk }
+        ensures views { views_of self.new.changes.taken self.new.lines.items self.new.present ≡ views_of self.old.changes.taken self.old.lines.items self.old.present }
         ensures rest { (self.new.rounds ≡ self.old.rounds) × (self.new.me ≡ self.old.me) }
     {
         if let Some(asking) = &mut self.asking
@@ -306,6 +321,7 @@ impl<R: Wait + Copy + Drop, P: Post + Drop> Service<R, P> {
     fn hear(&mut self, joiner: &Process, reply: &Reply)
         ensures present { self.new.present ≡ self.old.present }
         ensures desk { self.new.desk ≡ self.old.desk }
+        ensures views { views_of self.new.changes.taken self.new.lines.items self.new.present ≡ views_of self.old.changes.taken self.old.lines.items self.old.present }
     {
         if let Some(asking) = &mut self.asking
             && *joiner == self.me
@@ -316,7 +332,8 @@ impl<R: Wait + Copy + Drop, P: Post + Drop> Service<R, P> {
 
     /// A seat at the published view: one of eight, from when there is a view.
     pub fn take_seat(&mut self) -> Option<ViewSeat>
-        ensures { (self.new.desk ≡ self.old.desk) × (self.new.me ≡ self.old.me) }
+        ensures same { (self.new.desk ≡ self.old.desk) × (self.new.me ≡ self.old.me) }
+        ensures views { views_of self.new.changes.taken self.new.lines.items self.new.present ≡ views_of self.old.changes.taken self.old.lines.items self.old.present }
     {
         self.seats.pop()
     }
@@ -336,17 +353,21 @@ impl<R: Wait + Copy + Drop, P: Post + Drop> Service<R, P> {
     }
 
     /// A subscription to the views that come after the current one, with room for `capacity` of them
-    /// to wait, and the current one.
+    /// to wait, and the current one. The desk serves it behind those that it served.
     ///
     /// # Errors
     ///
-    /// Those of `Desk::subscribe`. After `OutOfMemory` a subscription more may count.
+    /// Those of `Desk::subscribe`. After `OutOfMemory` a subscription more may count, after the others
+    /// none does.
     pub fn subscribe(&mut self, capacity: usize) -> Result<(Subscription, Option<View>), DeskError>
         ensures state { (self.new.desk.state ≡ self.old.desk.state) × (self.new.me ≡ self.old.me) }
         ensures ok { OnOk result ((0 < capacity) × (capacity ≤ most_waiting_views) × (length self.old.desk.subscriptions < most_subscriptions)) }
         ensures untaken { IfOk result (λ r. r.0.taken ≡ []) }
+        ensures served { IfOk result (λ r. self.new.desk.subscriptions ≡ self.old.desk.subscriptions ++ record { queue = r.0.queue; since = shown_height self.old.desk.state.published; capacity = capacity; put = []; known = [] } ∷ []) }
         ensures current { IfOk result (λ r. r.1 ≡ option_map (λ present. present.view) self.old.present) }
         ensures refused { IfErr result (NotSubscribed capacity (length self.old.desk.subscriptions)) }
+        ensures unserved { IfErr result (λ e. StillServes self.old.desk capacity e self.new.desk.subscriptions) }
+        ensures views { views_of self.new.changes.taken self.new.lines.items self.new.present ≡ views_of self.old.changes.taken self.old.lines.items self.old.present }
     {
         let subscription = self.desk.subscribe(capacity)?;
         match &self.present {
@@ -360,7 +381,8 @@ impl<R: Wait + Copy + Drop, P: Post + Drop> Service<R, P> {
 
     /// Ends the subscriptions made so far, also its own: it enters no further view.
     pub fn close(&mut self)
-        ensures { self.new.desk ≡ record self.old.desk { subscriptions = [] } }
+        ensures closed { self.new.desk ≡ record self.old.desk { subscriptions = [] } }
+        ensures views { views_of self.new.changes.taken self.new.lines.items self.new.present ≡ views_of self.old.changes.taken self.old.lines.items self.old.present }
     {
         self.desk.close();
     }
@@ -380,6 +402,7 @@ impl<R: Wait + Copy + Drop, P: Post + Drop> Service<R, P> {
         ensures few { vec_len result ≤ most_notes }
         ensures none { self.new.notes.waiting.items ≡ [] }
         ensures same { (self.new.desk ≡ self.old.desk) × (self.new.me ≡ self.old.me) }
+        ensures views { views_of self.new.changes.taken self.new.lines.items self.new.present ≡ views_of self.old.changes.taken self.old.lines.items self.old.present }
     {
         self.notes.take()
     }
@@ -394,6 +417,7 @@ impl<R: Wait + Copy + Drop, P: Post + Drop> Service<R, P> {
     /// One event at the desk: what is sent goes out, and a new view is entered.
     fn step(&mut self, event: Event) -> Result<(), RunningFault>
         ensures step { OnOk result (Steps self.old.desk.state (event_of event) self.new.desk.state) }
+        ensures views { OnOk result (EntersOne (views_of self.old.changes.taken self.old.lines.items self.old.present) (views_of self.new.changes.taken self.new.lines.items self.new.present)) }
         ensures rest { (self.new.rounds ≡ self.old.rounds) × (self.new.me ≡ self.old.me) }
     {
         let sent = self.at_desk(event)?;
@@ -408,6 +432,7 @@ impl<R: Wait + Copy + Drop, P: Post + Drop> Service<R, P> {
         ensures stepped { IfOk result (λ sent. HasStepped self.old.desk.state (event_of event) self.new.desk.state sent.items) }
         ensures refused { IfErr result (HasRefused self.old.desk.state (event_of event) self.new.desk.state) }
         ensures closed { OnErr result (self.new.desk.subscriptions ≡ []) }
+        ensures views { views_of self.new.changes.taken self.new.lines.items self.new.present ≡ views_of self.old.changes.taken self.old.lines.items self.old.present }
         ensures rest { (self.new.rounds ≡ self.old.rounds) × (self.new.me ≡ self.old.me) }
     {
         // a journal for which there is no memory now grows on, and the next step tries again
@@ -424,6 +449,7 @@ impl<R: Wait + Copy + Drop, P: Post + Drop> Service<R, P> {
     /// Sends the messages of a step to their recipients, in order.
     fn send_all(&mut self, sent: &[Output]) -> Result<(), AllocError>
         ensures desk { self.new.desk ≡ self.old.desk }
+        ensures views { views_of self.new.changes.taken self.new.lines.items self.new.present ≡ views_of self.old.changes.taken self.old.lines.items self.old.present }
         ensures rest { (self.new.rounds ≡ self.old.rounds) × (self.new.me ≡ self.old.me) }
     {
         for output in sent {
@@ -435,6 +461,7 @@ impl<R: Wait + Copy + Drop, P: Post + Drop> Service<R, P> {
     /// Sends a message to its recipients: the other members are those of the view before the step.
     fn send(&mut self, output: &Output) -> Result<(), AllocError>
         ensures desk { self.new.desk ≡ self.old.desk }
+        ensures views { views_of self.new.changes.taken self.new.lines.items self.new.present ≡ views_of self.old.changes.taken self.old.lines.items self.old.present }
         ensures rest { (self.new.rounds ≡ self.old.rounds) × (self.new.me ≡ self.old.me) }
     {
         let frame = frame_of(self.alloc, output.message())?;
@@ -450,6 +477,7 @@ impl<R: Wait + Copy + Drop, P: Post + Drop> Service<R, P> {
     /// Sends a frame to the other members.
     fn send_others(&mut self, frame: &Bytes) -> Result<(), AllocError>
         ensures desk { self.new.desk ≡ self.old.desk }
+        ensures views { views_of self.new.changes.taken self.new.lines.items self.new.present ≡ views_of self.old.changes.taken self.old.lines.items self.old.present }
         ensures rest { (self.new.rounds ≡ self.old.rounds) × (self.new.me ≡ self.old.me) }
     {
         match &self.present {
@@ -467,6 +495,7 @@ impl<R: Wait + Copy + Drop, P: Post + Drop> Service<R, P> {
     /// Enters the view that the desk has published, if there is a new one.
     fn follow(&mut self) -> Result<(), RunningFault>
         ensures desk { self.new.desk.state ≡ self.old.desk.state }
+        ensures views { OnOk result (EntersOne (views_of self.old.changes.taken self.old.lines.items self.old.present) (views_of self.new.changes.taken self.new.lines.items self.new.present)) }
         ensures rest { (self.new.rounds ≡ self.old.rounds) × (self.new.me ≡ self.old.me) }
     {
         match self.changes.take(&self.rt) {
@@ -484,6 +513,7 @@ impl<R: Wait + Copy + Drop, P: Post + Drop> Service<R, P> {
         ensures line { OnOk result (self.new.lines.items ≡ self.old.lines.items ++ view_text view) }
         ensures view { OnOk result (IsSomeAnd self.new.present (λ present. present.view ≡ view)) }
         ensures asks { OnOk result (self.new.asking ≡ None) }
+        ensures changes { self.new.changes ≡ self.old.changes }
         ensures rest { (self.new.rounds ≡ self.old.rounds) × (self.new.me ≡ self.old.me) }
     {
         write_view(view.configuration(), &mut self.lines)?;
@@ -518,11 +548,14 @@ impl<R: Wait + Copy + Drop, P: Post + Drop> Service<R, P> {
     }
 
     /// Gives the edges that went down in a configuration to the node, by ring.
+    #[tactic(auto, using(crate::proofs::Entering::enters_more))]
     fn hand_down(
         &mut self,
         id: ConfigId,
         downs: &[Option<Process>; MOST_RINGS],
-    ) -> Result<(), RunningFault> {
+    ) -> Result<(), RunningFault>
+        ensures views { OnOk result (EntersSome (views_of self.old.changes.taken self.old.lines.items self.old.present) (views_of self.new.changes.taken self.new.lines.items self.new.present)) }
+    {
         for ring in 0..MOST_RINGS {
             if let Some(subject) = downs[ring] {
                 self.step(Event::EdgeDown(id, ring as u8, subject))?;

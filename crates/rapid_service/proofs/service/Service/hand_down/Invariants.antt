@@ -1,0 +1,5 @@
+use Rattle.rapid_service.specs.Entering.{EntersSome, views_of}
+use Rattle.rapid_service.proofs.service.Service.hand_down.Given as goal
+
+abbrev pub invariant-loop-ring : goal.invariant-loop-ring
+invariant-loop-ring g l = EntersSome (views_of l.fn.self.changes.taken l.fn.self.lines.items l.fn.self.present) (views_of l.self.changes.taken l.self.lines.items l.self.present)
