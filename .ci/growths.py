@@ -72,7 +72,7 @@ class Task(NamedTuple):
     given: bytes  # its input
     judge: Callable  # why a run is bad
     whole: bytes | None = None  # what it has to write if nothing is refused
-    most: int = 10**9  # at most so many allocations are refused, evenly spread
+    most: int = 10**9  # at most this many allocations are refused, evenly spread
     lanes: int = LANES  # how many runs go side by side
     ways: tuple = ()  # what some of the runs have to write
 

@@ -7,7 +7,7 @@ use rapid_agent::{Agent, Next, Subscriber};
 use rapid_config::Configuration;
 use rapid_dealing::owns;
 use rapid_endpoint::{Endpoint, Process};
-use rapid_service::NodeOptions;
+use rapid_options::NodeOptions;
 use std::env;
 use std::random::RandomSource;
 use std::sync::Wait;

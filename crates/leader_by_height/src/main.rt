@@ -13,7 +13,7 @@ use anyhow::{Context, Result};
 use rapid_agent::{Agent, Next, Subscriber};
 use rapid_config::Configuration;
 use rapid_endpoint::{Endpoint, Process};
-use rapid_service::NodeOptions;
+use rapid_options::NodeOptions;
 use std::env;
 use std::random::RandomSource;
 use std::sync::Wait;

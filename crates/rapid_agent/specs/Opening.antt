@@ -4,7 +4,7 @@ use Rattle.std.specs.Prelude.{◌≡◌, ℕ, ◌*◌, ◌≤◌}
 use Rattle.std.specs.Duration.{as_nanos}
 use Rattle.std.specs.declared.time.Duration.{Duration}
 use Rattle.rapid_model.specs.Bytes.{Endpoint}
-use Rattle.rapid_service.specs.declared.options.NodeOptions.{NodeOptions}
+use Rattle.rapid_options.specs.declared.options.NodeOptions.{NodeOptions}
 
 -- An agent with these options is at their endpoint, ticks as often as they say, and probes in as many threads, at most 16.
 pub record IsOpenedBy (options : NodeOptions) (endpoint : Endpoint) (period : Duration) (probers : ℕ) : Type 0 where

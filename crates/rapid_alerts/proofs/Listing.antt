@@ -84,7 +84,7 @@ slice_get_map f [] i a h = cc
 slice_get_map f (x ∷ xs) zero a h = let e : x ≡ a = cc in ap (λ y. Some (f y)) e
 slice_get_map f (x ∷ xs) (suc i) a h = slice_get_map f xs i a h
 
--- what an alert of the program says, where its parts are those of a place
+-- what an alert of the program says, if its parts are those of a place
 pub item_at_place : (ss : List Process) (xs : List Item) (i : ℕ) (x : Item) (s : Process) → slice_get xs i ≡ Some x → slice_get ss x.place ≡ Some s
     → slice_get (map (item_in ss) xs) i ≡ Some (record { ring = x.ring; kind = kind_of x.kind; subject = s })
 item_at_place ss xs i x s at there =
@@ -150,7 +150,7 @@ parts_back E p q a b e =
     (and _ _ (bytes_back _ _ (ap (λ x. x.subject) e))
     (and _ _ (number_back _ _ (ap (λ x. x.ring) e)) (and _ _ (kind_back E p q a.kind b.kind (ap (λ x. x.kind) e)) (bytes_back _ _ (ap (λ x. x.config) e)))))
 
--- where two lists are one, so are two alerts at the same place
+-- if two lists are one, so are two alerts at the same place
 pub same_at : (xs ys : List model.Alert) (i : ℕ) (a b : model.Alert) → xs ≡ ys → slice_get xs i ≡ Some a → slice_get ys i ≡ Some b → a ≡ b
 same_at xs ys i a b e h k = let s : Some a ≡ Some b = sym h ∙ ap (λ l. slice_get l i) e ∙ k in cc
 

@@ -12,18 +12,18 @@ use std::thread::Threads;
 
 /// How many jobs each clerk is given. The number is known only when clerks are started, but the
 /// type of what a thread returns has to name it. So a type stands for it.
-trait Given {
+trait TurnCount {
     ghost given: { ℕ };
 }
 
-impl Given for Brand {
+impl TurnCount for Brand {
     ghost given = { 0 };
 }
 
 /// A clerk's place while the threads run: the clerk, with one part of the ledger, and how many jobs
 /// it did.
 #[derive(Drop)]
-struct Place<L: Ledger, N: Given> {
+struct Place<L: Ledger, N: TurnCount> {
     clerk: Clerk<L>,
     done: u64,
     of: PhantomData<N>,
@@ -32,7 +32,7 @@ struct Place<L: Ledger, N: Given> {
     ghost most: { done ≤ N.given },
 }
 
-impl<L: Ledger, N: Given> Place<L, N> {
+impl<L: Ledger, N: TurnCount> Place<L, N> {
     /// The place of a clerk that did nothing yet.
     fn new(worker: usize, share: Share<L>) -> Place<L, N>
         requires { (share.parts ≡ 1) × (share.amount ≡ 0) }
@@ -62,7 +62,7 @@ impl<L: Ledger, N: Given> Place<L, N> {
 }
 
 /// Does the jobs at a place.
-fn work<L: Ledger, N: Given, B: DoJob<L, TurnJob>, G: Gate, R: Wait>(
+fn work<L: Ledger, N: TurnCount, B: DoJob<L, TurnJob>, G: Gate, R: Wait>(
     rt: &R,
     book: &Mutex<B>,
     gate: &G,
@@ -78,7 +78,7 @@ fn work<L: Ledger, N: Given, B: DoJob<L, TurnJob>, G: Gate, R: Wait>(
 /// nothing is done at its place.
 fn start_all<
     L: Ledger + Send + Sync,
-    N: Given + Send + Sync,
+    N: TurnCount + Send + Sync,
     B: DoJob<L, TurnJob> + Send,
     G: Gate + Sync,
     R: Threads + Wait + Sync,
@@ -110,7 +110,7 @@ struct Crew {
 }
 
 /// The places of this many clerks, numbered from 0. Each clerk has one part of the share.
-fn make_places<L: Ledger, N: Given>(
+fn make_places<L: Ledger, N: TurnCount>(
     alloc: Global,
     share: &mut Share<L>,
     workers: usize,
@@ -130,7 +130,7 @@ fn make_places<L: Ledger, N: Given>(
 }
 
 /// Takes back the parts of all clerks, and how many jobs each of them did.
-fn gather<L: Ledger, N: Given>(
+fn gather<L: Ledger, N: TurnCount>(
     share: &mut Share<L>,
     places: Vec<Mutex<Place<L, N>>>,
     counts: &mut Vec<u64>,
@@ -158,7 +158,7 @@ fn gather<L: Ledger, N: Given>(
 /// Starts clerks, each of which takes the number of turns for which the type stands.
 fn run_given<
     L: Ledger + Send + Sync,
-    N: Given + Send + Sync,
+    N: TurnCount + Send + Sync,
     B: DoJob<L, TurnJob> + Send,
     G: Gate + Sync,
     R: Threads + Wait + Sync,

@@ -7,9 +7,9 @@ use Rattle.rapid_cluster.specs.Written.{Ended}
 use Rattle.rapid_text.specs.Underway.{AppendsFront}
 use Rattle.rapid_text.specs.declared.fault.RunFault.{RunFault}
 use Rattle.rapid_commands.specs.Invocations.{Wrote, WroteFront}
-use Rattle.rapid_commands.specs.declared.words.Invocation.{Invocation}
-use Rattle.rapid_commands.specs.declared.words.Invocation.TheVariants.{Detect, Cluster}
-use Rattle.rapid_commands.specs.declared.words.Setting.{Setting}
+use Rattle.rapid_words.specs.declared.words.Invocation.{Invocation}
+use Rattle.rapid_words.specs.declared.words.Invocation.TheVariants.{Detect, Cluster}
+use Rattle.rapid_words.specs.declared.words.Setting.{Setting}
 
 detect_known : (known a b : Option (List ℕ)) → IfSome known (λ input. AppendsFront a b (detect_text input)) → WroteFront Detect known a b
 detect_known None a b h = tt

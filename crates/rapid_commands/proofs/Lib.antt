@@ -1,5 +1,1 @@
-pub mod Asking
 pub mod Fronts
-pub mod Grammars
-pub mod Reading
-pub mod Refusing

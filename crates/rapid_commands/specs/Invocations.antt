@@ -1,22 +1,15 @@
 -- Clauses of public calls cite this file.
 -- What the commands of the program print.
-use Rattle.std.specs.Prelude.{◌≡◌, ◌≤◌, ◌*◌, ℕ, List, [], Option, IfSome}
+use Rattle.std.specs.Prelude.{◌≡◌, ◌*◌, ℕ, List, [], Option, IfSome}
 use Rattle.std.specs.Io.KnownBytes.{Appends}
-use Rattle.rapid_model.specs.Limits.{most_clerks}
 use Rattle.rapid_model.specs.DetectText.{detect_text}
 use Rattle.rapid_cluster.specs.ClusterText.{IsReport}
 use Rattle.rapid_cluster.specs.Written.{Ended}
 use Rattle.rapid_text.specs.Underway.{AppendsFront}
 use Rattle.rapid_text.specs.declared.fault.RunFault.{RunFault}
 use Rattle.rapid_sim.specs.Wants.{SimPrints}
-use Rattle.rapid_commands.specs.declared.words.Invocation.{Invocation}
-use Rattle.rapid_commands.specs.declared.words.Invocation.TheVariants.{Detect, Sim, Cluster}
-
--- A cluster has at most 32 clerks.
-abbrev pub CanRun : Invocation → Type 0
-CanRun Detect = Unit {0}
-CanRun Sim = Unit {0}
-CanRun (Cluster s) = s.workers ≤ most_clerks
+use Rattle.rapid_words.specs.declared.words.Invocation.{Invocation}
+use Rattle.rapid_words.specs.declared.words.Invocation.TheVariants.{Detect, Sim, Cluster}
 
 -- What a command may print for an input. `detect` prints one text. `sim` prints one text for each way in which it can
 -- run out of memory, and one if it never does. `cluster` reads no input, and prints a report.

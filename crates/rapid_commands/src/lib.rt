@@ -1,10 +1,8 @@
-//! The command line of `rapidd`: which words name a command, what it runs, and with which status it
+//! What the command line of `rapidd` has it do: what each command runs, and with which status it
 //! ends.
 #![tactic(auto)]
 
-mod explain;
-mod help;
 mod node;
-mod words;
+mod run;
 
-pub use words::{Invocation, Setting, run_words, without_words};
+pub use run::{run_words, without_words};

@@ -4,6 +4,7 @@ pub mod Keys
 pub mod Known
 pub mod Laws
 pub mod Limits
+pub mod Listed
 pub mod Masks
 pub mod Merging
 pub mod Watching

@@ -7,6 +7,7 @@ ghost use Rattle.rapid_cut.specs.Laws.{ListsAreExact, CutIsExact, NoCutIsExact, 
 mod ascending;
 mod closure;
 mod detector;
+mod few;
 mod growing;
 mod in_turn;
 mod mask;

@@ -5,6 +5,7 @@ ghost use Rattle.std.specs.FinSet as set;
 ghost use Rattle.rapid_cut.specs.Growing.{PutsMask, TakesOut};
 ghost use Rattle.rapid_cut.specs.Masks.{has_ring};
 
+use crate::few::{copy_of, map_of, place_in};
 use crate::mask::Masks;
 use crate::subject_key::SubjectKey;
 use rapid_endpoint::Process;
@@ -12,21 +13,32 @@ use std::alloc::{AllocError, Global};
 use std::collections::HashMap;
 use std::marker::Model;
 
+/// Up to this many processes have their masks in a list. For so few it costs less than a map to
+/// make, to copy and to search.
+const FEW: usize = 32;
+
+/// No ring.
+const NONE: Masks = Masks { direct: 0, all: 0 };
+
 /// The direct reports, and all that are known with those that they imply, for the first sixteen
-/// rings. There are masks for each process that is reported on.
+/// rings. There are masks for each process that is reported on: in a list while they are few, and
+/// then in a map.
 #[derive(Debug, Drop)]
 pub struct KnownReports {
-    masks: HashMap<SubjectKey, Masks>,
+    few: Vec<(Process, Masks)>,
+    many: HashMap<SubjectKey, Masks>,
+    alloc: Global,
 }
 
 impl Model for KnownReports {
+    ghost use Rattle.std.specs.Prelude.{◌++◌};
     ghost use Rattle.rapid_cut.specs.Known.{Known, known_code, known_in};
 
     ghost Value = { Known };
 
     ghost coded = { known_code };
 
-    ghost view = { λ r. known_in r.masks.entries };
+    ghost view = { λ r. known_in (r.few.items ++ r.many.entries) };
 }
 
 impl KnownReports {
@@ -36,7 +48,9 @@ impl KnownReports {
         ensures all { result.all ≡ set.empty }
     {
         KnownReports {
-            masks: HashMap::new(alloc),
+            few: Vec::new(alloc),
+            many: HashMap::new(alloc),
+            alloc,
         }
     }
 
@@ -45,10 +59,16 @@ impl KnownReports {
         ensures direct { (k : ℕ) → set.contains self.now.direct (subject.now, k) ≡ has_ring result.direct k }
         ensures all { (k : ℕ) → set.contains self.now.all (subject.now, k) ≡ has_ring result.all k }
     {
-        self.masks
+        if let Some(place) = place_in(self.few.as_slice(), subject) {
+            return self.few[place].1;
+        }
+        if self.many.is_empty() {
+            return NONE;
+        }
+        self.many
             .get(&SubjectKey::new(*subject))
             .copied()
-            .unwrap_or(Masks { direct: 0, all: 0 })
+            .unwrap_or(NONE)
     }
 
     /// Puts these rings in the place of those of the reports on the process.
@@ -57,7 +77,22 @@ impl KnownReports {
         ensures all { OnOk result (PutsMask subject.now masks.all self.old.all self.new.all) }
         ensures unchanged { OnErr result (self.new ≡ self.old) }
     {
-        self.masks.insert(SubjectKey::new(*subject), masks)?;
+        if let Some(place) = place_in(self.few.as_slice(), subject) {
+            self.few[place].1 = masks;
+            return Ok(());
+        }
+        if !self.many.is_empty() {
+            self.many.insert(SubjectKey::new(*subject), masks)?;
+            return Ok(());
+        }
+        if self.few.len() < FEW {
+            self.few.push((*subject, masks))?;
+            return Ok(());
+        }
+        let mut many = map_of(self.alloc, self.few.as_slice())?;
+        many.insert(SubjectKey::new(*subject), masks)?;
+        self.many = many;
+        self.few.clear();
         Ok(())
     }
 
@@ -66,8 +101,12 @@ impl KnownReports {
         ensures direct { TakesOut subject.now rings.direct self.old.direct self.new.direct }
         ensures all { TakesOut subject.now rings.all self.old.all self.new.all }
     {
+        if let Some(place) = place_in(self.few.as_slice(), subject) {
+            self.few[place].1 = self.few[place].1.without(rings);
+            return;
+        }
         let key = SubjectKey::new(*subject);
-        if let Some(masks) = self.masks.get_mut(&key) {
+        if let Some(masks) = self.many.get_mut(&key) {
             *masks = masks.without(rings);
         }
     }
@@ -77,7 +116,9 @@ impl KnownReports {
         ensures { IfOk result (λ copy. copy ≡ self.now) }
     {
         Ok(KnownReports {
-            masks: copied(alloc, &self.masks)?,
+            few: copy_of(alloc, self.few.as_slice())?,
+            many: copied(alloc, &self.many)?,
+            alloc,
         })
     }
 }

@@ -1,5 +1,6 @@
 pub mod Each
 pub mod Ticking
+pub mod Placing
 pub mod Replaying
 pub mod Moving
 pub mod Keeping

@@ -8,8 +8,7 @@ use Rattle.rapid_model.specs.Process.{Process}
 use Rattle.rapid_model.specs.Journal.{JournalRecord, Entered, node_at, is_kept, with_event, is_full_for}
 use Rattle.rapid_node.specs.Steps.{HasOutcome, IsFault}
 use Rattle.rapid_node.specs.declared.fault.NodeFault.{NodeFault}
-use Rattle.rapid_desk.specs.declared.journal.JournalRecord.{JournalRecord as Kept}
-use Rattle.rapid_desk.specs.Records.{records, joins, added_by}
+use Rattle.rapid_desk.specs.Records.{joins, added_by}
 use Rattle.rapid_desk.specs.States.{DeskState, IsLive, next_entry}
 use Rattle.rapid_desk.specs.Desks.{state_of, is_refused, Keeps, Advances, Follows, Installs, Grown}
 use Rattle.rapid_desk.proofs.Ticking.{not_below, event_length}
@@ -32,12 +31,8 @@ added_few j (Receive m) = by (is_kept m.body)
     by true = omega arith
     by false = omega arith
 
-pub records_length : (js : List Kept) → length (records js) ≡ length js
-records_length [] = refl
-records_length (x ∷ js) = let h = records_length js in omega (arith, h)
-
-pub full_is : (js : List Kept) (e : Event) (n a : ℕ) → n ≡ length js → a ≡ added_by (records js) e → is_full_for (records js) e ≡ nat_lt 65536 (n + a)
-full_is js e n a len added = ap (nat_lt 65536) (event_length (records js) e ∙ omega (arith, records_length js, len, added))
+pub full_is : (j : List JournalRecord) (e : Event) (n a : ℕ) → n ≡ length j → a ≡ added_by j e → is_full_for j e ≡ nat_lt 65536 (n + a)
+full_is j e n a len added = ap (nat_lt 65536) (event_length j e ∙ omega (arith, len, added))
 
 -- ---- a step that went well
 

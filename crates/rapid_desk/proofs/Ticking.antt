@@ -1,11 +1,12 @@
 -- Journals that grow by an event.
 use Rattle.std.proofs.Common.{◌≡◌, ℕ, zero, suc, ◌+◌, ◌<◌, ◌≤◌, Bool, true, false, cond, List, [], ◌∷◌, ◌++◌, length, refl, sym, ap, ◌∙◌, arith, append_assoc, append-nil, length-append, replicate}
-use Rattle.std.specs.Prelude.{◌-◌, ◌^◌, nat_lt, slice_get, Option, Some, None, Result, Ok, Err, OnOk}
+use Rattle.std.specs.Prelude.{◌-◌, ◌^◌, nat_lt, slice_get, option_to_list, Option, Some, None, IsSome, Result, Ok, Err, OnOk}
+use Rattle.rapid_model.specs.Configuration.{Configuration}
 use Rattle.rapid_model.specs.Node.{Event, EdgeDown, Tick, Receive, Leave}
 use Rattle.rapid_model.specs.Journal.{JournalRecord, Ticks, Other, events_of, journal_events, with_tick, with_event, is_kept}
 use Rattle.rapid_desk.specs.declared.journal.JournalRecord.{JournalRecord as Kept}
 use Rattle.rapid_desk.specs.declared.journal.JournalRecord.TheVariants as kept
-use Rattle.rapid_desk.specs.Records.{record_of, records, joins, added_by}
+use Rattle.rapid_desk.specs.Records.{record_of, records_of, last_ticks, joins, added_by}
 
 -- ---- numbers
 
@@ -39,56 +40,74 @@ tick_length (Ticks n ∷ []) = by (nat_lt n (2 ^ 32 - 1))
 tick_length (Other e ∷ []) = refl
 tick_length (x ∷ y ∷ j) = let h = tick_length (y ∷ j) in omega (arith, h)
 
--- the last record of the code
-abbrev joins_at : Option Kept → Bool
-joins_at None = false
-joins_at (Some r) = joins (record_of r ∷ [])
+-- ---- the ticks at the end
 
-joins_last : (x : Kept) (js : List Kept) → joins (records (x ∷ js)) ≡ joins_at (slice_get (x ∷ js) (length js))
-joins_last x [] = refl
-joins_last x (y ∷ js) = joins_last y js
+-- a tick more is joined to as many ticks
+abbrev takes_tick : Option ℕ → Bool
+takes_tick None = false
+takes_tick (Some n) = nat_lt n (2 ^ 32 - 1)
+
+pub joins_by_ticks : (j : List JournalRecord) → joins j ≡ takes_tick (last_ticks j)
+joins_by_ticks [] = refl
+joins_by_ticks (Ticks n ∷ []) = refl
+joins_by_ticks (Other e ∷ []) = refl
+joins_by_ticks (x ∷ y ∷ j) = joins_by_ticks (y ∷ j)
+
+ticks_push : (init : List JournalRecord) (r : JournalRecord) → last_ticks (init ++ r ∷ []) ≡ last_ticks (r ∷ [])
+ticks_push [] r = refl
+ticks_push (x ∷ []) r = refl
+ticks_push (x ∷ y ∷ init) r = ticks_push (y ∷ init) r
+
+-- the last record of the code
+abbrev pub ticks_at : Option Configuration → Option Kept → Option ℕ
+ticks_at c None = None
+ticks_at c (Some r) = last_ticks (record_of c r ∷ [])
+
+ticks_last : (c : Option Configuration) (x : Kept) (js : List Kept) → last_ticks (records_of c (x ∷ js)) ≡ ticks_at c (slice_get (x ∷ js) (length js))
+ticks_last c x [] = refl
+ticks_last c x (y ∷ js) = ticks_last c y js
 
 last_place : (n : ℕ) → suc n - 1 ≡ n
 last_place n = omega arith
 
-pub last_joins : (js : List Kept) (r : Option Kept) → r ≡ slice_get js (length js - 1) → joins (records js) ≡ joins_at r
-last_joins [] r is = sym (ap joins_at is)
-last_joins (x ∷ js) r is = joins_last x js ∙ ap (λ k. joins_at (slice_get (x ∷ js) k)) (sym (last_place (length js))) ∙ sym (ap joins_at is)
+pub last_is_at : (c : Option Configuration) (js : List Kept) (r : Option Kept) → r ≡ slice_get js (length js - 1) → last_ticks (records_of c js) ≡ ticks_at c r
+last_is_at c [] r is = sym (ap (ticks_at c) is)
+last_is_at c (x ∷ js) r is = ticks_last c x js ∙ ap (λ k. ticks_at c (slice_get (x ∷ js) k)) (sym (last_place (length js))) ∙ sym (ap (ticks_at c) is)
 
-records_push : (init : List Kept) (r : Kept) → records (init ++ r ∷ []) ≡ records init ++ record_of r ∷ []
-records_push [] r = refl
-records_push (x ∷ init) r = ap (λ l. record_of x ∷ l) (records_push init r)
+pub records_push : (c : Option Configuration) (init : List Kept) (r : Kept) → records_of c (init ++ r ∷ []) ≡ records_of c init ++ record_of c r ∷ []
+records_push c [] r = refl
+records_push c (x ∷ init) r = ap (λ l. record_of c x ∷ l) (records_push c init r)
 
-joins_push : (init : List JournalRecord) (r : JournalRecord) → joins (init ++ r ∷ []) ≡ joins (r ∷ [])
-joins_push [] r = refl
-joins_push (x ∷ []) r = refl
-joins_push (x ∷ y ∷ init) r = joins_push (y ∷ init) r
+-- a tick more is joined to a number that has room for it
+pub ticks_below : (j : List JournalRecord) (n : ℕ) → joins j ≡ true → last_ticks j ≡ Some n → n < 4294967295
+ticks_below j n h at = is_below n 4294967295 (ap takes_tick (sym at) ∙ sym (joins_by_ticks j) ∙ h)
 
-last_is : (js init : List Kept) (r : Kept) → js ≡ init ++ r ∷ [] → joins (records js) ≡ joins (record_of r ∷ [])
-last_is js init r is = ap (λ l. joins (records l)) is ∙ ap joins (records_push init r) ∙ joins_push (records init) (record_of r)
+pub some_ticks : (j : List JournalRecord) → joins j ≡ true → last_ticks j ≡ None → ⊥
+some_ticks j h none = let wrong : true ≡ false = sym h ∙ joins_by_ticks j ∙ ap takes_tick none in cc
 
-pub below : (js init : List Kept) (n : ℕ) → js ≡ init ++ kept.Ticks n ∷ [] → joins (records js) ≡ true → n < 4294967295
-below js init n is h = is_below n 4294967295 (sym (last_is js init (kept.Ticks n) is) ∙ h)
+ticks_are : (r : JournalRecord) (n : ℕ) → last_ticks (r ∷ []) ≡ Some n → r ≡ Ticks n
+ticks_are (Ticks m) n h = cc
+ticks_are (Other e) n h = cc
 
-pub no_other : (js init : List Kept) (r : Kept) (e : _) → js ≡ init ++ r ∷ [] → r ≡ kept.Other e → joins (records js) ≡ true → ⊥
-no_other js init r e is other h = let wrong : true ≡ false = sym h ∙ last_is js init r is ∙ ap (λ x. joins (record_of x ∷ [])) other in cc
+some_last : (c : Option Configuration) (js : List Kept) (n : ℕ) → last_ticks (records_of c js) ≡ Some n → 0 < length js
+some_last c [] n h = cc
+some_last c (x ∷ js) n h = omega arith
 
-pub no_none : (js : List Kept) → length js ≡ 0 → joins (records js) ≡ true → ⊥
-no_none [] e h = cc
-no_none (x ∷ js) e h = omega (arith, e)
+-- the last record comes back with a tick more
+pub grown : (c : Option Configuration) (js init new : List Kept) (r : Option Kept) (m n : ℕ) → js ≡ init ++ option_to_list r → m ≡ length js → (0 < m → IsSome r) → joins (records_of c js) ≡ true → last_ticks (records_of c js) ≡ Some n → new ≡ init ++ kept.Ticks (n + 1) ∷ []
+    → records_of c new ≡ with_tick (records_of c js)
+grown c js init new None m n is len some h at now = let wrong : false ≡ true = some (omega (arith, len, some_last c js n at)) in cc
+grown c js init new (Some r) m n is len some h at now =
+    let end : records_of c js ≡ records_of c init ++ record_of c r ∷ [] = ap (records_of c) is ∙ records_push c init r in
+    let last : record_of c r ≡ Ticks n = ticks_are (record_of c r) n (sym (ticks_push (records_of c init) (record_of c r)) ∙ ap last_ticks (sym end) ∙ at) in
+    let few : nat_lt n (2 ^ 32 - 1) ≡ true = ap takes_tick (sym at) ∙ sym (joins_by_ticks (records_of c js)) ∙ h in
+    ap (records_of c) now ∙ records_push c init (kept.Ticks (n + 1)) ∙ sym (joined (records_of c init) n few)
+    ∙ ap (λ x. with_tick (records_of c init ++ x ∷ [])) (sym last) ∙ ap with_tick (sym end)
 
-pub grown : (js init new : List Kept) (n : ℕ) → js ≡ init ++ kept.Ticks n ∷ [] → joins (records js) ≡ true → new ≡ init ++ kept.Ticks (n + 1) ∷ [] → records new ≡ with_tick (records js)
-grown js init new n is h now =
-    ap records now ∙ records_push init (kept.Ticks (n + 1)) ∙ sym (joined (records init) n (sym (last_is js init (kept.Ticks n) is) ∙ h))
-    ∙ ap with_tick (sym (records_push init (kept.Ticks n)) ∙ ap records (sym is))
-
-apart_all : (j : List JournalRecord) → joins j ≡ false → with_tick j ≡ j ++ Ticks 1 ∷ []
+pub apart_all : (j : List JournalRecord) → joins j ≡ false → with_tick j ≡ j ++ Ticks 1 ∷ []
 apart_all [] h = refl
 apart_all (r ∷ []) h = last_apart r h
 apart_all (x ∷ y ∷ j) h = ap (λ l. x ∷ l) (apart_all (y ∷ j) h)
-
-pub begun : (js new : List Kept) → joins (records js) ≡ false → new ≡ js ++ kept.Ticks 1 ∷ [] → records new ≡ with_tick (records js)
-begun js new h now = ap records now ∙ records_push js (kept.Ticks 1) ∙ sym (apart_all (records js) h)
 
 -- ---- the events of a journal
 

@@ -1,16 +1,15 @@
 // What a desk holds beside what it has published.
 
-ghost use Rattle.std.specs.Prelude.{◌≡◌, ◌≤◌, [], true, false, length, vec_len, IfOk, IfErr, OnOk, OnErr};
+ghost use Rattle.std.specs.Prelude.{◌≡◌, ◌≤◌, [], true, false, length, IfOk, IfErr, OnOk, OnErr};
 ghost use Rattle.rapid_model.specs.Journal.{with_event};
 ghost use Rattle.rapid_model.specs.Node as model;
 ghost use Rattle.rapid_model.specs.NodeStep.{node_step};
 ghost use Rattle.rapid_model.specs.Limits.{most_entries};
 ghost use Rattle.rapid_node.specs.Steps.{event_of, HasOutcome};
-ghost use Rattle.rapid_desk.specs.Records.{records};
 ghost use Rattle.rapid_desk.specs.Desks.{is_refused, HasNoRoom, NotTaken, NoCheckpoint};
 
 use crate::DeskError;
-use crate::journal::{self, JournalRecord};
+use crate::journal::{Journal, MOST_RECORDS};
 use rapid_message::Outputs;
 use rapid_node::{Event, Node};
 use std::alloc::{AllocError, Global};
@@ -29,40 +28,34 @@ pub struct Held {
     alloc: Global,
     node: Box<Node>,
     next: Box<Node>,
-    entry: Box<Node>,
-    journal: Vec<JournalRecord>,
+    journal: Journal,
     full: bool,
 }
 
 impl Model for Held {
     ghost use Rattle.std.specs.Coded.{codes};
     ghost use Rattle.rapid_node.specs.Codes.{node_code};
-    ghost use Rattle.rapid_desk.specs.Records.{records};
     ghost use Rattle.rapid_desk.specs.Desks.{HeldValue};
 
     ghost Value = { HeldValue };
 
     ghost coded = { Prim.hlevel (codes, node_code) };
 
-    ghost view = { λ h. record { entry = h.entry.value; journal = records h.journal.items; full = h.full; node = h.node.value; next = h.next.value } };
+    ghost view = { λ h. record { entry = h.journal.entry; journal = h.journal.records; full = h.full; node = h.node.value; next = h.next.value } };
 }
 
 /// Gets room for the records of an event. `JournalFull` if one was refused so before, or if the
 /// event needs a record more than the journal may have.
 #[tactic(auto, using(crate::proofs::Stepping::full_is))]
-fn get_room(
-    journal: &mut Vec<JournalRecord>,
-    full: &mut bool,
-    event: &Event,
-) -> Result<(), DeskError>
-    requires { vec_len journal.old ≤ most_entries }
-    ensures same { journal.new.items ≡ journal.old.items }
-    ensures free { OnOk result ((is_refused full.old (records journal.old.items) (event_of event.now) ≡ false) × (full.new ≡ full.old)) }
-    ensures refused { IfErr result (HasNoRoom full.old (records journal.old.items) (event_of event.now) full.new) }
+fn get_room(journal: &mut Journal, full: &mut bool, event: &Event) -> Result<(), DeskError>
+    requires { length journal.old.records ≤ most_entries }
+    ensures same { journal.new ≡ journal.old }
+    ensures free { OnOk result ((is_refused full.old journal.old.records (event_of event.now) ≡ false) × (full.new ≡ full.old)) }
+    ensures refused { IfErr result (HasNoRoom full.old journal.old.records (event_of event.now) full.new) }
 {
-    let added = journal::added(journal.as_slice(), event);
+    let added = journal.added(event);
     // once full it stays so, also for an event that needs no record: an earlier one was refused
-    if *full || journal.len() + added > journal::MOST_RECORDS {
+    if *full || journal.len() + added > MOST_RECORDS {
         *full = true;
         return Err(DeskError::JournalFull);
     }
@@ -91,8 +84,7 @@ impl Held {
             alloc,
             node,
             next,
-            entry,
-            journal: Vec::new(alloc),
+            journal: Journal::new(alloc, entry),
             full: false,
         })
     }
@@ -150,7 +142,7 @@ impl Held {
         ensures ok { OnOk result ((self.new.journal ≡ with_event self.old.journal (event_of event)) × (self.new.node ≡ self.old.next)) }
         ensures unchanged { OnErr result ((self.new.journal ≡ self.old.journal) × (self.new.node ≡ self.old.node)) }
     {
-        journal::add(&mut self.journal, event)?;
+        self.journal.add(self.alloc, event)?;
         mem::swap(&mut self.node, &mut self.next);
         Ok(())
     }
@@ -159,25 +151,15 @@ impl Held {
     pub(crate) fn begin(&mut self, entry: Box<Node>)
         ensures { (self.new.entry ≡ entry.value) × (self.new.journal ≡ []) × (self.new.full ≡ self.old.full) × (self.new.node ≡ self.old.next) }
     {
-        self.begin_at(entry);
+        self.journal.begin(entry);
         mem::swap(&mut self.node, &mut self.next);
     }
 
     /// How many records the journal has.
-    #[tactic(auto, using(crate::proofs::Stepping::records_length))]
     pub(crate) fn journal_len(&self) -> usize
         ensures { result ≡ length self.now.journal }
     {
         self.journal.len()
-    }
-
-    /// The journal begins anew at this entry.
-    fn begin_at(&mut self, entry: Box<Node>)
-        ensures begun { (self.new.entry ≡ entry.value) × (self.new.journal ≡ []) }
-        ensures same { (self.new.full ≡ self.old.full) × (self.new.node ≡ self.old.node) × (self.new.next ≡ self.old.next) }
-    {
-        self.journal.clear();
-        self.entry = entry;
     }
 
     /// A copy of the node.
@@ -198,7 +180,7 @@ impl Held {
             return Err(DeskError::JournalFull);
         }
         let entry = self.copy_node()?;
-        self.begin_at(entry);
+        self.journal.begin(entry);
         Ok(())
     }
 

@@ -1,25 +1,71 @@
 // The journal of a desk: the events since its node entered its configuration.
 
-ghost use Rattle.std.specs.Prelude.{◌≡◌, ◌≤◌, ◌++◌, [], ◌∷◌, true, OnOk, OnErr};
+ghost use Rattle.std.specs.Prelude.{◌≡◌, ◌≤◌, ◌++◌, [], ◌∷◌, true, Option, None, Some, length, vec_len, IsSome, IfOk, OnOk, OnErr};
+ghost use Rattle.rapid_model.specs.Configuration.{Configuration};
 ghost use Rattle.rapid_model.specs.Journal as model;
+ghost use Rattle.rapid_model.specs.Node.{Receive, configuration_of};
 ghost use Rattle.rapid_message.specs.Bodies.{body_of};
 ghost use Rattle.rapid_node.specs.Steps.{event_of};
-ghost use Rattle.rapid_desk.specs.Records.{records, joins, added_by};
+ghost use Rattle.rapid_desk.specs.Records.{record_of, last_ticks, joins, added_by, about, place_in, id_in, said_by};
 
-use rapid_message::Body;
-use rapid_node::Event;
-use std::alloc::AllocError;
+use rapid_alerts::Batch;
+use rapid_config::{ConfigId, Cut};
+use rapid_message::{Body, Message};
+use rapid_node::{Event, Node};
+use rapid_paxos::Ballot;
+use std::alloc::{AllocError, Global};
+use std::marker::Model;
 
 /// How many records a journal has at most.
 pub(crate) const MOST_RECORDS: usize = 65_536;
 
 /// A record of a journal.
+///
+/// Most messages come from members of the configuration at the journal's entry, and are about that
+/// configuration. Such a record has the sender's place there, and what else the message says. So it
+/// is small, however large a process is.
 #[derive(Debug, Drop)]
 pub enum JournalRecord {
     /// This many successive ticks.
     Ticks(u32),
+    /// Alerts of the member at this place.
+    Batch(u16, Batch),
+    /// The fast vote of the member at this place.
+    FastVote(u16, Cut),
+    /// The member at this place asks for promises at its ballot.
+    Prepare(u16, Ballot),
+    /// The member at this place promises to vote at no lower ballot, and tells its last vote.
+    Promise(u16, Ballot, Option<(Ballot, Cut)>),
+    /// The member at this place asks for votes.
+    Accept(u16, Ballot, Cut),
+    /// The member at this place has voted.
+    Accepted(u16, Ballot, Cut),
+    /// The member at this place tells what was decided.
+    Decision(u16, Cut),
+    /// The member at this place asks its observer on this ring to have it removed.
+    Leave(u16, u8),
     /// Another event.
-    Other(Event),
+    Other(Box<Event>),
+}
+
+/// A journal: the node where it begins, and what happened since.
+#[derive(Drop)]
+pub struct Journal {
+    entry: Box<Node>,
+    records: Vec<JournalRecord>,
+}
+
+impl Model for Journal {
+    ghost use Rattle.std.specs.Coded.{codes};
+    ghost use Rattle.rapid_model.specs.Node.{configuration_of};
+    ghost use Rattle.rapid_node.specs.Codes.{node_code};
+    ghost use Rattle.rapid_desk.specs.Records.{JournalValue, records_of};
+
+    ghost Value = { JournalValue };
+
+    ghost coded = { Prim.hlevel (codes, node_code) };
+
+    ghost view = { λ j. record { entry = j.entry.value; records = records_of (configuration_of j.entry.value) j.records.items } };
 }
 
 /// Whether a message that says this is kept: a Probe and its answer change nothing in a node.
@@ -29,67 +75,207 @@ fn is_kept(body: &Body) -> bool
     !matches!(body, Body::Probe(_) | Body::ProbeAck(_))
 }
 
-/// Whether a tick more is joined to the last record.
-#[tactic(auto, using(crate::proofs::Ticking::last_joins))]
-fn joins_last(journal: &[JournalRecord]) -> bool
-    ensures { result ≡ joins (records journal.now) }
+/// The configuration that the message is about, if its parts can be kept alone.
+fn about(body: &Body) -> Option<ConfigId>
+    ensures { result ≡ about (body_of body.now) }
 {
-    match journal.last() {
-        Some(JournalRecord::Ticks(n)) => *n < u32::MAX,
-        Some(JournalRecord::Other(_)) | None => false,
+    match body {
+        Body::Batch(id, _)
+        | Body::FastVote(id, _)
+        | Body::Prepare(id, _)
+        | Body::Promise(id, _, _)
+        | Body::Accept(id, _, _)
+        | Body::Accepted(id, _, _)
+        | Body::Decision(id, _)
+        | Body::Leave(id, _) => Some(*id),
+        Body::PreJoin
+        | Body::Reply(..)
+        | Body::JoinRequest(..)
+        | Body::Confirm(_)
+        | Body::Probe(_)
+        | Body::ProbeAck(_) => None,
     }
 }
 
-/// How many records the event adds: none or one.
-pub(crate) fn added(journal: &[JournalRecord], event: &Event) -> usize
-    ensures added { result ≡ added_by (records journal.now) (event_of event.now) }
-    ensures few { result ≤ 1 }
+/// The sender's place, if the message is kept by its parts: the sender is a member of the node's
+/// configuration, and the message is about that.
+fn place_in(entry: &Node, message: &Message) -> Option<u16>
+    ensures { result ≡ place_in (configuration_of entry.now) message.now }
 {
-    let joined = match event {
-        Event::Tick => joins_last(journal),
-        Event::EdgeDown(..) | Event::Leave => false,
-        Event::Receive(message) => !is_kept(message.body()),
-    };
-    if joined { 0 } else { 1 }
+    let configuration = entry.configuration()?;
+    if about(message.body())? != configuration.id() {
+        return None;
+    }
+    let place = configuration.position(&message.sender())?;
+    configuration.tell();
+    Some(place as u16)
 }
 
-/// A tick more, which is joined to the last record.
-fn join_tick(journal: &mut Vec<JournalRecord>)
-    requires { joins (records journal.old.items) ≡ true }
-    ensures { records journal.new.items ≡ model.with_tick (records journal.old.items) }
+/// How many ticks a record stands for, if it is one of ticks.
+fn ticks_of(last: &JournalRecord) -> Option<u32>
+    ensures { (c : Option Configuration) → result ≡ last_ticks (record_of c last.now ∷ []) }
 {
-    match journal.pop() {
-        Some(JournalRecord::Ticks(n)) => journal.push_reserved(JournalRecord::Ticks(n + 1)),
-        Some(JournalRecord::Other(_)) => unreachable!(),
-        None => unreachable!(),
+    match last {
+        JournalRecord::Ticks(n) => Some(*n),
+        JournalRecord::Batch(..)
+        | JournalRecord::FastVote(..)
+        | JournalRecord::Prepare(..)
+        | JournalRecord::Promise(..)
+        | JournalRecord::Accept(..)
+        | JournalRecord::Accepted(..)
+        | JournalRecord::Decision(..)
+        | JournalRecord::Leave(..)
+        | JournalRecord::Other(_) => None,
     }
 }
 
-/// A record more. If out of memory the journal is as it was.
-fn push(journal: &mut Vec<JournalRecord>, last: JournalRecord) -> Result<(), AllocError>
-    ensures added { OnOk result (journal.new.items ≡ journal.old.items ++ last ∷ []) }
-    ensures unchanged { OnErr result (journal.new.items ≡ journal.old.items) }
+/// The record of what the member at this place says of its configuration.
+fn record_by_parts(place: u16, body: Body) -> JournalRecord
+    requires { IsSome (about (body_of body)) }
+    ensures { (c : Option Configuration) → about (body_of body) ≡ Some (id_in c) → record_of c result ≡ said_by c place (body_of body) }
 {
-    match journal.push(last) {
-        Ok(()) => Ok(()),
-        Err(_) => Err(AllocError),
+    match body {
+        Body::Batch(_, batch) => JournalRecord::Batch(place, batch),
+        Body::FastVote(_, cut) => JournalRecord::FastVote(place, cut),
+        Body::Prepare(_, ballot) => JournalRecord::Prepare(place, ballot),
+        Body::Promise(_, ballot, vote) => JournalRecord::Promise(place, ballot, vote),
+        Body::Accept(_, ballot, cut) => JournalRecord::Accept(place, ballot, cut),
+        Body::Accepted(_, ballot, cut) => JournalRecord::Accepted(place, ballot, cut),
+        Body::Decision(_, cut) => JournalRecord::Decision(place, cut),
+        Body::Leave(_, ring) => JournalRecord::Leave(place, ring),
+        Body::PreJoin
+        | Body::Reply(..)
+        | Body::JoinRequest(..)
+        | Body::Confirm(_)
+        | Body::Probe(_)
+        | Body::ProbeAck(_) => unreachable!(),
     }
 }
 
-/// An event more. If out of memory the journal is as it was.
-pub(crate) fn add(journal: &mut Vec<JournalRecord>, event: Event) -> Result<(), AllocError>
-    ensures added { OnOk result (records journal.new.items ≡ model.with_event (records journal.old.items) (event_of event)) }
-    ensures unchanged { OnErr result (journal.new.items ≡ journal.old.items) }
+/// The record of a message in a journal with this entry. It takes memory only if the message cannot
+/// be kept by its parts.
+fn record_of(alloc: Global, entry: &Node, message: Message) -> Result<JournalRecord, AllocError>
+    ensures value { IfOk result (λ r. record_of (configuration_of entry.now) r ≡ model.Other (Receive message)) }
+    ensures refused { OnErr result (place_in (configuration_of entry.now) message ≡ None) }
 {
-    match event {
-        Event::Tick if joins_last(journal.as_slice()) => {
-            join_tick(journal);
-            Ok(())
+    match place_in(entry, &message) {
+        Some(place) => Ok(record_by_parts(place, message.into_body())),
+        None => Ok(JournalRecord::Other(Box::new(alloc, Event::Receive(message))?)),
+    }
+}
+
+impl Journal {
+    /// The journal that begins at this node.
+    pub(crate) fn new(alloc: Global, entry: Box<Node>) -> Journal
+        ensures { result ≡ record { entry = entry.value; records = [] } }
+    {
+        Journal {
+            entry,
+            records: Vec::new(alloc),
         }
-        Event::Tick => push(journal, JournalRecord::Ticks(1)),
-        Event::Receive(message) if !is_kept(message.body()) => Ok(()),
-        Event::EdgeDown(..) | Event::Receive(_) | Event::Leave => {
-            push(journal, JournalRecord::Other(event))
+    }
+
+    /// How many records there are.
+    pub(crate) fn len(&self) -> usize
+        ensures { result ≡ length self.now.records }
+    {
+        self.records.len()
+    }
+
+    /// The journal begins anew at this node. It keeps its room.
+    pub(crate) fn begin(&mut self, entry: Box<Node>)
+        ensures { self.new ≡ record { entry = entry.value; records = [] } }
+    {
+        self.records.clear();
+        self.entry = entry;
+    }
+
+    /// How many ticks the last record stands for, if it is one of ticks.
+    #[tactic(auto, using(crate::proofs::Ticking::last_is_at))]
+    fn last_ticks(&self) -> Option<u32>
+        ensures { result ≡ last_ticks self.now.records }
+    {
+        match self.records.last() {
+            Some(last) => ticks_of(last),
+            None => None,
+        }
+    }
+
+    /// Whether a tick more is joined to the last record.
+    #[tactic(auto, using(crate::proofs::Ticking::joins_by_ticks))]
+    fn joins_last(&self) -> bool
+        ensures { result ≡ joins self.now.records }
+    {
+        match self.last_ticks() {
+            Some(n) => n < u32::MAX,
+            None => false,
+        }
+    }
+
+    /// How many records the event adds: none or one.
+    pub(crate) fn added(&self, event: &Event) -> usize
+        ensures added { result ≡ added_by self.now.records (event_of event.now) }
+        ensures few { result ≤ 1 }
+    {
+        let joined = match event {
+            Event::Tick => self.joins_last(),
+            Event::EdgeDown(..) | Event::Leave => false,
+            Event::Receive(message) => !is_kept(message.body()),
+        };
+        if joined { 0 } else { 1 }
+    }
+
+    /// Gets room for this many records more.
+    pub(crate) fn reserve(&mut self, count: usize) -> Result<(), AllocError>
+        ensures { self.new ≡ self.old }
+    {
+        self.records.reserve(count)?;
+        Ok(())
+    }
+
+    /// A tick more, which is joined to the last record.
+    fn join_tick(&mut self)
+        requires { joins self.old.records ≡ true }
+        ensures { self.new ≡ record { entry = self.old.entry; records = model.with_tick self.old.records } }
+    {
+        let Some(n) = self.last_ticks() else {
+            unreachable!()
+        };
+        let _ = self.records.pop();
+        self.records.push_reserved(JournalRecord::Ticks(n + 1));
+    }
+
+    /// A record more. If out of memory the journal is as it was.
+    fn push(&mut self, last: JournalRecord) -> Result<(), AllocError>
+        ensures added { OnOk result (self.new ≡ record { entry = self.old.entry; records = self.old.records ++ record_of (configuration_of self.old.entry) last ∷ [] }) }
+        ensures unchanged { OnErr result (self.new ≡ self.old) }
+    {
+        match self.records.push(last) {
+            Ok(()) => Ok(()),
+            Err(_) => Err(AllocError),
+        }
+    }
+
+    /// An event more. If out of memory the journal is as it was.
+    pub(crate) fn add(&mut self, alloc: Global, event: Event) -> Result<(), AllocError>
+        ensures added { OnOk result (self.new ≡ record { entry = self.old.entry; records = model.with_event self.old.records (event_of event) }) }
+        ensures unchanged { OnErr result (self.new ≡ self.old) }
+    {
+        match event {
+            Event::Tick if self.joins_last() => {
+                self.join_tick();
+                Ok(())
+            }
+            Event::Tick => self.push(JournalRecord::Ticks(1)),
+            Event::Receive(message) if !is_kept(message.body()) => Ok(()),
+            Event::Receive(message) => {
+                let record = record_of(alloc, &self.entry, message)?;
+                self.push(record)
+            }
+            Event::EdgeDown(..) | Event::Leave => {
+                let event = Box::new(alloc, event)?;
+                self.push(JournalRecord::Other(event))
+            }
         }
     }
 }

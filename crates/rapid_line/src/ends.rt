@@ -5,7 +5,7 @@ ghost use Rattle.std.specs.Arc.{arc_value};
 ghost use Rattle.crossbeam_queue.specs.Passes.{view, IsPassOf, ruled_capacity};
 ghost use Rattle.rapid_line.specs.Line.{post, StartsWith, Untaken};
 
-use crate::{Compares, Note, Order, Post, Puts, Queue, Roles, Takes};
+use crate::{Compares, Order, Post, Puts, Queue, Roles, TakenNote, Takes};
 use crossbeam_queue::{Pass, RuledArrayQueue};
 use std::alloc::{AllocError, Global};
 use std::marker::Model;
@@ -180,8 +180,8 @@ fn compare<T: Drop, P: Order<T>>(
     ensures theirs { view theirs.new ≡ view theirs.old }
     ensures order { StartsWith (view pass.old).put (view theirs.old).taken }
 {
-    let note = queue.another::<Note>(theirs);
-    queue.absorb::<Note>(pass, note);
+    let note = queue.another::<TakenNote>(theirs);
+    queue.absorb::<TakenNote>(pass, note);
     queue.learn_as::<Compares>(pass);
 }
 

@@ -52,9 +52,9 @@ impl<T> Split<Post<T>> for Roles {
 }
 
 // A note of what was taken.
-pub(crate) struct Note;
+pub(crate) struct TakenNote;
 
-impl<T> Split<Post<T>> for Note {
+impl<T> Split<Post<T>> for TakenNote {
     ghost use Rattle.std.specs.Prelude.{false, []};
     ghost use Rattle.rapid_line.specs.Line.{post};
 
@@ -63,7 +63,7 @@ impl<T> Split<Post<T>> for Note {
     ghost right = { λ v. post false false [] v.taken };
 }
 
-impl<T> Join<Post<T>> for Note {
+impl<T> Join<Post<T>> for TakenNote {
     ghost use Rattle.std.specs.Prelude.{false, []};
     ghost use Rattle.rapid_line.specs.Line.{post};
 

@@ -3,8 +3,9 @@
 use bytes::Bytes;
 use rapid_config::Params;
 use rapid_endpoint::{Endpoint, ProcessId};
+use rapid_options::NodeOptions;
 use rapid_run::run_node;
-use rapid_service::{NodeOptions, RunningFault};
+use rapid_service::RunningFault;
 use rapid_transport::{Metered, SenderQueue, receive};
 use rapid_wire::Feed;
 use std::alloc::Global;

@@ -152,6 +152,14 @@ impl Message {
         &self.body
     }
 
+    /// What it says, taken out of it.
+    pub fn into_body(self) -> Body
+        ensures value { body_of result ≡ self.body }
+        ensures said { CanSay self.sender result }
+    {
+        self.body
+    }
+
     /// An equal message. What is long is shared.
     pub fn try_copy(&self, alloc: Global) -> Result<Message, AllocError>
         ensures { IfOk result (λ m. m ≡ self.now) }

@@ -8,7 +8,7 @@ use mathlib.Core.Option.{none, some, some-ne-none, some-injective}
 use lib.ListN.{get_elem?}
 use Rattle.atomic_table.specs.Table.{State, Me, step, keeps, opening, Allows, Splits, Joins}
 use Rattle.atomic_table.proofs.Lists.{at_set, at_snoc, set_again, at_map}
-use Rattle.rapid_monitor.specs.declared.board_rule.Known.{Known}
+use Rattle.rapid_monitor.specs.declared.board_rule.BoardKnowledge.{BoardKnowledge}
 use Rattle.rapid_monitor.specs.ProbeWord.{word_after, is_down_word, newest_ok}
 use Rattle.rapid_monitor.specs.BoardRule.{IsIn, is_down_after, IsDown, Fits, Role, role_of, Roles, Kept, maker_at, owner_of, watcher, own_known, with_known, Found, Stored, Looked}
 use Rattle.rapid_monitor.proofs.ProbeWords.{down_of, still_down}
@@ -16,12 +16,13 @@ use Rattle.rapid_monitor.proofs.ProbeWords.{down_of, still_down}
 off : false ≡ true → ⊥
 off e = true≢false (sym e)
 
-roles_same : (views : List Known) (id : ℕ) (v w : Known) → get_elem? views id ≡ some v → role_of w ≡ role_of v → map role_of (set views id w) ≡ map role_of views
+roles_same : (views : List BoardKnowledge) (id : ℕ) (v w : BoardKnowledge) → get_elem? views id ≡ some v → role_of w ≡ role_of v → map role_of (set views id w) ≡ map role_of views
 roles_same [] id v w at e = refl
 roles_same (x ∷ xs) zero v w at e = λ i. (e ∙ ap role_of (sym (some-injective x v at))) i ∷ map role_of xs
 roles_same (x ∷ xs) (suc id) v w at e = ap (λ l. role_of x ∷ l) (roles_same xs id v w at e)
 
-roles_more : (views : List Known) (w : Known) → map role_of (views ++ w ∷ []) ≡ map role_of views ++ role_of w ∷ []
+roles_more : (views : List BoardKnowledge) (w : BoardKnowledge)
+    → map role_of (views ++ w ∷ []) ≡ map role_of views ++ role_of w ∷ []
 roles_more [] w = refl
 roles_more (x ∷ xs) w = ap (λ l. role_of x ∷ l) (roles_more xs w)
 
@@ -41,7 +42,7 @@ bystander roles history r idle free k = record {
 }
 
 -- a seat knows more, and the words stay
-same_words : (edges : ℕ) (s : State (Unit {0}) Known) (k : Kept edges s) (id : ℕ) (v w : Known) (ws : List ℕ) → ws ≡ s.words → get_elem? s.views id ≡ some v → role_of w ≡ role_of v → Fits edges k.history w → Kept edges record { words = ws; homes = s.homes; views = set s.views id w }
+same_words : (edges : ℕ) (s : State (Unit {0}) BoardKnowledge) (k : Kept edges s) (id : ℕ) (v w : BoardKnowledge) (ws : List ℕ) → ws ≡ s.words → get_elem? s.views id ≡ some v → role_of w ≡ role_of v → Fits edges k.history w → Kept edges record { words = ws; homes = s.homes; views = set s.views id w }
 same_words edges s k id v w ws same at role fits = subst (λ l. Kept edges record { words = l; homes = s.homes; views = set s.views id w }) (sym same) record {
   history = k.history;
   size = k.size;
@@ -51,7 +52,7 @@ same_words edges s k id v w ws same at role fits = subst (λ l. Kept edges recor
 }
 
 -- the owner's load
-pub finds : (edges slots id : ℕ) (me : Me (Unit {0}) Known) (edge : ℕ) → me.0.owns ≡ true → me.0.edge ≡ edge → Allows (Kept edges) slots id me edge (λ n. n) (Found (step slots edge 0 0 none) me)
+pub finds : (edges slots id : ℕ) (me : Me (Unit {0}) BoardKnowledge) (edge : ℕ) → me.0.owns ≡ true → me.0.edge ≡ edge → Allows (Kept edges) slots id me edge (λ n. n) (Found (step slots edge 0 0 none) me)
 finds edges slots id me edge owns is s k long at fits =
     let v = me.0 in
     let f = k.each_seat id v at in
@@ -64,13 +65,13 @@ finds edges slots id me edge owns is s k long at fits =
     )
 
 -- a watcher's load
-pub looks : (edges slots id : ℕ) (me : Me (Unit {0}) Known) (edge : ℕ) → edge < edges → Allows (Kept edges) slots id me edge (λ n. n) (Looked (step slots edge 0 0 none) me)
+pub looks : (edges slots id : ℕ) (me : Me (Unit {0}) BoardKnowledge) (edge : ℕ) → edge < edges → Allows (Kept edges) slots id me edge (λ n. n) (Looked (step slots edge 0 0 none) me)
 looks edges slots id me edge within s k long at fits =
     let v = me.0 in
     let f = k.each_seat id v at in
     let n : ℕ = slice_index s.words edge in
     let is : n ≡ word_after (k.history edge) = k.word edge within in
-    let w : Known = with_known v (if is_down_word n then edge ∷ v.known else v.known) in
+    let w : BoardKnowledge = with_known v (if is_down_word n then edge ∷ v.known else v.known) in
     let knows : (b : Bool) → is_down_word n ≡ b → (e : ℕ) → IsIn e (if b then edge ∷ v.known else v.known) → IsDown (k.history e) = λ b.
     elim b as (λ c. is_down_word n ≡ c → (e : ℕ) → IsIn e (if c then edge ∷ v.known else v.known) → IsDown (k.history e)) [
       | true ↦ λ down e here. ⊎_elim (λ (same : e ≡ edge). subst (λ q. IsDown (k.history q)) (sym same) (sym (down_of (k.history edge)) ∙ ap is_down_word (sym is) ∙ down)) (λ old. f.known e old) here
@@ -99,16 +100,16 @@ grown_down edge r history e down = dite (ℕ_discrete e edge)
     (λ (apart : e ≢ edge). subst IsDown (sym (grown_else edge r history e apart)) down)
 
 -- the owner's store
-pub stores : (edges slots id : ℕ) (me : Me (Unit {0}) Known) (edge word : ℕ) → me.0 ≡ owner_of edge me.0.results me.0.known → word ≡ word_after (me.0.results ++ newest_ok word ∷ [])
+pub stores : (edges slots id : ℕ) (me : Me (Unit {0}) BoardKnowledge) (edge word : ℕ) → me.0 ≡ owner_of edge me.0.results me.0.known → word ≡ word_after (me.0.results ++ newest_ok word ∷ [])
     → Allows (Kept edges) slots id me edge (λ _. word) (λ _. Stored (step slots edge word 0 none) me word)
 stores edges slots id me edge word form is s k long at fits =
     let r : Bool = newest_ok word in
     let v = me.0 in
     let f = k.each_seat id v at in
-    let owns : v.owns ≡ true = ap (λ (x : Known). x.owns) form in
-    let of : v.edge ≡ edge = ap (λ (x : Known). x.edge) form in
+    let owns : v.owns ≡ true = ap (λ (x : BoardKnowledge). x.owns) form in
+    let of : v.edge ≡ edge = ap (λ (x : BoardKnowledge). x.edge) form in
     let mine = f.owner owns in
-    let w : Known = owner_of v.edge (v.results ++ r ∷ []) v.known in
+    let w : BoardKnowledge = owner_of v.edge (v.results ++ r ∷ []) v.known in
     let history : ℕ → List Bool = grown edge r k.history in
     let within : edge < edges = subst (λ e. e < edges) of mine.1 in
     let results : v.results ≡ k.history edge = mine.0 ∙ ap k.history of in
@@ -150,7 +151,7 @@ stores edges slots id me edge word form is s k long at fits =
     )
 
 -- one more seat that neither makes nor owns
-joined_by : (edges id : ℕ) (v w : Known) → w.makes ≡ false → w.owns ≡ false → ((history : ℕ → List Bool) → Fits edges history v → (e : ℕ) → IsIn e w.known → IsDown (history e)) → Splits (Kept edges) id v v w
+joined_by : (edges id : ℕ) (v w : BoardKnowledge) → w.makes ≡ false → w.owns ≡ false → ((history : ℕ → List Bool) → Fits edges history v → (e : ℕ) → IsIn e w.known → IsDown (history e)) → Splits (Kept edges) id v v w
 joined_by edges id v w idle free knows s k at = record {
   history = k.history;
   size = k.size;
@@ -163,26 +164,26 @@ joined_by edges id v w idle free knows s k at = record {
   roles = subst (λ l. Roles l k.history) (sym (roles_more (set s.views id v) w ∙ ap (λ l. map role_of l ++ role_of w ∷ []) (set_again s.views id v at))) (bystander (map role_of s.views) k.history (role_of w) idle free k.roles);
 }
 
-pub watchers : (edges id : ℕ) (v : Known) → Splits (Kept edges) id v v (watcher [])
+pub watchers : (edges id : ℕ) (v : BoardKnowledge) → Splits (Kept edges) id v v (watcher [])
 watchers edges id v = joined_by edges id v (watcher []) refl refl (λ history f e none. absurd none)
 
-pub notes : (edges id : ℕ) (v : Known) → Splits (Kept edges) id v v (watcher v.known)
+pub notes : (edges id : ℕ) (v : BoardKnowledge) → Splits (Kept edges) id v v (watcher v.known)
 notes edges id v = joined_by edges id v (watcher v.known) refl refl (λ history f e here. f.known e here)
 
-owner_knows : (edges : ℕ) (v : Known) → v.owns ≡ true → (history : ℕ → List Bool) → Fits edges history v → (b : Bool) → is_down_after v.results ≡ b → (e : ℕ) → IsIn e (if b then v.edge ∷ [] else []) → IsDown (history e)
+owner_knows : (edges : ℕ) (v : BoardKnowledge) → v.owns ≡ true → (history : ℕ → List Bool) → Fits edges history v → (b : Bool) → is_down_after v.results ≡ b → (e : ℕ) → IsIn e (if b then v.edge ∷ [] else []) → IsDown (history e)
 owner_knows edges v owns history f true down e here = ⊎_elim (λ (same : e ≡ v.edge). subst (λ q. IsDown (history q)) (sym same) (subst IsDown (f.owner owns).0 down)) (λ none. absurd none) here
 owner_knows edges v owns history f false up e here = absurd here
 
-pub own_notes : (edges id : ℕ) (v : Known) → v.owns ≡ true → Splits (Kept edges) id v v (watcher (own_known v))
+pub own_notes : (edges id : ℕ) (v : BoardKnowledge) → v.owns ≡ true → Splits (Kept edges) id v v (watcher (own_known v))
 own_notes edges id v owns = joined_by edges id v (watcher (own_known v)) refl refl (λ history f e here. owner_knows edges v owns history f (is_down_after v.results) refl e here)
 
 pub in_append : (e : ℕ) (xs ys : List ℕ) → IsIn e (xs ++ ys) → IsIn e xs ⊎ IsIn e ys
 in_append e [] ys h = inr h
 in_append e (x ∷ xs) ys h = ⊎_elim (λ same. inl (inl same)) (λ later. ⊎_elim (λ q. inl (inr q)) (λ q. inr q) (in_append e xs ys later)) h
 
-pub hears : (edges id : ℕ) (v : Known) (other : ℕ) (u : Known) → u.makes ≡ false → u.owns ≡ false → u.edge ≡ 0 → u.next ≡ 0 → Joins (Kept edges) id v other u (with_known v (u.known ++ v.known)) (watcher [])
+pub hears : (edges id : ℕ) (v : BoardKnowledge) (other : ℕ) (u : BoardKnowledge) → u.makes ≡ false → u.owns ≡ false → u.edge ≡ 0 → u.next ≡ 0 → Joins (Kept edges) id v other u (with_known v (u.known ++ v.known)) (watcher [])
 hears edges id v other u idle free zero_edge zero_next s k at apart there =
-    let w : Known = with_known v (u.known ++ v.known) in
+    let w : BoardKnowledge = with_known v (u.known ++ v.known) in
     let was : get_elem? s.views other ≡ some u = ⊎_elim (λ (t : (other ≡ id) × (w ≡ u)). absurd (apart t.0)) (λ (t : (other ≢ id) × (get_elem? s.views other ≡ some u)). t.1) (at_set s.views id other w u there) in
     let f = k.each_seat id v at in
     let g = k.each_seat other u was in
@@ -208,7 +209,7 @@ at_snoc_index [] a b (suc j) e = absurd (some-ne-none b (sym e))
 at_snoc_index (x ∷ xs) a b zero e = inl e
 at_snoc_index (x ∷ xs) a b (suc j) e = ⊎_elim (λ h. inl h) (λ h. inr (ap suc h.0, h.1)) (at_snoc_index xs a b j e)
 
-map_set : (views : List Known) (id : ℕ) (w : Known) → map role_of (set views id w) ≡ set (map role_of views) id (role_of w)
+map_set : (views : List BoardKnowledge) (id : ℕ) (w : BoardKnowledge) → map role_of (set views id w) ≡ set (map role_of views) id (role_of w)
 map_set [] id w = refl
 map_set (x ∷ xs) zero w = refl
 map_set (x ∷ xs) (suc id) w = ap (λ l. role_of x ∷ l) (map_set xs id w)
@@ -278,7 +279,7 @@ opens edges words wide zeros = record {
   };
 }
   where
-    one_view : (seat : ℕ) (v : Known) → get_elem? (maker_at 0 ∷ []) seat ≡ some v → Fits edges (λ e. []) v
+    one_view : (seat : ℕ) (v : BoardKnowledge) → get_elem? (maker_at 0 ∷ []) seat ≡ some v → Fits edges (λ e. []) v
     one_view zero v e = subst (Fits edges (λ e. [])) (some-injective _ _ e) record { owner = λ o. absurd (off o); known = λ q none. absurd none }
     one_view (suc seat) v e = absurd (some-ne-none v (sym e))
 

@@ -6,7 +6,7 @@ use mathlib.Core.Option.{some}
 use lib.ListN.{get_elem?}
 use Rattle.atomic_table.specs.Table.{State, Me, Step}
 use Rattle.rapid_model.specs.Edge.{fresh_edge, edge_after}
-use Rattle.rapid_monitor.specs.declared.board_rule.Known.{Known}
+use Rattle.rapid_monitor.specs.declared.board_rule.BoardKnowledge.{BoardKnowledge}
 use Rattle.rapid_monitor.specs.ProbeWord.{word_after, is_down_word, newest_ok}
 
 -- An edge is among these.
@@ -24,7 +24,7 @@ IsDown oks = IsTrue (is_down_after oks)
 
 -- The rule for one seat, given the results of the edges. The owner of an edge knows its results, and an edge that a
 -- seat knows to be down is down.
-pub record Fits (edges : ℕ) (history : ℕ → List Bool) (v : Known) : Type 0 where
+pub record Fits (edges : ℕ) (history : ℕ → List Bool) (v : BoardKnowledge) : Type 0 where
   pub owner : v.owns ≡ true → (v.results ≡ history v.edge) × (v.edge < edges)
   pub known : (edge : ℕ) → IsIn edge v.known → IsDown (history edge)
 
@@ -35,7 +35,7 @@ pub record Role : Type 0 where
   pub owns : Bool
   pub edge : ℕ
 
-abbrev pub role_of : Known → Role
+abbrev pub role_of : BoardKnowledge → Role
 role_of v = record { makes = v.makes; next = v.next; owns = v.owns; edge = v.edge }
 
 -- No edge has two owners. No two seats make owners, and of the edges from the next one on there is no owner and no
@@ -47,35 +47,35 @@ pub record Roles (roles : List Role) (history : ℕ → List Bool) : Type 0 wher
   pub fresh : (i : ℕ) (r : Role) → get_elem? roles i ≡ some r → r.makes ≡ true → (edge : ℕ) → r.next ≤ edge → history edge ≡ []
 
 -- Each edge has results, of which its word is made.
-pub record Kept (edges : ℕ) (s : State (Unit {0}) Known) : Type 0 where
+pub record Kept (edges : ℕ) (s : State (Unit {0}) BoardKnowledge) : Type 0 where
   pub history : ℕ → List Bool
   pub size : length s.words ≡ edges
   pub word : (edge : ℕ) → edge < edges → slice_index s.words edge ≡ word_after (history edge)
-  pub each_seat : (seat : ℕ) (v : Known) → get_elem? s.views seat ≡ some v → Fits edges history v
+  pub each_seat : (seat : ℕ) (v : BoardKnowledge) → get_elem? s.views seat ≡ some v → Fits edges history v
   pub roles : Roles (map role_of s.views) history
 
 -- The seat that makes the others, and next the owner of this edge.
-abbrev pub maker_at : ℕ → Known
+abbrev pub maker_at : ℕ → BoardKnowledge
 maker_at next = record { makes = true; next = next; owns = false; edge = 0; results = []; known = [] }
 
 -- The owner of an edge that had these results, and what it knows to be down.
-abbrev pub owner_of : ℕ → List Bool → List ℕ → Known
+abbrev pub owner_of : ℕ → List Bool → List ℕ → BoardKnowledge
 owner_of edge results known = record { makes = false; next = 0; owns = true; edge = edge; results = results; known = known }
 
 -- A watcher that knows these edges to be down.
-abbrev pub watcher : List ℕ → Known
+abbrev pub watcher : List ℕ → BoardKnowledge
 watcher known = record { makes = false; next = 0; owns = false; edge = 0; results = []; known = known }
 
 -- What an owner knows of its own edge.
-abbrev pub own_known : Known → List ℕ
+abbrev pub own_known : BoardKnowledge → List ℕ
 own_known v = if is_down_after v.results then v.edge ∷ [] else []
 
 -- A seat that knows these edges to be down in place of those before.
-abbrev pub with_known : Known → List ℕ → Known
+abbrev pub with_known : BoardKnowledge → List ℕ → BoardKnowledge
 with_known v known = record { makes = v.makes; next = v.next; owns = v.owns; edge = v.edge; results = v.results; known = known }
 
 abbrev Holder : Type 0
-Holder = Me (Unit {0}) Known
+Holder = Me (Unit {0}) BoardKnowledge
 
 -- The owner's load: it finds the word of its results, and its edge is down if that is what it knows.
 abbrev pub Found : Step (Unit {0}) → Holder → ℕ → Holder → Type 0

@@ -8,7 +8,7 @@ ghost use Rattle.rapid_model.specs.Edge.{HasDownStretch};
 ghost use Rattle.rapid_monitor.specs.BoardRule.{maker_at, watcher, owner_of, own_known, is_down_after, IsIn, IsDown};
 ghost use Rattle.rapid_monitor.specs.Boards.{fresh_watcher, fresh_seat, IsSize, IsRefusal};
 
-use crate::board_rule::{Known, Looks, Note, OwnNote, Owners, Watchers, Words};
+use crate::board_rule::{BoardKnowledge, DownNote, Looks, OwnNote, Owners, Watchers, Words};
 use crate::edge_seat::{EdgeSeat, find};
 use crate::probe_word::is_down;
 use crate::{BoardError, Verdict};
@@ -29,7 +29,7 @@ const MOST_WATCHERS: usize = 64;
 #[derive(Drop)]
 pub struct EdgeBoard {
     words: Arc<Words>,
-    seat: Seat<(), Known>,
+    seat: Seat<(), BoardKnowledge>,
     edges: usize,
 }
 
@@ -47,7 +47,7 @@ impl Model for EdgeBoard {
 }
 
 /// The words of edges that were not probed, and the seat that makes the others.
-fn empty(alloc: Global, edges: usize) -> Result<(Words, Seat<(), Known>), AllocError>
+fn empty(alloc: Global, edges: usize) -> Result<(Words, Seat<(), BoardKnowledge>), AllocError>
     ensures { IfOk result (λ r. (r.0.shared.table_id.words ≡ edges) × (r.0.shared.key ≡ edges) × (r.1.table_id ≡ r.0.shared.table_id) × (r.1.me ≡ (maker_at 0, []))) }
 {
     let words = vec![in alloc; 0u64; edges]?;
@@ -57,7 +57,7 @@ fn empty(alloc: Global, edges: usize) -> Result<(Words, Seat<(), Known>), AllocE
 /// The seat of the next edge.
 fn owner(
     words: &Arc<Words>,
-    maker: &mut Seat<(), Known>,
+    maker: &mut Seat<(), BoardKnowledge>,
     edge: usize,
 ) -> Result<EdgeSeat, AllocError>
     requires own { maker.old.table_id ≡ (arc_value words.now).shared.table_id }
@@ -78,7 +78,7 @@ fn owner(
 /// One more watcher.
 fn onlooker(
     words: &Arc<Words>,
-    maker: &mut Seat<(), Known>,
+    maker: &mut Seat<(), BoardKnowledge>,
     edges: usize,
 ) -> Result<EdgeBoard, AllocError>
     requires own { maker.old.table_id ≡ (arc_value words.now).shared.table_id }
@@ -98,7 +98,7 @@ fn onlooker(
 fn owners(
     alloc: Global,
     words: &Arc<Words>,
-    mut maker: Seat<(), Known>,
+    mut maker: Seat<(), BoardKnowledge>,
     edges: usize,
 ) -> Result<Vec<EdgeSeat>, AllocError>
     requires own { maker.table_id ≡ (arc_value words.now).shared.table_id }
@@ -118,7 +118,7 @@ fn owners(
 fn onlookers(
     alloc: Global,
     words: &Arc<Words>,
-    maker: &mut Seat<(), Known>,
+    maker: &mut Seat<(), BoardKnowledge>,
     edges: usize,
     watchers: usize,
 ) -> Result<Vec<EdgeBoard>, AllocError>
@@ -216,7 +216,7 @@ impl EdgeBoard {
 }
 
 /// Looks at the word of an edge.
-fn look(words: &Words, seat: &mut Seat<(), Known>, edge: usize) -> bool
+fn look(words: &Words, seat: &mut Seat<(), BoardKnowledge>, edge: usize) -> bool
     requires own { seat.old.table_id ≡ words.now.shared.table_id }
     requires watcher { seat.old.me ≡ (watcher seat.old.me.0.known, []) }
     requires within { (words.now.shared.table_id.words ≡ words.now.shared.key) × (edge < words.now.shared.key) }
@@ -228,7 +228,12 @@ fn look(words: &Words, seat: &mut Seat<(), Known>, edge: usize) -> bool
 }
 
 /// Each of a watcher and an owner hears what the other knows.
-fn tie(words: &Words, seat: &mut Seat<(), Known>, theirs: &mut Seat<(), Known>, edge: usize)
+fn tie(
+    words: &Words,
+    seat: &mut Seat<(), BoardKnowledge>,
+    theirs: &mut Seat<(), BoardKnowledge>,
+    edge: usize,
+)
     requires own { seat.old.table_id ≡ words.now.shared.table_id }
     requires theirs { theirs.old.table_id ≡ words.now.shared.table_id }
     requires watcher { seat.old.me ≡ (watcher seat.old.me.0.known, []) }
@@ -240,8 +245,8 @@ fn tie(words: &Words, seat: &mut Seat<(), Known>, theirs: &mut Seat<(), Known>, 
     ensures told { seat.new.me ≡ (watcher (own_known theirs.old.me.0 ++ seat.old.me.0.known), []) }
 {
     let note = words.shared.split_seat::<OwnNote>(theirs);
-    let mine = words.shared.split_seat::<Note>(seat);
-    words.shared.join_seat::<Note>(theirs, mine);
-    words.shared.join_seat::<Note>(seat, note);
+    let mine = words.shared.split_seat::<DownNote>(seat);
+    words.shared.join_seat::<DownNote>(theirs, mine);
+    words.shared.join_seat::<DownNote>(seat, note);
     find(words, theirs, edge);
 }

@@ -7,7 +7,7 @@ use std::collections::LinkedList;
 /// What a seat knows. It knows whether it makes the seats of edges, and of which edge next. It
 /// knows whether it owns an edge, which one, and the results of that edge. And it knows of some
 /// edges that they are down. It is a type for contracts: no value of it is ever made.
-pub struct Known {
+pub struct BoardKnowledge {
     pub makes: bool,
     pub next: u64,
     pub owns: bool,
@@ -20,9 +20,9 @@ pub struct Known {
 pub struct Ruled;
 
 /// The words of a board, one an edge.
-pub(crate) type Words = Table<(), Known, u64, Ruled, Global>;
+pub(crate) type Words = Table<(), BoardKnowledge, u64, Ruled, Global>;
 
-impl TableRule<(), Known, u64> for Ruled {
+impl TableRule<(), BoardKnowledge, u64> for Ruled {
     ghost use Rattle.rapid_monitor.specs.BoardRule.{Kept, maker_at};
 
     ghost holds = { Kept };
@@ -33,7 +33,7 @@ impl TableRule<(), Known, u64> for Ruled {
 /// The owner of an edge loads its word.
 pub(crate) struct Finds;
 
-impl Play<(), Known> for Finds {
+impl Play<(), BoardKnowledge> for Finds {
     ghost use Rattle.rapid_monitor.specs.BoardRule.{Found};
 
     ghost then = { Found };
@@ -42,7 +42,7 @@ impl Play<(), Known> for Finds {
 /// The owner of an edge stores the word of one more result.
 pub(crate) struct Stores;
 
-impl Play<(), Known> for Stores {
+impl Play<(), BoardKnowledge> for Stores {
     ghost use Rattle.rapid_monitor.specs.BoardRule.{Stored};
 
     ghost then = { Stored };
@@ -51,7 +51,7 @@ impl Play<(), Known> for Stores {
 /// Anyone loads the word of an edge.
 pub(crate) struct Looks;
 
-impl Play<(), Known> for Looks {
+impl Play<(), BoardKnowledge> for Looks {
     ghost use Rattle.rapid_monitor.specs.BoardRule.{Looked};
 
     ghost then = { Looked };
@@ -60,7 +60,7 @@ impl Play<(), Known> for Looks {
 /// The maker makes the owner of its next edge. It is no step on a word.
 pub(crate) struct Owners;
 
-impl Split<Known> for Owners {
+impl Split<BoardKnowledge> for Owners {
     ghost use Rattle.std.specs.Prelude.{◌+◌, []};
     ghost use Rattle.rapid_monitor.specs.BoardRule.{maker_at, owner_of};
 
@@ -72,7 +72,7 @@ impl Split<Known> for Owners {
 /// A watcher that knows nothing is made.
 pub(crate) struct Watchers;
 
-impl Split<Known> for Watchers {
+impl Split<BoardKnowledge> for Watchers {
     ghost use Rattle.std.specs.Prelude.{[]};
     ghost use Rattle.rapid_monitor.specs.BoardRule.{watcher};
 
@@ -81,10 +81,10 @@ impl Split<Known> for Watchers {
     ghost right = { λ v. watcher [] };
 }
 
-/// A note of what a seat knows, and what another makes of it.
-pub(crate) struct Note;
+/// A note of the edges that a seat knows to be down, and what another makes of it.
+pub(crate) struct DownNote;
 
-impl Split<Known> for Note {
+impl Split<BoardKnowledge> for DownNote {
     ghost use Rattle.rapid_monitor.specs.BoardRule.{watcher};
 
     ghost left = { λ v. v };
@@ -92,7 +92,7 @@ impl Split<Known> for Note {
     ghost right = { λ v. watcher v.known };
 }
 
-impl Join<Known> for Note {
+impl Join<BoardKnowledge> for DownNote {
     ghost use Rattle.std.specs.Prelude.{◌++◌, []};
     ghost use Rattle.rapid_monitor.specs.BoardRule.{watcher, with_known};
 
@@ -104,7 +104,7 @@ impl Join<Known> for Note {
 /// A note of what an owner knows of its edge.
 pub(crate) struct OwnNote;
 
-impl Split<Known> for OwnNote {
+impl Split<BoardKnowledge> for OwnNote {
     ghost use Rattle.rapid_monitor.specs.BoardRule.{watcher, own_known};
 
     ghost left = { λ v. v };

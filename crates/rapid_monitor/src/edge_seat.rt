@@ -8,7 +8,7 @@ ghost use Rattle.rapid_monitor.specs.Boards.{verdict_after};
 ghost use Rattle.rapid_monitor.specs.declared.edge.Verdict.TheVariants.{Down};
 
 use crate::Verdict;
-use crate::board_rule::{Finds, Known, Stores, Words};
+use crate::board_rule::{BoardKnowledge, Finds, Stores, Words};
 use crate::probe_word::{is_down, next_word};
 use atomic_table::Seat;
 use std::marker::Model;
@@ -19,7 +19,7 @@ use std::sync::Arc;
 #[derive(Drop)]
 pub struct EdgeSeat {
     pub(crate) words: Arc<Words>,
-    pub(crate) seat: Seat<(), Known>,
+    pub(crate) seat: Seat<(), BoardKnowledge>,
     pub(crate) edge: usize,
     /// The verdict of the results so far.
     pub(crate) verdict: Verdict,
@@ -39,7 +39,7 @@ impl Model for EdgeSeat {
 }
 
 /// Loads the word of an edge by its owner's seat.
-pub(crate) fn find(words: &Words, seat: &mut Seat<(), Known>, edge: usize) -> u64
+pub(crate) fn find(words: &Words, seat: &mut Seat<(), BoardKnowledge>, edge: usize) -> u64
     requires own { seat.old.table_id ≡ words.now.shared.table_id }
     requires owner { seat.old.me ≡ (owner_of edge seat.old.me.0.results seat.old.me.0.known, []) }
     requires within { (words.now.shared.table_id.words ≡ words.now.shared.key) × (edge < words.now.shared.key) }
@@ -51,7 +51,7 @@ pub(crate) fn find(words: &Words, seat: &mut Seat<(), Known>, edge: usize) -> u6
 }
 
 /// Stores the word of one more result by the owner's seat.
-fn store(words: &Words, seat: &mut Seat<(), Known>, edge: usize, word: u64)
+fn store(words: &Words, seat: &mut Seat<(), BoardKnowledge>, edge: usize, word: u64)
     requires own { seat.old.table_id ≡ words.now.shared.table_id }
     requires owner { seat.old.me ≡ (owner_of edge seat.old.me.0.results seat.old.me.0.known, []) }
     requires within { (words.now.shared.table_id.words ≡ words.now.shared.key) × (edge < words.now.shared.key) }

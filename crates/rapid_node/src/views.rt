@@ -141,12 +141,12 @@ impl ViewWithRings {
 
 /// A view, and the configuration and the cut that led to it, if any did.
 #[derive(Debug, Drop)]
-struct Known {
+struct KeptView {
     before: Option<(Configuration, Cut)>,
     view: ViewWithRings,
 }
 
-impl Model for Known {
+impl Model for KeptView {
     ghost use Rattle.rapid_model.specs.Configuration.{Configuration as ModelConfiguration};
     ghost use Rattle.rapid_node.specs.Views.{LeadsTo};
 
@@ -157,7 +157,7 @@ impl Model for Known {
     ghost invariant = { λ k. LeadsTo k.before k.view };
 }
 
-impl Known {
+impl KeptView {
     /// Whether it is the view after this configuration by this cut.
     fn is_after(&self, before: &Configuration, cut: &Cut) -> bool
         ensures { result ≡ true → self.now ≡ apply before.now cut.now }
@@ -199,7 +199,7 @@ impl Known {
 #[derive(Debug, Drop)]
 pub struct Views {
     // the newest last
-    known: Vec<Known>,
+    kept: Vec<KeptView>,
     most: usize,
     alloc: Global,
 }
@@ -210,7 +210,7 @@ impl Model for Views {
 
     ghost Value = { List ModelConfiguration };
 
-    ghost view = { λ v. v.known.items };
+    ghost view = { λ v. v.kept.items };
 }
 
 impl Views {
@@ -219,7 +219,7 @@ impl Views {
         ensures { result ≡ [] }
     {
         Views {
-            known: Vec::new(alloc),
+            kept: Vec::new(alloc),
             most,
             alloc,
         }
@@ -229,8 +229,8 @@ impl Views {
     pub fn newest(&self) -> Option<&Configuration>
         ensures { option_map (λ c. c.now) result ≡ slice_get self.now (length self.now - 1) }
     {
-        match self.known.last() {
-            Some(known) => Some(known.configuration()),
+        match self.kept.last() {
+            Some(kept) => Some(kept.configuration()),
             None => None,
         }
     }
@@ -239,7 +239,7 @@ impl Views {
     pub(crate) fn of(&mut self, configuration: &Configuration) -> Result<ViewWithRings, AllocError>
         ensures { IfOk result (λ view. view ≡ configuration.now) }
     {
-        if let Some(view) = found(self.known.as_slice(), configuration)? {
+        if let Some(view) = found(self.kept.as_slice(), configuration)? {
             return Ok(view);
         }
         let view = ViewWithRings::of(self.alloc, configuration)?;
@@ -256,7 +256,7 @@ impl Views {
         requires { before.now.config.height < 2 ^ 64 - 1 }
         ensures { IfOk result (λ view. view ≡ apply before.now.config cut.now) }
     {
-        if let Some(view) = found_after(self.known.as_slice(), before.configuration(), cut)? {
+        if let Some(view) = found_after(self.kept.as_slice(), before.configuration(), cut)? {
             return Ok(view);
         }
         let view = ViewWithRings::after(self.alloc, before, cut)?;
@@ -277,23 +277,23 @@ impl Views {
         if self.most == 0 {
             return Ok(());
         }
-        if self.known.len() >= self.most {
-            let _ = self.known.remove(0);
+        if self.kept.len() >= self.most {
+            let _ = self.kept.remove(0);
         }
         let view = view.share()?;
-        self.known.push(Known { before, view })?;
+        self.kept.push(KeptView { before, view })?;
         Ok(())
     }
 }
 
 /// The view of a configuration among these.
 fn found(
-    known: &[Known],
+    kept: &[KeptView],
     configuration: &Configuration,
 ) -> Result<Option<ViewWithRings>, AllocError>
     ensures { IfOk result (λ found. IfSome found (λ view. view ≡ configuration.now)) }
 {
-    for entry in known {
+    for entry in kept {
         if entry.is_of(configuration) {
             return Ok(Some(entry.share()?));
         }
@@ -303,13 +303,13 @@ fn found(
 
 /// The view after a configuration by a cut among these.
 fn found_after(
-    known: &[Known],
+    kept: &[KeptView],
     before: &Configuration,
     cut: &Cut,
 ) -> Result<Option<ViewWithRings>, AllocError>
     ensures { IfOk result (λ found. IfSome found (λ view. view ≡ apply before.now cut.now)) }
 {
-    for entry in known {
+    for entry in kept {
         if entry.is_after(before, cut) {
             return Ok(Some(entry.share()?));
         }

@@ -2,7 +2,8 @@
 
 use crate::threads::{Streams, run_threads, tell};
 use rapid_agent::Agent;
-use rapid_service::{NodeOptions, RunningFault};
+use rapid_options::NodeOptions;
+use rapid_service::RunningFault;
 use std::alloc::Global;
 use std::io::{Read, Write};
 use std::net::{Net, TcpListener, TcpStream};

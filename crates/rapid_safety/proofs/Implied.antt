@@ -19,7 +19,7 @@ counted p [] x i t = absurd i
 counted p (y ∷ ys) x (inl e) t = omega (arith, (count_cons p y ys ∙ ap (λ b. cond b 1 0 + count_by p ys) (ap p e ∙ t)))
 counted p (y ∷ ys) x (inr i) t = omega (arith, (count_cons p y ys), (counted p ys x i t))
 
--- where one at most passes, two that pass are the same
+-- if one at most passes, two that pass are the same
 one_passes : {A : Type 0} (p : A → Bool) (xs : List A) (x y : A) → count_by p xs ≤ 1 → In xs x → In xs y → p x ≡ true → p y ≡ true → x ≡ y
 one_passes p [] x y m i j s t = absurd i
 one_passes p (z ∷ zs) x y m (inl e) (inl f) s t = sym e ∙ f

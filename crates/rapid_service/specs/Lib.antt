@@ -1,6 +1,5 @@
 pub mod NodeLine
 pub mod ViewText
-pub mod Options
 pub mod Statuses
 pub mod EdgeText
 pub mod Repeating
@@ -12,3 +11,6 @@ pub mod Endings
 pub mod NoteText
 pub mod Edges
 pub mod Presents
+pub mod Entering
+pub mod Subscribing
+pub mod HandingOn

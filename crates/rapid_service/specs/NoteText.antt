@@ -1,3 +1,4 @@
+-- Clauses of public calls cite this file.
 -- The text of what a node reports.
 use Rattle.std.specs.Prelude.{◌++◌, codes, decimal}
 use Rattle.rapid_model.specs.Bytes.{Text}

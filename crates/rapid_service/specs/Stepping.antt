@@ -1,11 +1,11 @@
 -- Clauses of public calls cite this file.
 -- What a service does with an event.
-use Rattle.std.specs.Prelude.{◌≡◌, List}
-use Rattle.rapid_model.specs.Node.{Event, Output}
+use Rattle.std.specs.Prelude.{◌≡◌, List, [], ◌∷◌}
+use Rattle.rapid_model.specs.Node.{Event, Output, configuration_of, has_installed}
 use Rattle.rapid_model.specs.NodeStep.{node_step}
 use Rattle.rapid_node.specs.Steps.{HasOutcome}
 use Rattle.rapid_desk.specs.States.{DeskState}
-use Rattle.rapid_desk.specs.Desks.{Advances, Refused}
+use Rattle.rapid_desk.specs.Desks.{DeskValue, Advances, Announced, Refused}
 use Rattle.rapid_desk.specs.declared.error.DeskError.{DeskError}
 use Rattle.rapid_service.specs.Statuses.{fault_of}
 use Rattle.rapid_service.specs.declared.fault.RunningFault.{RunningFault}
@@ -24,6 +24,16 @@ pub record HasStepped (old : DeskState) (event : Event) (new : DeskState) (sent 
 abbrev pub HasRefused : DeskState → Event → DeskState → RunningFault → Type 0
 HasRefused old event new fault = (before : DeskState) × (error : DeskError) × HasSameNode old before × Refused before event new error × (fault ≡ fault_of error)
 
--- The desk made a step with this event.
-abbrev pub Steps : DeskState → Event → DeskState → Type 0
-Steps old event new = (sent : List Output) × HasStepped old event new sent
+-- What was put for those who are subscribed: the node's view if it installed something, else nothing.
+abbrev pub Tells : DeskValue → DeskValue → Type 0
+Tells old new = Announced (has_installed old.state.node new.state.node) (configuration_of new.state.node) old.subscriptions new.subscriptions
+
+-- The desk made a step with this event, and told those who are subscribed of it.
+pub record Steps (old : DeskValue) (event : Event) (new : DeskValue) : Type 0 where
+  pub made : (sent : List Output) × HasStepped old.state event new.state sent
+  pub told : Tells old new
+
+-- The desk made a step with each of these events, in order, and nothing else.
+abbrev pub StepsAll : DeskValue → List Event → DeskValue → Type 0
+StepsAll old [] new = new ≡ old
+StepsAll old (event ∷ events) new = (between : DeskValue) × Steps old event between × StepsAll between events new

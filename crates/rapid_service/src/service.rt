@@ -1,9 +1,9 @@
 // One node at its desk, with its probes.
 
-ghost use Rattle.std.specs.Prelude.{◌≡◌, ◌==◌, ℕ, ◌+◌, ◌%◌, ◌<◌, ◌≤◌, ◌++◌, [], ◌∷◌, map, false, Ok, Some, None, length, vec_len, IfOk, IfErr, IfSome, IsSomeAnd, OnOk, OnErr};
+ghost use Rattle.std.specs.Prelude.{◌≡◌, ◌==◌, ℕ, ◌+◌, ◌%◌, ◌<◌, ◌≤◌, ◌++◌, [], ◌∷◌, ◌↔◌, map, false, Ok, Some, None, length, option_to_list, vec_len, IfOk, IfErr, IfSome, IsSome, IsSomeAnd, OnOk, OnErr};
 ghost use Rattle.std.specs.Option.{option_map};
 ghost use Rattle.std.proofs.Props.{props};
-ghost use Rattle.rapid_desk.specs.Desks.{NotSubscribed, seed_state, joiner_state};
+ghost use Rattle.rapid_desk.specs.Desks.{NotSubscribed, seed_state, joiner_state, shown_height};
 ghost use Rattle.rapid_node.specs.Phases.{name_of};
 ghost use Rattle.rapid_model.specs.Configuration.{founding};
 ghost use Rattle.rapid_model.specs.Message.{Probe};
@@ -12,9 +12,12 @@ ghost use Rattle.rapid_model.specs.Ring.{subjects_of};
 ghost use Rattle.rapid_model.specs.Limits.{most_notes, most_subscriptions, most_waiting_views};
 ghost use Rattle.rapid_node.specs.Steps.{event_of};
 ghost use Rattle.rapid_service.specs.Edges.{place_of};
+ghost use Rattle.rapid_service.specs.Entering.{EntersOne, EntersSome, views_of};
+ghost use Rattle.rapid_service.specs.HandingOn.{down_on, downs_from};
 ghost use Rattle.rapid_service.specs.Presents.{edges_in};
 ghost use Rattle.rapid_service.specs.Remembering.{IsRepeatFor};
-ghost use Rattle.rapid_service.specs.Stepping.{HasStepped, HasRefused, Steps};
+ghost use Rattle.rapid_service.specs.Stepping.{HasStepped, HasRefused, Steps, StepsAll, Tells};
+ghost use Rattle.rapid_service.specs.Subscribing.{StillServes};
 ghost use Rattle.rapid_service.specs.ViewText.{view_text};
 ghost use Rattle.rapid_service.specs.declared.note.Answer.TheVariants.{Nothing};
 ghost use Rattle.rapid_service.specs.declared.received.Received.TheVariants as fate;
@@ -52,7 +55,9 @@ const CHANGES: usize = 4;
 const SEATS: usize = 8;
 
 /// A node at its desk, with the probes of those whom it observes in its current view. It is kept
-/// under a lock, and whoever holds the lock gives it ticks and messages.
+/// under a lock, and whoever holds the lock gives it ticks and messages. A step takes at most one
+/// view of its own subscription, and enters it: the line of the view waits behind those that wait.
+/// Only `take_lines` takes lines away.
 #[derive(Drop)]
 pub struct Service<R: Wait + Copy + Drop, P: Post + Drop> {
     rt: R,
@@ -130,6 +135,7 @@ impl<R: Wait + Copy + Drop, P: Post + Drop> Service<R, P> {
     ) -> Result<Service<R, P>, RunningFault>
         ensures desk { IfOk result (λ s. (s.desk.state ≡ desk.state) × (s.me ≡ me)) }
         ensures blank { IfOk result (λ s. (s.present ≡ None) × (s.asking ≡ None) × (s.lines.items ≡ []) × (s.notes.waiting.items ≡ []) × (s.rounds ≡ 0)) }
+        ensures own { IfOk result (λ s. (s.desk.subscriptions ≡ desk.subscriptions ++ record { queue = s.changes.queue; since = shown_height desk.state.published; capacity = 4; put = []; known = [] } ∷ []) × (s.changes.taken ≡ [])) }
     {
         let changes = desk.subscribe(CHANGES)?;
         Ok(Service {
@@ -160,6 +166,7 @@ impl<R: Wait + Copy + Drop, P: Post + Drop> Service<R, P> {
         ensures desk { IfOk result (λ s. (s.desk.state ≡ seed_state (founding params (me ∷ [])) me) × (s.me ≡ me)) }
         ensures entered { IfOk result (λ s. IsSomeAnd s.present (λ present. present.view ≡ founding params (me ∷ []))) }
         ensures line { IfOk result (λ s. s.lines.items ≡ view_text (founding params (me ∷ []))) }
+        ensures own { IfOk result (λ s. (s.desk.subscriptions ≡ record { queue = s.changes.queue; since = shown_height s.desk.state.published; capacity = 4; put = []; known = [] } ∷ []) × (s.changes.taken ≡ [])) }
     {
         let Ok(configuration) = Configuration::seed(alloc, params, &[me]) else {
             return Err(RunningFault::OutOfMemory);
@@ -187,6 +194,7 @@ impl<R: Wait + Copy + Drop, P: Post + Drop> Service<R, P> {
         ensures desk { IfOk result (λ s. (s.desk.state ≡ joiner_state me seed) × (s.me ≡ me)) }
         ensures asks { IfOk result (λ s. s.asking ≡ Some (record { seed = seed; ticks = 0; answer = Nothing })) }
         ensures blank { IfOk result (λ s. (s.present ≡ None) × (s.lines.items ≡ [])) }
+        ensures own { IfOk result (λ s. (s.desk.subscriptions ≡ record { queue = s.changes.queue; since = shown_height s.desk.state.published; capacity = 4; put = []; known = [] } ∷ []) × (s.changes.taken ≡ [])) }
     {
         let desk = Desk::joiner(rt, alloc, me, seed, SEATS)?;
         let mut service = Service::at(rt, alloc, me, desk, post)?;
@@ -196,9 +204,10 @@ impl<R: Wait + Copy + Drop, P: Post + Drop> Service<R, P> {
 
     /// A tick of the node; whether a round of probes is due after it, as after every tenth.
     pub fn tick(&mut self) -> Result<bool, RunningFault>
-        ensures step { OnOk result (Steps self.old.desk.state model.Tick self.new.desk.state) }
+        ensures step { OnOk result (Steps self.old.desk model.Tick self.new.desk) }
         ensures due { (n : ℕ) → self.old.rounds ≡ n % 10 → IfOk result (λ due. due ≡ ((n + 1) % 10 == 0)) }
         ensures counted { (n : ℕ) → self.old.rounds ≡ n % 10 → OnOk result (self.new.rounds ≡ (n + 1) % 10) }
+        ensures views { OnOk result (EntersOne (views_of self.old.changes.taken self.old.lines.items self.old.present) (views_of self.new.changes.taken self.new.lines.items self.new.present)) }
     {
         self.step(Event::Tick)?;
         self.count_tick();
@@ -211,6 +220,7 @@ impl<R: Wait + Copy + Drop, P: Post + Drop> Service<R, P> {
     pub fn take_parts(&mut self, parts: u8) -> Result<Option<Vec<Part>>, RunningFault>
         ensures none { self.old.present ≡ None → IfOk result (λ r. r ≡ None) }
         ensures desk { self.new.desk ≡ self.old.desk }
+        ensures views { views_of self.new.changes.taken self.new.lines.items self.new.present ≡ views_of self.old.changes.taken self.old.lines.items self.old.present }
     {
         match &mut self.present {
             Some(present) => present.watch.take_parts(parts),
@@ -219,8 +229,11 @@ impl<R: Wait + Copy + Drop, P: Post + Drop> Service<R, P> {
     }
 
     /// A round of a part was made: its edges that went down are given to the node, and its probes
-    /// go out.
-    pub fn hand_on(&mut self, round: &PartRound) -> Result<(), RunningFault> {
+    /// go out. Each edge is a step, so several views may be entered, in order.
+    pub fn hand_on(&mut self, round: &PartRound) -> Result<(), RunningFault>
+        ensures steps { OnOk result (StepsAll self.old.desk (downs_from round.now.id 0 round.now.downs) self.new.desk) }
+        ensures views { OnOk result (EntersSome (views_of self.old.changes.taken self.old.lines.items self.old.present) (views_of self.new.changes.taken self.new.lines.items self.new.present)) }
+    {
         self.hand_down(round.id, &round.downs)?;
         let frame = frame_of(self.alloc, &probe_of(self.me, round.id))?;
         probe_all(&self.rt, &mut self.post, &round.probes, &frame)?;
@@ -231,6 +244,7 @@ impl<R: Wait + Copy + Drop, P: Post + Drop> Service<R, P> {
     pub fn edges(&mut self) -> Result<Vec<EdgeState>, AllocError>
         ensures edges { IfOk result (λ states. map place_of states.items ≡ edges_in self.old.me self.old.present) }
         ensures desk { self.new.desk ≡ self.old.desk }
+        ensures views { views_of self.new.changes.taken self.new.lines.items self.new.present ≡ views_of self.old.changes.taken self.old.lines.items self.old.present }
     {
         match &mut self.present {
             Some(present) => present.watch.states(),
@@ -245,7 +259,9 @@ impl<R: Wait + Copy + Drop, P: Post + Drop> Service<R, P> {
         ensures repeats { IfOk result (λ received. received ≡ fate.Dropped → IsSomeAnd self.old.present (λ present. IsRepeatFor present.repeats message)) }
         ensures drops { IsSomeAnd self.old.present (λ present. IsRepeatFor present.repeats message) → result ≡ Ok fate.Dropped }
         ensures desk { IfOk result (λ received. received ≡ fate.Dropped → self.new.desk ≡ self.old.desk) }
-        ensures taken { IfOk result (λ received. received ≡ fate.Taken → Steps self.old.desk.state (model.Receive message) self.new.desk.state) }
+        ensures taken { IfOk result (λ received. received ≡ fate.Taken → Steps self.old.desk (model.Receive message) self.new.desk) }
+        ensures views { OnOk result (EntersOne (views_of self.old.changes.taken self.old.lines.items self.old.present) (views_of self.new.changes.taken self.new.lines.items self.new.present)) }
+        ensures undisturbed { IfOk result (λ received. received ≡ fate.Dropped → views_of self.new.changes.taken self.new.lines.items self.new.present ≡ views_of self.old.changes.taken self.old.lines.items self.old.present) }
     {
         if let Body::Reply(joiner, reply) = message.body() {
             self.hear(joiner, reply);
@@ -261,7 +277,8 @@ impl<R: Wait + Copy + Drop, P: Post + Drop> Service<R, P> {
     /// before until a view comes without it. One that still has it makes it a member that stays,
     /// unless it is asked again; nothing else than a member leaves.
     pub fn leave(&mut self) -> Result<(), RunningFault>
-        ensures { OnOk result (Steps self.old.desk.state model.Leave self.new.desk.state) }
+        ensures step { OnOk result (Steps self.old.desk model.Leave self.new.desk) }
+        ensures views { OnOk result (EntersOne (views_of self.old.changes.taken self.old.lines.items self.old.present) (views_of self.new.changes.taken self.new.lines.items self.new.present)) }
     {
         self.step(Event::Leave)
     }
@@ -271,6 +288,7 @@ impl<R: Wait + Copy + Drop, P: Post + Drop> Service<R, P> {
         ensures repeats { result ≡ false → IsSomeAnd self.old.present (λ present. IsRepeatFor present.repeats message.now) }
         ensures drops { IsSomeAnd self.old.present (λ present. IsRepeatFor present.repeats message.now) → result ≡ false }
         ensures desk { self.new.desk ≡ self.old.desk }
+        ensures views { views_of self.new.changes.taken self.new.lines.items self.new.present ≡ views_of self.old.changes.taken self.old.lines.items self.old.present }
     {
         match &mut self.present {
             Some(present) => present.repeats.admits(message),
@@ -281,6 +299,7 @@ impl<R: Wait + Copy + Drop, P: Post + Drop> Service<R, P> {
     /// A tick was made in the current view.
     fn count_tick(&mut self)
         ensures desk { self.new.desk ≡ self.old.desk }
+        ensures views { views_of self.new.changes.taken self.new.lines.items self.new.present ≡ views_of self.old.changes.taken self.old.lines.items self.old.present }
         ensures rest { (self.new.rounds ≡ self.old.rounds) × (self.new.me ≡ self.old.me) }
     {
         if let Some(present) = &mut self.present {
@@ -292,6 +311,7 @@ impl<R: Wait + Copy + Drop, P: Post + Drop> Service<R, P> {
     /// questions is noted.
     fn note_question(&mut self)
         ensures desk { self.new.desk ≡ self.old.desk }
+        ensures views { views_of self.new.changes.taken self.new.lines.items self.new.present ≡ views_of self.old.changes.taken self.old.lines.items self.old.present }
         ensures rest { (self.new.rounds ≡ self.old.rounds) × (self.new.me ≡ self.old.me) }
     {
         if let Some(asking) = &mut self.asking
@@ -306,6 +326,7 @@ impl<R: Wait + Copy + Drop, P: Post + Drop> Service<R, P> {
     fn hear(&mut self, joiner: &Process, reply: &Reply)
         ensures present { self.new.present ≡ self.old.present }
         ensures desk { self.new.desk ≡ self.old.desk }
+        ensures views { views_of self.new.changes.taken self.new.lines.items self.new.present ≡ views_of self.old.changes.taken self.old.lines.items self.old.present }
     {
         if let Some(asking) = &mut self.asking
             && *joiner == self.me
@@ -316,7 +337,10 @@ impl<R: Wait + Copy + Drop, P: Post + Drop> Service<R, P> {
 
     /// A seat at the published view: one of eight, from when there is a view.
     pub fn take_seat(&mut self) -> Option<ViewSeat>
-        ensures { (self.new.desk ≡ self.old.desk) × (self.new.me ≡ self.old.me) }
+        ensures seat { self.old.seats.items ≡ self.new.seats.items ++ option_to_list result }
+        ensures some { IsSome result ↔ (0 < vec_len self.old.seats) }
+        ensures same { (self.new.desk ≡ self.old.desk) × (self.new.me ≡ self.old.me) }
+        ensures views { views_of self.new.changes.taken self.new.lines.items self.new.present ≡ views_of self.old.changes.taken self.old.lines.items self.old.present }
     {
         self.seats.pop()
     }
@@ -336,17 +360,21 @@ impl<R: Wait + Copy + Drop, P: Post + Drop> Service<R, P> {
     }
 
     /// A subscription to the views that come after the current one, with room for `capacity` of them
-    /// to wait, and the current one.
+    /// to wait, and the current one. The desk serves it behind those that it served.
     ///
     /// # Errors
     ///
-    /// Those of `Desk::subscribe`. After `OutOfMemory` a subscription more may count.
+    /// Those of `Desk::subscribe`. After `OutOfMemory` a subscription more may count, after the others
+    /// none does.
     pub fn subscribe(&mut self, capacity: usize) -> Result<(Subscription, Option<View>), DeskError>
         ensures state { (self.new.desk.state ≡ self.old.desk.state) × (self.new.me ≡ self.old.me) }
         ensures ok { OnOk result ((0 < capacity) × (capacity ≤ most_waiting_views) × (length self.old.desk.subscriptions < most_subscriptions)) }
         ensures untaken { IfOk result (λ r. r.0.taken ≡ []) }
+        ensures served { IfOk result (λ r. self.new.desk.subscriptions ≡ self.old.desk.subscriptions ++ record { queue = r.0.queue; since = shown_height self.old.desk.state.published; capacity = capacity; put = []; known = [] } ∷ []) }
         ensures current { IfOk result (λ r. r.1 ≡ option_map (λ present. present.view) self.old.present) }
         ensures refused { IfErr result (NotSubscribed capacity (length self.old.desk.subscriptions)) }
+        ensures unserved { IfErr result (λ e. StillServes self.old.desk capacity e self.new.desk.subscriptions) }
+        ensures views { views_of self.new.changes.taken self.new.lines.items self.new.present ≡ views_of self.old.changes.taken self.old.lines.items self.old.present }
     {
         let subscription = self.desk.subscribe(capacity)?;
         match &self.present {
@@ -360,16 +388,18 @@ impl<R: Wait + Copy + Drop, P: Post + Drop> Service<R, P> {
 
     /// Ends the subscriptions made so far, also its own: it enters no further view.
     pub fn close(&mut self)
-        ensures { self.new.desk ≡ record self.old.desk { subscriptions = [] } }
+        ensures closed { self.new.desk ≡ record self.old.desk { subscriptions = [] } }
+        ensures views { views_of self.new.changes.taken self.new.lines.items self.new.present ≡ views_of self.old.changes.taken self.old.lines.items self.old.present }
     {
-        self.desk.close();
+        // nobody compares what was taken with what was put
+        drop(self.desk.close());
     }
 
     /// The lines of the views that were entered since this was last asked.
     pub fn take_lines(&mut self) -> Vec<u8>
         ensures taken { result.items ≡ self.old.lines.items }
         ensures none { self.new.lines.items ≡ [] }
-        ensures same { (self.new.desk ≡ self.old.desk) × (self.new.me ≡ self.old.me) }
+        ensures same { (self.new.desk ≡ self.old.desk) × (self.new.me ≡ self.old.me) × (self.new.changes ≡ self.old.changes) × (self.new.present ≡ self.old.present) }
     {
         mem::replace(&mut self.lines, Vec::new(self.alloc))
     }
@@ -380,6 +410,7 @@ impl<R: Wait + Copy + Drop, P: Post + Drop> Service<R, P> {
         ensures few { vec_len result ≤ most_notes }
         ensures none { self.new.notes.waiting.items ≡ [] }
         ensures same { (self.new.desk ≡ self.old.desk) × (self.new.me ≡ self.old.me) }
+        ensures views { views_of self.new.changes.taken self.new.lines.items self.new.present ≡ views_of self.old.changes.taken self.old.lines.items self.old.present }
     {
         self.notes.take()
     }
@@ -393,7 +424,8 @@ impl<R: Wait + Copy + Drop, P: Post + Drop> Service<R, P> {
 
     /// One event at the desk: what is sent goes out, and a new view is entered.
     fn step(&mut self, event: Event) -> Result<(), RunningFault>
-        ensures step { OnOk result (Steps self.old.desk.state (event_of event) self.new.desk.state) }
+        ensures step { OnOk result (Steps self.old.desk (event_of event) self.new.desk) }
+        ensures views { OnOk result (EntersOne (views_of self.old.changes.taken self.old.lines.items self.old.present) (views_of self.new.changes.taken self.new.lines.items self.new.present)) }
         ensures rest { (self.new.rounds ≡ self.old.rounds) × (self.new.me ≡ self.old.me) }
     {
         let sent = self.at_desk(event)?;
@@ -406,8 +438,10 @@ impl<R: Wait + Copy + Drop, P: Post + Drop> Service<R, P> {
     /// go on its subscribers are told: they get what was put for them, and then that it is closed.
     fn at_desk(&mut self, event: Event) -> Result<Outputs, RunningFault>
         ensures stepped { IfOk result (λ sent. HasStepped self.old.desk.state (event_of event) self.new.desk.state sent.items) }
+        ensures told { OnOk result (Tells self.old.desk self.new.desk) }
         ensures refused { IfErr result (HasRefused self.old.desk.state (event_of event) self.new.desk.state) }
         ensures closed { OnErr result (self.new.desk.subscriptions ≡ []) }
+        ensures views { views_of self.new.changes.taken self.new.lines.items self.new.present ≡ views_of self.old.changes.taken self.old.lines.items self.old.present }
         ensures rest { (self.new.rounds ≡ self.old.rounds) × (self.new.me ≡ self.old.me) }
     {
         // a journal for which there is no memory now grows on, and the next step tries again
@@ -424,6 +458,7 @@ impl<R: Wait + Copy + Drop, P: Post + Drop> Service<R, P> {
     /// Sends the messages of a step to their recipients, in order.
     fn send_all(&mut self, sent: &[Output]) -> Result<(), AllocError>
         ensures desk { self.new.desk ≡ self.old.desk }
+        ensures views { views_of self.new.changes.taken self.new.lines.items self.new.present ≡ views_of self.old.changes.taken self.old.lines.items self.old.present }
         ensures rest { (self.new.rounds ≡ self.old.rounds) × (self.new.me ≡ self.old.me) }
     {
         for output in sent {
@@ -435,6 +470,7 @@ impl<R: Wait + Copy + Drop, P: Post + Drop> Service<R, P> {
     /// Sends a message to its recipients: the other members are those of the view before the step.
     fn send(&mut self, output: &Output) -> Result<(), AllocError>
         ensures desk { self.new.desk ≡ self.old.desk }
+        ensures views { views_of self.new.changes.taken self.new.lines.items self.new.present ≡ views_of self.old.changes.taken self.old.lines.items self.old.present }
         ensures rest { (self.new.rounds ≡ self.old.rounds) × (self.new.me ≡ self.old.me) }
     {
         let frame = frame_of(self.alloc, output.message())?;
@@ -450,6 +486,7 @@ impl<R: Wait + Copy + Drop, P: Post + Drop> Service<R, P> {
     /// Sends a frame to the other members.
     fn send_others(&mut self, frame: &Bytes) -> Result<(), AllocError>
         ensures desk { self.new.desk ≡ self.old.desk }
+        ensures views { views_of self.new.changes.taken self.new.lines.items self.new.present ≡ views_of self.old.changes.taken self.old.lines.items self.old.present }
         ensures rest { (self.new.rounds ≡ self.old.rounds) × (self.new.me ≡ self.old.me) }
     {
         match &self.present {
@@ -466,7 +503,8 @@ impl<R: Wait + Copy + Drop, P: Post + Drop> Service<R, P> {
 
     /// Enters the view that the desk has published, if there is a new one.
     fn follow(&mut self) -> Result<(), RunningFault>
-        ensures desk { self.new.desk.state ≡ self.old.desk.state }
+        ensures desk { (self.new.desk.state ≡ self.old.desk.state) × (self.new.desk.subscriptions ≡ self.old.desk.subscriptions) }
+        ensures views { OnOk result (EntersOne (views_of self.old.changes.taken self.old.lines.items self.old.present) (views_of self.new.changes.taken self.new.lines.items self.new.present)) }
         ensures rest { (self.new.rounds ≡ self.old.rounds) × (self.new.me ≡ self.old.me) }
     {
         match self.changes.take(&self.rt) {
@@ -480,10 +518,11 @@ impl<R: Wait + Copy + Drop, P: Post + Drop> Service<R, P> {
     /// Enters a view: its line is printed, and probes begin anew. A view without the node is its
     /// last.
     fn enter(&mut self, view: View) -> Result<(), RunningFault>
-        ensures desk { self.new.desk.state ≡ self.old.desk.state }
+        ensures desk { (self.new.desk.state ≡ self.old.desk.state) × (self.new.desk.subscriptions ≡ self.old.desk.subscriptions) }
         ensures line { OnOk result (self.new.lines.items ≡ self.old.lines.items ++ view_text view) }
         ensures view { OnOk result (IsSomeAnd self.new.present (λ present. present.view ≡ view)) }
         ensures asks { OnOk result (self.new.asking ≡ None) }
+        ensures changes { self.new.changes ≡ self.old.changes }
         ensures rest { (self.new.rounds ≡ self.old.rounds) × (self.new.me ≡ self.old.me) }
     {
         write_view(view.configuration(), &mut self.lines)?;
@@ -522,12 +561,29 @@ impl<R: Wait + Copy + Drop, P: Post + Drop> Service<R, P> {
         &mut self,
         id: ConfigId,
         downs: &[Option<Process>; MOST_RINGS],
-    ) -> Result<(), RunningFault> {
+    ) -> Result<(), RunningFault>
+        ensures steps { OnOk result (StepsAll self.old.desk (downs_from id 0 downs.now) self.new.desk) }
+        ensures views { OnOk result (EntersSome (views_of self.old.changes.taken self.old.lines.items self.old.present) (views_of self.new.changes.taken self.new.lines.items self.new.present)) }
+    {
         for ring in 0..MOST_RINGS {
-            if let Some(subject) = downs[ring] {
-                self.step(Event::EdgeDown(id, ring as u8, subject))?;
-            }
+            self.hand_edge(id, ring as u8, downs[ring])?;
         }
         Ok(())
+    }
+
+    /// Gives the edge on a ring to the node, if it went down.
+    fn hand_edge(
+        &mut self,
+        id: ConfigId,
+        ring: u8,
+        down: Option<Process>,
+    ) -> Result<(), RunningFault>
+        ensures steps { OnOk result (StepsAll self.old.desk (down_on id ring down) self.new.desk) }
+        ensures views { OnOk result (EntersOne (views_of self.old.changes.taken self.old.lines.items self.old.present) (views_of self.new.changes.taken self.new.lines.items self.new.present)) }
+    {
+        match down {
+            Some(subject) => self.step(Event::EdgeDown(id, ring, subject)),
+            None => Ok(()),
+        }
     }
 }

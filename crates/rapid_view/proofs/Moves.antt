@@ -9,7 +9,7 @@ use lib.ListN.{get_elem?}
 use Rattle.atomic_table.specs.Table.{State, Me, step, keeps, opening, Allows, Splits, Joins}
 use Rattle.atomic_table.proofs.Lists.{at_set, at_snoc, set_again, at_longer}
 use Rattle.rapid_model.specs.Configuration.{Stamp}
-use Rattle.rapid_view.specs.declared.known.Known.{Known}
+use Rattle.rapid_view.specs.declared.cell_rule.CellKnowledge.{CellKnowledge}
 use Rattle.rapid_model.specs.PublishedList.{HeightsRise, IsBeginning, stamp_words}
 use Rattle.rapid_view.specs.Words.{stamp_of, IsWhole}
 use Rattle.rapid_view.specs.Seen.{last_height}
@@ -45,7 +45,7 @@ no_rise : HeightsRise []
 no_rise = tt
 
 -- a seat's view changes, and the words stay
-same_words : (room : ℕ) (s : State (Unit {0}) Known) (k : Kept room s) (id : ℕ) (w : Known) (ws : List ℕ) → ws ≡ s.words → Fits room s.words k.list id w → Kept room record { words = ws; homes = s.homes; views = set s.views id w }
+same_words : (room : ℕ) (s : State (Unit {0}) CellKnowledge) (k : Kept room s) (id : ℕ) (w : CellKnowledge) (ws : List ℕ) → ws ≡ s.words → Fits room s.words k.list id w → Kept room record { words = ws; homes = s.homes; views = set s.views id w }
 same_words room s k id w ws same fits = subst (λ l. Kept room record { words = l; homes = s.homes; views = set s.views id w }) (sym same) record {
   list = k.list;
   size = k.size;
@@ -55,16 +55,16 @@ same_words room s k id w ws same fits = subst (λ l. Kept room record { words = 
   rises = k.rises;
   each_seat = λ j u e.
       ⊎_elim
-      (λ (t : (j ≡ id) × (w ≡ u)). subst (λ (y : ℕ × Known). Fits room s.words k.list y.0 y.1) (λ i. (sym t.0 i, t.1 i)) fits)
+      (λ (t : (j ≡ id) × (w ≡ u)). subst (λ (y : ℕ × CellKnowledge). Fits room s.words k.list y.0 y.1) (λ i. (sym t.0 i, t.1 i)) fits)
       (λ (t : (j ≢ id) × (get_elem? s.views j ≡ some u)). k.each_seat j u t.1)
       (at_set s.views id j w u e);
 }
 
-pub looks : (room slots id : ℕ) (me : Me (Unit {0}) Known) → 0 < me.0.room → Allows (Kept room) slots id me 0 (λ n. n) (Looked (step slots 0 0 0 none) me)
+pub looks : (room slots id : ℕ) (me : Me (Unit {0}) CellKnowledge) → 0 < me.0.room → Allows (Kept room) slots id me 0 (λ n. n) (Looked (step slots 0 0 0 none) me)
 looks room slots id me some_room s k long at small =
     let v = me.0 in
     let f = k.each_seat id v at in
-    let w : Known = record { writes = v.writes; room = v.room; seen = k.list; told = []; pending = v.pending } in
+    let w : CellKnowledge = record { writes = v.writes; room = v.room; seen = k.list; told = []; pending = v.pending } in
     let is : v.room ≡ room = f.room_is some_room in
     let found : slice_index s.words 0 ≡ length k.list = k.count in
     let few : length k.list ≤ room = k.within in (
@@ -81,11 +81,11 @@ looks room slots id me some_room s k long at small =
       (refl, refl, f.seen, f.told, k.count, omega arith, (λ i x e. (k.stands i x e).0), k.rises),
     )
 
-pub compares : (room slots id : ℕ) (me : Me (Unit {0}) Known) → me.0.writes ≡ true → Allows (Kept room) slots id me 0 (λ n. n) (Compared (step slots 0 0 0 none) me)
+pub compares : (room slots id : ℕ) (me : Me (Unit {0}) CellKnowledge) → me.0.writes ≡ true → Allows (Kept room) slots id me 0 (λ n. n) (Compared (step slots 0 0 0 none) me)
 compares room slots id me does s k long at small =
     let v = me.0 in
     let f = k.each_seat id v at in
-    let w : Known = record { writes = v.writes; room = v.room; seen = v.seen; told = []; pending = v.pending } in (
+    let w : CellKnowledge = record { writes = v.writes; room = v.room; seen = v.seen; told = []; pending = v.pending } in (
       w,
       keeps,
       tt,
@@ -99,7 +99,7 @@ compares room slots id me does s k long at small =
       (refl, subst (IsBeginning v.told) (sym (f.writer does).1) f.told),
     )
 
-pub reads : (room slots id : ℕ) (me : Me (Unit {0}) Known) (word : ℕ) → Allows (Kept room) slots id me word (λ n. n) (Read (step slots word 0 0 none) me)
+pub reads : (room slots id : ℕ) (me : Me (Unit {0}) CellKnowledge) (word : ℕ) → Allows (Kept room) slots id me word (λ n. n) (Read (step slots word 0 0 none) me)
 reads room slots id me word s k long at small =
     let f = k.each_seat id me.0 at in (
       me.0,
@@ -122,13 +122,13 @@ stored_more ws pending n x waits within j few = dite (ℕ_discrete j (length pen
     let before : j < length pending = omega (arith, length-append pending (x ∷ [])) in
     kept_word ws (place n + length pending) (place n + j) x (omega arith) ∙ waits j before ∙ sym (get_or-append_before pending (x ∷ []) j 0 before))
 
-pub stores : (room slots id : ℕ) (me : Me (Unit {0}) Known) (x : ℕ) → me.0.writes ≡ true → 0 < me.0.room → length me.0.seen < me.0.room → length me.0.pending < 6
+pub stores : (room slots id : ℕ) (me : Me (Unit {0}) CellKnowledge) (x : ℕ) → me.0.writes ≡ true → 0 < me.0.room → length me.0.seen < me.0.room → length me.0.pending < 6
     → Allows (Kept room) slots id me (place (length me.0.seen) + length me.0.pending) (λ _. x) (λ _. Stored (step slots (place (length me.0.seen) + length me.0.pending) x 0 none) me x)
 stores room slots id me x does some_room below few s k long at small =
     let v = me.0 in
     let f = k.each_seat id v at in
     let mine = f.writer does in
-    let w : Known = record { writes = v.writes; room = v.room; seen = v.seen; told = v.told; pending = v.pending ++ x ∷ [] } in
+    let w : CellKnowledge = record { writes = v.writes; room = v.room; seen = v.seen; told = v.told; pending = v.pending ++ x ∷ [] } in
     let p : ℕ = place (length v.seen) + length v.pending in
     let ws : List ℕ = set s.words p x in
     let all : length v.seen ≡ length k.list = ap length mine.1 in
@@ -148,7 +148,7 @@ stores room slots id me x does some_room below few s k long at small =
         rises = k.rises;
         each_seat = λ j u e.
             ⊎_elim
-            (λ (t : (j ≡ id) × (w ≡ u)). subst (λ (y : ℕ × Known). Fits room ws k.list y.0 y.1) (λ i. (sym t.0 i, t.1 i)) record {
+            (λ (t : (j ≡ id) × (w ≡ u)). subst (λ (y : ℕ × CellKnowledge). Fits room ws k.list y.0 y.1) (λ i. (sym t.0 i, t.1 i)) record {
               seen = f.seen;
               told = f.told;
               rising = f.rising;
@@ -174,7 +174,7 @@ new_stands ws n x pending is waits j few = waits j (subst (λ (l : List ℕ). j 
 longer_starts : (log seen : List Stamp) (x : Stamp) → IsBeginning seen log → IsBeginning seen (log ++ x ∷ [])
 longer_starts log seen x starts = (starts.0 ++ x ∷ [], ap (λ l. l ++ x ∷ []) starts.1 ∙ append_assoc seen starts.0 (x ∷ []))
 
-pub lengthens : (room slots id : ℕ) (me : Me (Unit {0}) Known) (x : Stamp) → me.0.writes ≡ true → 0 < me.0.room → length me.0.seen < me.0.room → me.0.pending ≡ stamp_words x → IsWhole x → HeightsRise (me.0.seen ++ x ∷ [])
+pub lengthens : (room slots id : ℕ) (me : Me (Unit {0}) CellKnowledge) (x : Stamp) → me.0.writes ≡ true → 0 < me.0.room → length me.0.seen < me.0.room → me.0.pending ≡ stamp_words x → IsWhole x → HeightsRise (me.0.seen ++ x ∷ [])
     → Allows (Kept room) slots id me 0 (λ _. length me.0.seen + 1) (λ _. Lengthened (step slots 0 (length me.0.seen + 1) 0 none) me (length me.0.seen + 1))
 lengthens room slots id me x does some_room below is whole rising s k long at small =
     let v = me.0 in
@@ -182,7 +182,7 @@ lengthens room slots id me x does some_room below is whole rising s k long at sm
     let mine = f.writer does in
     let same : stamp_of v.pending ≡ x = ap stamp_of is ∙ sym whole in
     let log : List Stamp = k.list ++ x ∷ [] in
-    let w : Known = record { writes = v.writes; room = v.room; seen = v.seen ++ stamp_of v.pending ∷ []; told = v.told; pending = [] } in
+    let w : CellKnowledge = record { writes = v.writes; room = v.room; seen = v.seen ++ stamp_of v.pending ∷ []; told = v.told; pending = [] } in
     let grown : v.seen ++ stamp_of v.pending ∷ [] ≡ log = λ i. mine.1 i ++ same i ∷ [] in
     let ws : List ℕ = set s.words 0 (length v.seen + 1) in
     let all : length v.seen ≡ length k.list = ap length mine.1 in
@@ -206,7 +206,7 @@ lengthens room slots id me x does some_room below is whole rising s k long at sm
         rises = rises;
         each_seat = λ j u e.
             ⊎_elim
-            (λ (t : (j ≡ id) × (w ≡ u)). subst (λ (y : ℕ × Known). Fits room ws log y.0 y.1) (λ i. (sym t.0 i, t.1 i)) record {
+            (λ (t : (j ≡ id) × (w ≡ u)). subst (λ (y : ℕ × CellKnowledge). Fits room ws log y.0 y.1) (λ i. (sym t.0 i, t.1 i)) record {
               seen = ([], sym grown ∙ sym (append-nil _));
               told = longer_starts k.list v.told x f.told;
               rising = subst HeightsRise (sym grown) rises;
@@ -226,7 +226,7 @@ lengthens room slots id me x does some_room below is whole rising s k long at sm
     )
 
 -- a note of what a seat has seen
-pub tells : (room id : ℕ) (v : Known) → Splits (Kept room) id v v (onlooker v)
+pub tells : (room id : ℕ) (v : CellKnowledge) → Splits (Kept room) id v v (onlooker v)
 tells room id v s k at = record {
   list = k.list;
   size = k.size;
@@ -248,7 +248,8 @@ tells room id v s k at = record {
 }
 
 -- a seat takes in a note
-pub hears : (room id : ℕ) (v : Known) (other : ℕ) (u : Known) → Joins (Kept room) id v other u (informed v u) nobody
+pub hears : (room id : ℕ) (v : CellKnowledge) (other : ℕ) (u : CellKnowledge)
+    → Joins (Kept room) id v other u (informed v u) nobody
 hears room id v other u s k at apart there =
     let w = informed v u in
     let f = k.each_seat id v at in
@@ -266,7 +267,7 @@ hears room id v other u s k at apart there =
           (λ (t : (j ≡ other) × (nobody ≡ y)). subst (Fits room s.words k.list j) t.1 (spent j))
           (λ (t : (j ≢ other) × (get_elem? (set s.views id w) j ≡ some y)).
           ⊎_elim
-          (λ (q : (j ≡ id) × (w ≡ y)). subst (λ (z : ℕ × Known). Fits room s.words k.list z.0 z.1) (λ i. (sym q.0 i, q.1 i)) mine)
+          (λ (q : (j ≡ id) × (w ≡ y)). subst (λ (z : ℕ × CellKnowledge). Fits room s.words k.list z.0 z.1) (λ i. (sym q.0 i, q.1 i)) mine)
           (λ (q : (j ≢ id) × (get_elem? s.views j ≡ some y)). k.each_seat j y q.1)
           (at_set s.views id j w y t.1))
           (at_set (set s.views id w) other j nobody y e);
@@ -284,7 +285,7 @@ opens room words wide zero_count = record {
   each_seat = one;
 }
   where
-    one : (seat : ℕ) (v : Known) → get_elem? (newcomer room ∷ []) seat ≡ some v → Fits room words [] seat v
+    one : (seat : ℕ) (v : CellKnowledge) → get_elem? (newcomer room ∷ []) seat ≡ some v → Fits room words [] seat v
     one zero v e = subst (Fits room words [] 0) (some-injective _ _ e) record {
       seen = ([], refl);
       told = ([], refl);
@@ -303,11 +304,11 @@ pub last_there : (xs : List Stamp) → 0 < length xs → (x : Stamp) × (get_ele
 last_there xs h = some_at xs (length xs - 1) (omega arith)
 
 -- the same, with the number that the code has
-pub stores_at : (room slots id : ℕ) (me : Me (Unit {0}) Known) (p x : ℕ) → p ≡ place (length me.0.seen) + length me.0.pending → me.0.writes ≡ true → 0 < me.0.room → length me.0.seen < me.0.room → length me.0.pending < 6
+pub stores_at : (room slots id : ℕ) (me : Me (Unit {0}) CellKnowledge) (p x : ℕ) → p ≡ place (length me.0.seen) + length me.0.pending → me.0.writes ≡ true → 0 < me.0.room → length me.0.seen < me.0.room → length me.0.pending < 6
     → Allows (Kept room) slots id me p (λ _. x) (λ _. Stored (step slots p x 0 none) me x)
 stores_at room slots id me p x is does some_room below few = subst (λ (q : ℕ). Allows (Kept room) slots id me q (λ _. x) (λ _. Stored (step slots q x 0 none) me x)) (sym is) (stores room slots id me x does some_room below few)
 
-pub lengthens_at : (room slots id : ℕ) (me : Me (Unit {0}) Known) (n : ℕ) (x : Stamp) → n ≡ length me.0.seen → me.0.writes ≡ true → 0 < me.0.room → length me.0.seen < me.0.room → me.0.pending ≡ stamp_words x → IsWhole x → HeightsRise (me.0.seen ++ x ∷ [])
+pub lengthens_at : (room slots id : ℕ) (me : Me (Unit {0}) CellKnowledge) (n : ℕ) (x : Stamp) → n ≡ length me.0.seen → me.0.writes ≡ true → 0 < me.0.room → length me.0.seen < me.0.room → me.0.pending ≡ stamp_words x → IsWhole x → HeightsRise (me.0.seen ++ x ∷ [])
     → Allows (Kept room) slots id me 0 (λ _. n + 1) (λ _. Lengthened (step slots 0 (n + 1) 0 none) me (n + 1))
 lengthens_at room slots id me n x is does some_room below stored whole rising =
     subst (λ (q : ℕ). Allows (Kept room) slots id me 0 (λ _. q + 1) (λ _. Lengthened (step slots 0 (q + 1) 0 none) me (q + 1))) (sym is) (lengthens room slots id me x does some_room below stored whole rising)

@@ -6,7 +6,7 @@ use lib.ListN.{get_elem?}
 use Rattle.atomic_table.specs.Table.{State, Me, Step}
 use Rattle.rapid_model.specs.Configuration.{Stamp}
 use Rattle.rapid_model.specs.PublishedList.{HeightsRise, IsBeginning, stamp_words}
-use Rattle.rapid_view.specs.declared.known.Known.{Known}
+use Rattle.rapid_view.specs.declared.cell_rule.CellKnowledge.{CellKnowledge}
 use Rattle.rapid_view.specs.Words.{stamp_of, IsWhole}
 
 -- The first word of the place of stamp number i.
@@ -22,7 +22,7 @@ abbrev pub Waits : List ℕ → ℕ → List ℕ → Type 0
 Waits words n pending = (j : ℕ) → j < length pending → slice_index words (place n + j) ≡ slice_index pending j
 
 -- What the rule says of one seat.
-pub record Fits (room : ℕ) (words : List ℕ) (list : List Stamp) (seat : ℕ) (v : Known) : Type 0 where
+pub record Fits (room : ℕ) (words : List ℕ) (list : List Stamp) (seat : ℕ) (v : CellKnowledge) : Type 0 where
   pub seen : IsBeginning v.seen list
   pub told : IsBeginning v.told list
   pub rising : HeightsRise v.seen
@@ -32,37 +32,37 @@ pub record Fits (room : ℕ) (words : List ℕ) (list : List Stamp) (seat : ℕ)
 
 -- There is a list of stamps whose heights rise by one. The count is its length, its stamps stand at their places, each
 -- seat has seen a beginning of it, and the writer all of it.
-pub record Kept (room : ℕ) (s : State (Unit {0}) Known) : Type 0 where
+pub record Kept (room : ℕ) (s : State (Unit {0}) CellKnowledge) : Type 0 where
   pub list : List Stamp
   pub size : length s.words ≡ place room
   pub count : slice_index s.words 0 ≡ length list
   pub within : length list ≤ room
   pub stands : Stands s.words list
   pub rises : HeightsRise list
-  pub each_seat : (seat : ℕ) (v : Known) → get_elem? s.views seat ≡ some v → Fits room s.words list seat v
+  pub each_seat : (seat : ℕ) (v : CellKnowledge) → get_elem? s.views seat ≡ some v → Fits room s.words list seat v
 
 -- The writer, with the words that it has stored of the next stamp.
-abbrev pub writing : ℕ → List Stamp → List ℕ → Known
+abbrev pub writing : ℕ → List Stamp → List ℕ → CellKnowledge
 writing room seen pending = record { writes = true; room = room; seen = seen; told = []; pending = pending }
 
 -- The writer of an empty list with room for this many stamps.
-abbrev pub newcomer : ℕ → Known
+abbrev pub newcomer : ℕ → CellKnowledge
 newcomer room = writing room [] []
 
 -- A seat that is spent.
-abbrev pub nobody : Known
+abbrev pub nobody : CellKnowledge
 nobody = record { writes = false; room = 0; seen = []; told = []; pending = [] }
 
 -- A seat that has seen as much, and does not write.
-abbrev pub onlooker : Known → Known
+abbrev pub onlooker : CellKnowledge → CellKnowledge
 onlooker v = record { writes = false; room = v.room; seen = v.seen; told = []; pending = [] }
 
 -- A seat that was told what another has seen.
-abbrev pub informed : Known → Known → Known
+abbrev pub informed : CellKnowledge → CellKnowledge → CellKnowledge
 informed v w = record { writes = v.writes; room = v.room; seen = v.seen; told = w.seen; pending = v.pending }
 
 abbrev Holder : Type 0
-Holder = Me (Unit {0}) Known
+Holder = Me (Unit {0}) CellKnowledge
 
 -- A load of the count: it is the length of the list that is seen from then on, which begins with all that was seen and
 -- told.

@@ -5,7 +5,7 @@ ghost use Rattle.rapid_model.specs.Configuration as model;
 ghost use Rattle.rapid_model.specs.Limits.{most_views, most_seats};
 ghost use Rattle.rapid_view.specs.CellRule.{place, writing};
 
-use crate::known::{Known, Published};
+use crate::cell_rule::{CellKnowledge, Published};
 use crate::page::Page;
 use crate::seat::ViewSeat;
 use crate::stamp_writer::StampWriter;
@@ -20,7 +20,7 @@ use std::sync::Wait;
 /// six words. No place below the count is written again.
 #[derive(Drop)]
 pub struct ViewCell {
-    pub(crate) table: Table<(), Known, u64, Published, Global>,
+    pub(crate) table: Table<(), CellKnowledge, u64, Published, Global>,
 }
 
 /// A seat of the writer's cell, with a place at the list of members, which keeps this view.
@@ -103,7 +103,7 @@ impl ViewCell {
     pub(crate) fn empty(
         alloc: Global,
         room: usize,
-    ) -> Result<(ViewCell, Seat<(), Known>), AllocError>
+    ) -> Result<(ViewCell, Seat<(), CellKnowledge>), AllocError>
         requires { (0 < room) × (room ≤ most_views) }
         ensures { IfOk result
             (λ r. (r.0.table.shared.table_id.words ≡ place room) × (r.1.table_id ≡ r.0.table.shared.table_id) × (r.1.me ≡ (writing room [] [], []))) }

@@ -8,8 +8,8 @@
 ghost use Rattle.rapid_view.specs.Laws.{CellsArePublished};
 
 mod cell;
+mod cell_rule;
 mod error;
-mod known;
 mod page;
 mod seat;
 mod stamp_reader;

@@ -54,8 +54,8 @@ fn find(list: &mut ReadHandle<Page>) -> Result<Option<View>, AllocError> {
     Ok(Some(page.view()?))
 }
 
-/// The view of the last stamp of a published list that begins with all that was seen, out of the
-/// list of members.
+/// The view of a published stamp, out of the list of members. The stamp is at least as new as each
+/// one that was seen.
 #[tactic(auto, using(crate::proofs::Beginnings::begins_longer))]
 fn look_up<R: Wait>(
     rt: &R,
@@ -105,8 +105,8 @@ impl ViewSeat {
         }
     }
 
-    /// The last stamp of a published list that begins with all that this seat had seen: it never
-    /// goes back. Afterwards the seat has seen that list. It takes no lock and never waits.
+    /// A published stamp, at least as new as each one that this seat had seen: it never goes back.
+    /// Afterwards the seat has seen the list up to it. It takes no lock and never waits.
     pub fn stamp(&mut self) -> Stamp
         ensures cell { self.new.cell ≡ self.old.cell }
         ensures later { IsBeginning self.old.seen self.new.seen }
@@ -117,10 +117,10 @@ impl ViewSeat {
         self.stamps.stamp()
     }
 
-    /// Keeps the view of the last stamp of a published list. That list begins with all that this
-    /// seat had seen. Afterwards the seat has seen that list, also if it answers an error, which
-    /// leaves the view that it keeps. `Behind` if the view of the last stamp is still to be put in
-    /// the list. `Behind` too if the writer is gone before this seat has found it.
+    /// Keeps the view of a published stamp, at least as new as each one that this seat had seen.
+    /// Afterwards the seat has seen the list up to it, also if it answers an error. An error leaves
+    /// the view that it keeps. `Behind` if the view of that stamp is still to be put in the list.
+    /// `Behind` too if the writer is gone before this seat has found it.
     ///
     /// While the last stamp is that of the view kept, it reads this stamp and no more. So it takes
     /// no memory then, and waits for nobody.
@@ -150,10 +150,10 @@ impl ViewSeat {
         &self.kept
     }
 
-    /// The view of the last stamp of a published list. That list begins with all that this seat had
-    /// seen. Afterwards the seat has seen that list, also if it answers an error. `Behind` if the
-    /// view of the last stamp is still to be put in the list. `Behind` too if the writer is gone
-    /// before this seat has found it.
+    /// The view of a published stamp, at least as new as each one that this seat had seen.
+    /// Afterwards the seat has seen the list up to it, also if it answers an error. `Behind` if the
+    /// view of that stamp is still to be put in the list. `Behind` too if the writer is gone before
+    /// this seat has found it.
     ///
     /// It is a copy, to be kept or sent on. All copies of a view share one list and one count of
     /// it. So if several threads read one view again and again, `refresh` and `view` serve better:

@@ -12,7 +12,7 @@ ghost use Rattle.rapid_view.specs.Words.{IsWhole};
 ghost use Rattle.rapid_view.specs.CellRule.{place, writing, Looked, informed};
 
 use crate::cell::ViewCell;
-use crate::known::{Compares, Known, Looks, Reads, Tells};
+use crate::cell_rule::{CellKnowledge, Compares, Looks, Reads, Tells};
 use crate::words::from_words;
 use atomic_table::Seat;
 use rapid_config::Stamp;
@@ -24,7 +24,7 @@ use std::sync::Arc;
 #[derive(Drop)]
 pub struct StampReader {
     cell: Arc<ViewCell>,
-    seat: Seat<(), Known>,
+    seat: Seat<(), CellKnowledge>,
 }
 
 impl Model for StampReader {
@@ -46,7 +46,7 @@ impl Model for StampReader {
 }
 
 /// A word of a stamp that the seat has seen.
-fn read_word(cell: &ViewCell, seat: &mut Seat<(), Known>, at: usize) -> u64
+fn read_word(cell: &ViewCell, seat: &mut Seat<(), CellKnowledge>, at: usize) -> u64
     requires own { seat.old.table_id ≡ cell.now.table.shared.table_id }
     requires within { at < cell.now.table.shared.table_id.words }
     ensures same { (seat.new.table_id ≡ seat.old.table_id) × (seat.new.id ≡ seat.old.id) × (seat.new.me ≡ seat.old.me) }
@@ -56,7 +56,7 @@ fn read_word(cell: &ViewCell, seat: &mut Seat<(), Known>, at: usize) -> u64
 }
 
 /// The stamp with this number, which the seat has seen.
-fn read_stamp(cell: &ViewCell, seat: &mut Seat<(), Known>, number: usize) -> Stamp
+fn read_stamp(cell: &ViewCell, seat: &mut Seat<(), CellKnowledge>, number: usize) -> Stamp
     requires own { seat.old.table_id ≡ cell.now.table.shared.table_id }
     requires within { place number + 5 < cell.now.table.shared.table_id.words }
     requires few { number < most_views }
@@ -74,7 +74,7 @@ fn read_stamp(cell: &ViewCell, seat: &mut Seat<(), Known>, number: usize) -> Sta
 }
 
 /// Learns of the list as it is, and says how long it is.
-fn look(cell: &ViewCell, seat: &mut Seat<(), Known>) -> usize
+fn look(cell: &ViewCell, seat: &mut Seat<(), CellKnowledge>) -> usize
     requires own { seat.old.table_id ≡ cell.now.table.shared.table_id }
     requires room { (0 < seat.old.me.0.room) × (seat.old.me.0.room ≤ most_views)
         × (0 < cell.now.table.shared.table_id.words) }
@@ -85,7 +85,7 @@ fn look(cell: &ViewCell, seat: &mut Seat<(), Known>) -> usize
 }
 
 /// Lets the seat know what another has seen.
-fn hear(cell: &ViewCell, seat: &mut Seat<(), Known>, theirs: &mut Seat<(), Known>)
+fn hear(cell: &ViewCell, seat: &mut Seat<(), CellKnowledge>, theirs: &mut Seat<(), CellKnowledge>)
     requires own { seat.old.table_id ≡ cell.now.table.shared.table_id }
     requires theirs { theirs.old.table_id ≡ cell.now.table.shared.table_id }
     requires room { 0 < cell.now.table.shared.table_id.words }
@@ -98,7 +98,11 @@ fn hear(cell: &ViewCell, seat: &mut Seat<(), Known>, theirs: &mut Seat<(), Known
 }
 
 /// What the other seat has seen is a beginning of what the writer's seat has published.
-fn compare(cell: &ViewCell, writer: &mut Seat<(), Known>, theirs: &mut Seat<(), Known>)
+fn compare(
+    cell: &ViewCell,
+    writer: &mut Seat<(), CellKnowledge>,
+    theirs: &mut Seat<(), CellKnowledge>,
+)
     requires own { writer.old.table_id ≡ cell.now.table.shared.table_id }
     requires theirs { theirs.old.table_id ≡ cell.now.table.shared.table_id }
     requires room { 0 < cell.now.table.shared.table_id.words }
@@ -115,7 +119,7 @@ impl StampReader {
     /// A reader that has seen what the writer has published.
     pub(crate) fn of_writer(
         cell: &Arc<ViewCell>,
-        writer: &mut Seat<(), Known>,
+        writer: &mut Seat<(), CellKnowledge>,
     ) -> Result<StampReader, AllocError>
         requires own { writer.old.table_id ≡ (arc_value cell.now).table.shared.table_id }
         requires room { ((arc_value cell.now).table.shared.table_id.words ≡ place writer.old.me.0.room)
@@ -131,8 +135,8 @@ impl StampReader {
         })
     }
 
-    /// The last stamp of a published list that begins with all that was seen here. Afterwards that
-    /// list was seen here.
+    /// A published stamp, at least as new as each one that was seen here. Afterwards the list up to
+    /// it was seen here.
     pub fn stamp(&mut self) -> Stamp
         ensures cell { self.new.cell ≡ self.old.cell }
         ensures later { IsBeginning self.old.seen self.new.seen }
@@ -173,7 +177,7 @@ impl StampReader {
     }
 
     /// What was seen here is a beginning of what the writer's seat has published.
-    pub(crate) fn compare(&mut self, writer: &mut Seat<(), Known>)
+    pub(crate) fn compare(&mut self, writer: &mut Seat<(), CellKnowledge>)
         requires own { self.old.cell ≡ writer.old.table_id }
         requires writer { writer.old.me ≡ (writing writer.old.me.0.room writer.old.me.0.seen [], []) }
         ensures same { self.new ≡ self.old }

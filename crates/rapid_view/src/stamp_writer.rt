@@ -11,7 +11,7 @@ ghost use Rattle.rapid_view.specs.Seen.{last_height, MayFollow, Refused};
 
 use crate::ViewError;
 use crate::cell::ViewCell;
-use crate::known::{Known, Lengthens, Stores};
+use crate::cell_rule::{CellKnowledge, Lengthens, Stores};
 use crate::stamp_reader::StampReader;
 use crate::words::words;
 use atomic_table::Seat;
@@ -24,7 +24,7 @@ use std::sync::Arc;
 #[derive(Drop)]
 pub struct StampWriter {
     cell: Arc<ViewCell>,
-    seat: Seat<(), Known>,
+    seat: Seat<(), CellKnowledge>,
     room: usize,
     count: usize,
     last: u64,
@@ -49,7 +49,7 @@ impl Model for StampWriter {
 }
 
 /// Stores one word more of the next stamp.
-fn store_word(cell: &ViewCell, seat: &mut Seat<(), Known>, at: usize, word: u64)
+fn store_word(cell: &ViewCell, seat: &mut Seat<(), CellKnowledge>, at: usize, word: u64)
     requires own { seat.old.table_id ≡ cell.now.table.shared.table_id }
     requires within { at < cell.now.table.shared.table_id.words }
     requires writer { seat.old.me ≡ (writing seat.old.me.0.room seat.old.me.0.seen seat.old.me.0.pending, []) }
@@ -62,7 +62,7 @@ fn store_word(cell: &ViewCell, seat: &mut Seat<(), Known>, at: usize, word: u64)
 }
 
 /// Stores the six words of the next stamp.
-fn store_words(cell: &ViewCell, seat: &mut Seat<(), Known>, count: usize, words: &[u64; 6])
+fn store_words(cell: &ViewCell, seat: &mut Seat<(), CellKnowledge>, count: usize, words: &[u64; 6])
     requires own { seat.old.table_id ≡ cell.now.table.shared.table_id }
     requires within { place seat.old.me.0.room ≡ cell.now.table.shared.table_id.words }
     requires writer { seat.old.me ≡ (writing seat.old.me.0.room seat.old.me.0.seen [], []) }
@@ -81,7 +81,7 @@ fn store_words(cell: &ViewCell, seat: &mut Seat<(), Known>, count: usize, words:
 }
 
 /// Makes the list longer by the stamp that was stored.
-fn lengthen(cell: &ViewCell, seat: &mut Seat<(), Known>, count: usize, stamp: &Stamp)
+fn lengthen(cell: &ViewCell, seat: &mut Seat<(), CellKnowledge>, count: usize, stamp: &Stamp)
     requires own { seat.old.table_id ≡ cell.now.table.shared.table_id }
     requires within { 0 < cell.now.table.shared.table_id.words }
     requires writer { seat.old.me ≡ (writing seat.old.me.0.room seat.old.me.0.seen (stamp_words stamp.now), []) }
@@ -98,7 +98,7 @@ fn lengthen(cell: &ViewCell, seat: &mut Seat<(), Known>, count: usize, stamp: &S
 }
 
 /// Stores the stamp into the next place, and then the count.
-fn add(cell: &ViewCell, seat: &mut Seat<(), Known>, count: usize, stamp: &Stamp)
+fn add(cell: &ViewCell, seat: &mut Seat<(), CellKnowledge>, count: usize, stamp: &Stamp)
     requires own { seat.old.table_id ≡ cell.now.table.shared.table_id }
     requires within { place seat.old.me.0.room ≡ cell.now.table.shared.table_id.words }
     requires writer { seat.old.me ≡ (writing seat.old.me.0.room seat.old.me.0.seen [], []) }

@@ -6,7 +6,6 @@ pub mod Joined
 pub mod Readers
 pub mod Loops
 pub mod Parts
-pub mod Saying
 pub mod Spelt
 pub mod Fronts
 pub mod Feeds

@@ -3,7 +3,6 @@
 ghost use Rattle.std.specs.Prelude.{◌≡◌, ◌<◌, ◌∷◌, All, IfOk, IfErr};
 ghost use Rattle.rapid_model.specs.Frame.{IsMessage, version, payload};
 ghost use Rattle.rapid_model.specs.Feed.{IsKind};
-ghost use Rattle.rapid_message.specs.Bodies.{CanSay, body_of};
 ghost use Rattle.rapid_wire.specs.Faults.{Gives, IsFaultOf};
 ghost use Rattle.rapid_wire.specs.Kinds.{number_of};
 ghost use Rattle.rapid_wire.specs.Reading.{message_in};
@@ -15,8 +14,7 @@ use crate::kinds::read_body;
 use crate::reading::{PROCESS_BYTES, process_in, read_front};
 use crate::told::tell_message;
 use rapid_config::Configuration;
-use rapid_endpoint::Process;
-use rapid_message::{Body, Message};
+use rapid_message::Message;
 use std::alloc::Global;
 
 /// Each byte is below 256. It does nothing: what it ensures is for proofs.
@@ -25,18 +23,6 @@ pub(crate) fn tell_bytes(bytes: &[u8])
     ensures { All (λ b. b < 256) bytes.now }
 {
     let _ = bytes;
-}
-
-/// The message of a sender that can say this.
-#[tactic(auto, using(crate::proofs::Saying::never_refused))]
-fn message_of(sender: Process, body: Body) -> Message
-    requires { CanSay sender body }
-    ensures { result ≡ record { sender = sender; body = body_of body } }
-{
-    match Message::new(sender, body) {
-        Ok(message) => message,
-        Err(_) => unreachable!(),
-    }
 }
 
 /// The message of a kind whose sender and body are these bytes. A configuration may be near.
@@ -52,7 +38,7 @@ fn read_message(
     let (front, rest) = read_front(bytes, PROCESS_BYTES)?;
     let sender = process_in(front);
     let body = read_body(alloc, near, sender, kind, rest)?;
-    Ok(message_of(sender, body))
+    Ok(Message::of(sender, body))
 }
 
 /// The kind of a whole frame, and what follows it. The error is the first that holds. `BadBody`

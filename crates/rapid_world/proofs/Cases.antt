@@ -3,6 +3,7 @@ use Rattle.std.proofs.Common.{◌≡◌, ℕ, zero, suc, ◌-◌, ◌<◌, Bool,
 use Rattle.std.specs.Prelude.{Contains, position, is_some, nat_lt, map, All}
 use Rattle.std.specs.List.{list_any, position_or_len}
 use Rattle.std.proofs.lemmas.Bool.{and_parts}
+use Rattle.std.proofs.lemmas.List.{map_push}
 use Rattle.std.proofs.lemmas.Option.{slice_get-get_or}
 use Rattle.rapid_world.specs.Windows.{edge_of}
 use Rattle.rapid_model.specs.Process.{Process, identifier, endpoint}
@@ -23,9 +24,11 @@ use Rattle.rapid_model.proofs.Orders.{same_bytes_decides}
 use Rattle.rapid_world.specs.Framed.{FramedPacket, framed_packet, HasFrame}
 use Rattle.rapid_world.specs.Handed.{handed, told, crash_of}
 use Rattle.rapid_world.specs.Does.{Does, Hands, Probes}
+use Rattle.rapid_world.specs.Stored.{started_in}
 use Rattle.rapid_world.specs.Worlds.{IsRunOf}
 use Rattle.rapid_world.proofs.Doing.{Read, new_acts, reads_hands, does_read, one_more, lives}
 use Rattle.rapid_world.proofs.Keeping.{keeps_at}
+use Rattle.rapid_world.proofs.Storing.{one_started}
 
 -- ---- who is found
 
@@ -56,6 +59,11 @@ by_peer w o i p f e at = ap (λ x. with_peer w x f) e ∙ ap (λ x. with_found w
 
 runs_under : (w : World) (id : List ℕ) (i : ℕ) (p : Peer) → running_under w id ≡ Some i → slice_get w.peers i ≡ Some p → is_running p ≡ true
 runs_under w id i p e h = (and_parts _ _ (found (λ q. is_running q && has_identifier id q) w.peers i p e h)).0
+
+-- who is found under an identifier has it
+is_named : (w : World) (id : List ℕ) (i : ℕ) (p : Peer) → running_under w id ≡ Some i → slice_get w.peers i ≡ Some p → Some (identifier p.node.me) ≡ Some id
+is_named w id i p e h =
+    ap Some (sym ((same_bytes_decides id (identifier p.node.me)).0 (and_parts _ _ (found (λ q. is_running q && has_identifier id q) w.peers i p e h)).1))
 
 later : {A : Type 0} (y x : A) (xs : List A) → Contains xs x → Contains (y ∷ xs) x
 later y x xs (k, h, e) = (suc k, omega arith, e)
@@ -133,7 +141,7 @@ tick_hands s id i are isopen e =
     let t = stands w.peers i (place_within _ w.peers i e) in
     record {
       peer = t.0;
-      does = does_read s (Tick id) i t.0 (handed t.0 node.Tick) t.1 (refused_as s (Tick id) isopen ∙ ap unless_node e)
+      does = does_read s (Tick id) i t.0 (handed t.0 node.Tick) t.1 (is_named w id i t.0 e t.1) (refused_as s (Tick id) isopen ∙ ap unless_node e)
           (λ h. subst (λ v. Read w v i (handed t.0 node.Tick h)) (sym (by_peer w (running_under w id) i t.0 (λ i p. hands w i p (Ticked ∷ []) node.Tick h) e t.1)) (reads_hands w i t.0 (Ticked ∷ []) node.Tick h (λ acts. refl)));
       up = up t.0 (runs_under w id i t.0 e t.1);
       keeps = keeps_at w (lives s are) i t.0 t.0 (Ticked ∷ []) node.Tick t.1 refl (by_tick t.0 t.1);
@@ -146,7 +154,7 @@ leave_hands s id i are isopen e =
     let t = stands w.peers i (place_within _ w.peers i e) in
     record {
       peer = t.0;
-      does = does_read s (Leave id) i t.0 (handed t.0 node.Leave) t.1 (refused_as s (Leave id) isopen ∙ ap unless_node e)
+      does = does_read s (Leave id) i t.0 (handed t.0 node.Leave) t.1 (is_named w id i t.0 e t.1) (refused_as s (Leave id) isopen ∙ ap unless_node e)
           (λ h. subst (λ v. Read w v i (handed t.0 node.Leave h)) (sym (by_peer w (running_under w id) i t.0 (λ i p. hands w i p [] node.Leave h) e t.1)) (reads_hands w i t.0 [] node.Leave h (λ acts. refl)));
       up = up t.0 (runs_under w id i t.0 e t.1);
       keeps = keeps_at w (lives s are) i t.0 t.0 [] node.Leave t.1 refl (by_wish t.0 t.1);
@@ -160,7 +168,7 @@ deliver_hands s k x i are isopen sent e =
     let f = and_parts _ _ (found (λ q. is_running q && has_endpoint x.to q) w.peers i t.0 e t.1) in
     record {
       peer = t.0;
-      does = does_read s (Deliver k) i t.0 (handed t.0 (Receive x.message)) t.1 (refused_as s (Deliver k) isopen ∙ ap (unless_received w) sent ∙ ap unless_node e)
+      does = does_read s (Deliver k) i t.0 (handed t.0 (Receive x.message)) t.1 tt (refused_as s (Deliver k) isopen ∙ ap (unless_received w) sent ∙ ap unless_node e)
           (λ h. subst (λ v. Read w v i (handed t.0 (Receive x.message) h))
           (sym (ap (λ o. deliver w o h) sent ∙ by_peer w (running_at w x.to) i t.0 (λ i p. hands w i p (Took x.message ∷ []) (Receive x.message) h) e t.1))
           (reads_hands w i t.0 (Took x.message ∷ []) (Receive x.message) h (λ acts. refl)));
@@ -182,7 +190,7 @@ crash_does s id i isopen e =
     let w = world_of s in
     let t = stands w.peers i (place_within _ w.peers i e) in (
       t.0,
-      does_read s (Crash id) i t.0 (crash_of t.0) t.1 (refused_as s (Crash id) isopen ∙ ap unless_node e)
+      does_read s (Crash id) i t.0 (crash_of t.0) t.1 (is_named w id i t.0 e t.1) (refused_as s (Crash id) isopen ∙ ap unless_node e)
           (λ h. subst (λ v. Read w v i (crash_of t.0 h)) (sym (by_peer w (running_under w id) i t.0 (λ i p. crashed w i p) e t.1)) (reads_crashed w i t.0 h)),
     )
 
@@ -215,7 +223,7 @@ probe_does s id k ok i p x are isopen e at ob =
     let w = world_of s in
     let ev : Event = EdgeDown (configuration_id x.0) k x.1 in
     record {
-      does = does_read s (Probe id k ok) i p (told p k ok ev) at (probe_refusal s id k ok i p isopen e at ∙ ap (λ o. cond (is_some o) None (Some NotObserved)) ob)
+      does = does_read s (Probe id k ok) i p (told p k ok ev) at (is_named w id i p e at) (probe_refusal s id k ok i p isopen e at ∙ ap (λ o. cond (is_some o) None (Some NotObserved)) ob)
           (λ h. subst (λ v. Read w v i (told p k ok ev h))
           (sym (by_peer w (running_under w id) i p (λ i p. probes w i p (observed p k) k ok h) e at ∙ ap (λ o. probes w i p o k ok h) ob))
           (reads_told w i p x k ok h));
@@ -248,6 +256,7 @@ start_run s p seed ps sent q isopen fresh free is old =
       params = old.params;
       members = old.members;
       peers = ap (λ (l : List Peer). l ++ q ∷ []) old.peers ∙ ap (λ (x : Peer). (world_of s).peers ++ x ∷ []) is ∙ sym (ap (λ (w : World). w.peers) next);
+      who = map_push (λ (x : Peer). x.node.me) ps q ∙ ap (λ (l : List Process). l ++ q.node.me ∷ []) old.who ∙ ap (λ (x : Peer). started_in s ++ x.node.me ∷ []) is ∙ sym (one_started s p seed);
       packets = old.packets ∙ sym (ap (λ (w : World). map framed_packet w.packets) next);
       framed = subst (λ (w : World). All HasFrame w.packets) (sym next) old.framed;
     }

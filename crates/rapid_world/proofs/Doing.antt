@@ -1,5 +1,5 @@
 -- Steps of a world, read off what they do to the peer at a place.
-use Rattle.std.proofs.Common.{◌≡◌, ℕ, Bool, true, false, cond, List, [], ◌∷◌, ◌++◌, map, length, drop, slice_get, slice_set, refl, sym, ap, subst, ◌∙◌, Option, Some, None, append_assoc}
+use Rattle.std.proofs.Common.{◌≡◌, ℕ, zero, suc, Bool, true, false, cond, List, [], ◌∷◌, ◌++◌, map, length, drop, slice_get, slice_set, refl, sym, ap, subst, ◌∙◌, Option, Some, None, append_assoc}
 use Rattle.std.specs.Prelude.{IsTrue, All}
 use Rattle.std.proofs.lemmas.List.{map-append}
 use Rattle.std.proofs.lemmas.List.Elements.{All-append}
@@ -9,7 +9,7 @@ use Rattle.rapid_model.specs.Configuration.{AreMembers}
 use Rattle.rapid_model.specs.Edge.{probed}
 use Rattle.rapid_model.specs.Node.{Node, Event, EdgeDown, Effect, Outcome, configuration_of}
 use Rattle.rapid_model.specs.NodeStep.{node_step}
-use Rattle.rapid_model.specs.World.{World, Peer, Packet, Act, Did, HasHalted, WorldEvent, MarkedEvent, Entry}
+use Rattle.rapid_model.specs.World.{World, Peer, Act, Did, HasHalted, WorldEvent, MarkedEvent, Entry}
 use Rattle.rapid_model.specs.WorldStep.{world_step, hands, halted, settled, moved, entry, install_acts, with_edge, edge_on}
 use Rattle.rapid_model.specs.Run.{run, founded, WorldReport, reports_of}
 use Rattle.rapid_model.specs.StoredWorld.{StoredWorld, StoresEvent, world_of, event_refusal, with_event, is_halt}
@@ -20,7 +20,9 @@ use Rattle.rapid_world.specs.Framed.{FramedPacket, framed_packet, HasFrame}
 use Rattle.rapid_world.specs.Handed.{Handed, stopped, went_on, stepped, handed, told}
 use Rattle.rapid_world.specs.Worlds.{IsRunOf}
 use Rattle.rapid_world.specs.Does.{Does}
+use Rattle.rapid_world.specs.Stored.{Names}
 use Rattle.rapid_world.proofs.Going.{goes_quiet, edge_goes}
+use Rattle.rapid_world.proofs.Storing.{same_started}
 
 -- ---- one event more
 
@@ -38,15 +40,22 @@ lives s are = lived_run s.founding s.events are
 
 -- ---- what a step does, stored
 
-pub done_run : (s : StoredWorld) (e : WorldEvent) (i : ℕ) (p : Peer) (f : Bool → Handed) (ps : List Peer) (sent : List FramedPacket) (h : Bool) → Does s e i p f → All HasFrame (f h).packets → IsRunOf s ps sent →
+-- the processes are the same if one peer is replaced by one of its process
+same_who : (ps : List Peer) (i : ℕ) (p q : Peer) → slice_get ps i ≡ Some p → q.node.me ≡ p.node.me → map (λ (x : Peer). x.node.me) (slice_set ps i q) ≡ map (λ (x : Peer). x.node.me) ps
+same_who [] i p q at same = cc
+same_who (x ∷ ps) zero p q at same = let is : x ≡ p = cc in ap (λ (me : Process). me ∷ map (λ (y : Peer). y.node.me) ps) (same ∙ ap (λ (y : Peer). y.node.me) (sym is))
+same_who (x ∷ ps) (suc i) p q at same = ap (λ (l : List Process). x.node.me ∷ l) (same_who ps i p q at same)
+
+pub done_run : (s : StoredWorld) (e : WorldEvent) (i : ℕ) (p : Peer) (f : Bool → Handed) (ps : List Peer) (sent : List FramedPacket) (h : Bool) → Does s e i p f → (f h).peer.node.me ≡ p.node.me → All HasFrame (f h).packets → IsRunOf s ps sent →
     IsRunOf (with_event s (record { event = e; halts = h })) (slice_set ps i (f h).peer) (sent ++ map framed_packet (f h).packets)
-done_run s e i p f ps sent h does framed old =
+done_run s e i p f ps sent h does same framed old =
     let all : (world_of s).packets ++ (f h).packets ≡ (world_of (with_event s (record { event = e; halts = h }))).packets =
     sym (does.packets h) ∙ sym (ap (λ (w : World). w.packets) (one_more s _)) in
     record {
       params = old.params;
       members = old.members;
       peers = ap (λ (l : List Peer). slice_set l i (f h).peer) old.peers ∙ sym (does.peers h) ∙ sym (ap (λ (w : World). w.peers) (one_more s _));
+      who = same_who ps i p (f h).peer (ap (λ (l : List Peer). slice_get l i) old.peers ∙ does.at) same ∙ old.who ∙ sym (same_started s (record { event = e; halts = h }) (Some p.node.me) does.names);
       packets = ap (λ (l : List FramedPacket). l ++ map framed_packet (f h).packets) old.packets ∙ sym (map-append framed_packet (world_of s).packets (f h).packets) ∙ ap (map framed_packet) all;
       framed = subst (All HasFrame) all (All-append HasFrame (world_of s).packets (f h).packets old.framed framed);
     }
@@ -140,6 +149,6 @@ reads_hands w i p before e false quiet = by (node_step p.node e)
     by (Some o) = reads_moved w i p before o quiet
 
 -- the same for a step that is one of these
-pub does_read : (s : StoredWorld) (e : WorldEvent) (i : ℕ) (p : Peer) (f : Bool → Handed) → slice_get (world_of s).peers i ≡ Some p → event_refusal s e ≡ None →
+pub does_read : (s : StoredWorld) (e : WorldEvent) (i : ℕ) (p : Peer) (f : Bool → Handed) → slice_get (world_of s).peers i ≡ Some p → Names (Some p.node.me) e → event_refusal s e ≡ None →
     ((h : Bool) → Read (world_of s) (world_step (world_of s) (record { event = e; halts = h })) i (f h)) → Does s e i p f
-does_read s e i p f at taken reads = record { at = at; not_refused = taken; peers = λ h. (reads h).peers; packets = λ h. (reads h).packets; reports = λ h. (reads h).reports }
+does_read s e i p f at names taken reads = record { at = at; names = names; not_refused = taken; peers = λ h. (reads h).peers; packets = λ h. (reads h).packets; reports = λ h. (reads h).reports }

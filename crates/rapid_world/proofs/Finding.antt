@@ -254,7 +254,7 @@ none_found = record { ids = λ i p at. cc; endpoints = λ i p at runs. cc }
 -- ---- what becomes of the one at a place
 
 -- it makes a step or halts: it stays the same process, and runs only if it ran
-handed_me : (p : Peer) (e : Event) (h : Bool) → KeepsAt p.node e → (handed p e h).peer.node.me ≡ p.node.me
+pub handed_me : (p : Peer) (e : Event) (h : Bool) → KeepsAt p.node e → (handed p e h).peer.node.me ≡ p.node.me
 unfolding handed
 handed_me p e true keeps = refl
 handed_me p e false keeps = by (node_step p.node e) refl
@@ -283,7 +283,7 @@ handed_found ids ends ps i p q e h found at up keeps is =
     (ap (λ (x : Peer). x.node.me) is ∙ handed_me p e h keeps)
     (still_runs p q (ap (λ (x : Peer). x.crashed) is ∙ handed_up p e h) up)
 
-told_me : (p : Peer) (k : ℕ) (ok : Bool) (e : Event) (h : Bool) → ((probed (edge_on p.edges k) ok).is_down ≡ true → KeepsAt p.node e) → (told p k ok e h).peer.node.me ≡ p.node.me
+pub told_me : (p : Peer) (k : ℕ) (ok : Bool) (e : Event) (h : Bool) → ((probed (edge_on p.edges k) ok).is_down ≡ true → KeepsAt p.node e) → (told p k ok e h).peer.node.me ≡ p.node.me
 unfolding told
 told_me p k ok e h keeps = by (probed (edge_on p.edges k) ok).is_down refl
   where

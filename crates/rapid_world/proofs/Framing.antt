@@ -13,7 +13,7 @@ use Rattle.rapid_model.specs.Frame.{IsMessage, IsFrame, frame}
 use Rattle.rapid_model.specs.Node.{Destination, To, Others, Itself, Output}
 use Rattle.rapid_model.specs.Packets.{packets_of, packets_to, packet_to}
 use Rattle.rapid_model.specs.World.{World, Packet, packet, can_receive, running_at}
-use Rattle.rapid_world.specs.Framed.{FramedPacket, FramedOutput, framed_packet, framed_output, HasFrame, CanBeFramed, frame_to, output_to, frames_to, frames_of, IsFrameOf}
+use Rattle.rapid_world.specs.Framed.{FramedPacket, framed_packet, framed_output, HasFrame, CanBeFramed, frame_to, output_to, frames_to, frames_of, IsFrameOf}
 use Rattle.rapid_world.specs.Sent.{numbered_packet}
 
 -- ---- what goes out

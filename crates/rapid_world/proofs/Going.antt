@@ -7,7 +7,7 @@ use Rattle.std.specs.List.{list_any}
 use Rattle.rapid_model.specs.Bytes.{ConfigurationId}
 use Rattle.rapid_model.specs.Process.{Process, same_bytes, endpoint}
 use Rattle.rapid_model.specs.Cut.{Cut}
-use Rattle.rapid_model.specs.Configuration.{Configuration, Stamp, position_of}
+use Rattle.rapid_model.specs.Configuration.{Configuration, position_of}
 use Rattle.rapid_model.specs.Alert.{Alert}
 use Rattle.rapid_model.specs.Acceptor.{AcceptorRefusal, accepts, promise_answer, after_promise, after_accept}
 use Rattle.rapid_model.specs.Ring.{observers_of}
@@ -18,8 +18,8 @@ use Rattle.rapid_model.specs.Coordinator.{accept_cut, after_report, next_ballot,
 use Rattle.rapid_model.specs.Host.{HostAnswer, Nothing, Replies, Confirms, Raises, pre_join, join_request, pending_after}
 use Rattle.rapid_model.specs.Message.{Message, Body, Batch, FastVote, Prepare, Promise, Accept, Accepted, Decision, PreJoin, Reply, JoinRequest, Confirm, Probe, ProbeAck, caught_up_by, batch_alerts, item_of}
 use Rattle.rapid_model.specs.Message as message
-use Rattle.rapid_model.specs.Node.{Node, MemberState, Phase, Joining, Member, Removed, Halted, Decisions, Event, EdgeDown, Tick, Receive, Leave, Outcome, Output, Says, Proposes, To, Others, Itself, configuration_of, shown_in, is_halted, has_installed}
-use Rattle.rapid_model.specs.Member.{Work, and_then, then_if, still, says, own_place, vote_seen, take_vote, take_accepted, take_accept, send_accept, take_promise, give_promise, take_prepare, cast_vote, propose, take_batch, at_position, from_coordinator, raise_alert, current_id}
+use Rattle.rapid_model.specs.Node.{Node, MemberState, Phase, Joining, Member, Removed, Halted, Decisions, Event, EdgeDown, Tick, Receive, Leave, Outcome, Output, Proposes, To, Others, Itself, configuration_of, shown_in, has_installed}
+use Rattle.rapid_model.specs.Member.{Work, and_then, then_if, still, says, own_place, vote_seen, take_vote, take_accepted, take_accept, send_accept, take_promise, give_promise, take_prepare, cast_vote, propose, take_batch, at_position, raise_alert, current_id}
 use Rattle.rapid_model.specs.Receive.{take, take_or_catch_up, receive_as_member, raise_join, is_about, sends, catch_up}
 use Rattle.rapid_model.specs.Tick.{raise_all, echo, echoes, age_of, next_ages, unstable_now, aged, clock_moved, repeats, vote_again, send_alerts, sends_batch, begin_at, is_due, recovers, quiet_tick, batch_tick, on_tick}
 use Rattle.rapid_model.specs.NodeStep.{is_history_full, install, put_before, settle_at, settle, step_tick, step_receive, step_edge_down, step_leave, node_step}
@@ -212,7 +212,7 @@ edge_goes n id k q = by n.phase
     by (Removed c) = refl
     by (Halted c) = refl
 
--- nor where a member is to leave
+-- nor if a member is to leave
 leave_goes : (n : Node) → is_some (node_step n Leave) ≡ true
 unfolding node_step settle
 leave_goes n = by n.phase

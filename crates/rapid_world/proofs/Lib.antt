@@ -6,6 +6,7 @@ pub mod Mails
 pub mod Taking
 pub mod Probing
 pub mod Keeping
+pub mod Storing
 pub mod Doing
 pub mod Cases
 pub mod Holding

@@ -1,5 +1,5 @@
 -- Those that run, by their identifiers in order.
-use Rattle.std.proofs.Common.{◌≡◌, ℕ, suc, ◌+◌, ◌-◌, ◌<◌, Bool, true, false, cond, not, ◌&&◌, ◌||◌, List, [], ◌∷◌, map, filter, slice_get, refl, sym, ap, subst, ◌∙◌, Option, Some, None, arith}
+use Rattle.std.proofs.Common.{◌≡◌, ℕ, suc, ◌+◌, ◌-◌, ◌<◌, Bool, true, false, cond, ◌&&◌, ◌||◌, List, [], ◌∷◌, map, filter, refl, sym, ap, ◌∙◌, Some, None, arith}
 use Rattle.std.specs.Prelude.{position, is_some}
 use Rattle.std.specs.List.{list_any, find, range_with_len}
 use Rattle.std.specs.List.Sorted.{IsStrictlySortedBy}
@@ -10,14 +10,13 @@ use Rattle.std.proofs.lemmas.Bool.{and_parts}
 use Rattle.std.proofs.lemmas.List.Kept.{IsStrictlySortedBy-filter}
 use Rattle.std.proofs.lemmas.Map.Views.{any-filter_same}
 use Rattle.rapid_model.specs.Bytes.{Identifier}
-use Rattle.rapid_model.specs.InOrder.{in_order}
 use Rattle.rapid_model.specs.Process.{bytes_cmp, same_bytes, identifier}
 use Rattle.rapid_model.specs.World.{Peer, is_running, has_identifier}
-use Rattle.rapid_model.specs.Turn.{least, found_or, next_node}
+use Rattle.rapid_model.specs.Turn.{least}
 use Rattle.rapid_model.proofs.Orders.{processes_total, processes_exact, same_bytes_decides}
 use Rattle.rapid_model.proofs.InOrder.{any_insert, any_in_order, sorted_in_order, same_sorted}
 use Rattle.rapid_world.specs.Found.{Places, AreFound, HasAll, runs, running_of}
-use Rattle.rapid_world.proofs.Finding.{NonePasses, position_none, any_none, none_by_any, none_by_position}
+use Rattle.rapid_world.proofs.Finding.{position_none, any_none, none_by_any, none_by_position}
 
 not_both : {A : Type 0} (b : Bool) → b ≡ true → b ≡ false → A
 not_both b h k = let never : true ≡ false = sym h ∙ k in absurd cc

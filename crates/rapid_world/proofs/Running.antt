@@ -5,7 +5,7 @@ use Rattle.rapid_model.specs.World as model
 use Rattle.rapid_model.specs.World.{MarkedEvent}
 use Rattle.rapid_model.specs.Refusal as refusal
 use Rattle.rapid_model.specs.Run.{WorldReport}
-use Rattle.rapid_model.specs.StoredWorld.{StoredWorld, StoresEvent, RunsTo, ends, accepts, refuses, lacks_memory, event_refusal, with_event, unmarked, wants_of, stepped_by, run_by, mark_of, last_mark}
+use Rattle.rapid_model.specs.StoredWorld.{StoredWorld, StoresEvent, RunsTo, ends, accepts, refuses, lacks_memory, event_refusal, with_event, unmarked, wants_of, run_by, mark_of, last_mark}
 use Rattle.rapid_world.specs.declared.error.WorldError.{WorldError}
 use Rattle.rapid_world.specs.declared.error.WorldError.TheVariants.{IdentifierUsed, EndpointBusy, NoSuchNode, NoSuchPacket, NotObserved, EventsFull, OutOfMemory}
 use Rattle.rapid_world.specs.Events.{Refuses, error_wants}

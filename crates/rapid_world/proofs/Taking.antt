@@ -1,13 +1,12 @@
 -- What becomes of a peer whose node takes an event.
 use Rattle.std.proofs.Common.{◌≡◌, ℕ, Bool, true, false, cond, List, [], ◌∷◌, length, refl, sym, ap, subst, ◌∙◌, Option, Some, None, arith}
-use Rattle.std.specs.Prelude.{nat_lt, is_some, flat_map, map, All}
+use Rattle.std.specs.Prelude.{nat_lt, is_some, map, All}
 use Rattle.std.proofs.lemmas.List.Elements.{All-nil}
 use Rattle.rapid_model.specs.Process.{Process, identifier}
 use Rattle.rapid_model.specs.Configuration.{Configuration}
 use Rattle.rapid_model.specs.Monitors as monitors
 use Rattle.rapid_model.specs.Node.{Node, Phase, Joining, Member, Removed, Halted, Event, Outcome, Output, outputs, configuration_of, member_in, member_config, shown_in, has_installed, is_halted, halt}
 use Rattle.rapid_model.specs.NodeStep.{node_step}
-use Rattle.rapid_model.specs.Packets.{other_members, packets_of}
 use Rattle.rapid_model.specs.World.{Peer}
 use Rattle.rapid_model.specs.WorldStep.{windows_in}
 use Rattle.rapid_node.specs.Quiet.{IsQuiet}

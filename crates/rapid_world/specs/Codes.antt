@@ -10,6 +10,7 @@ use Rattle.rapid_model.specs.Monitors.{Monitors}
 use Rattle.rapid_model.specs.Node.{Node}
 use Rattle.rapid_model.specs.World.{Peer, WorldEvent, Start, Probe, Tick, Deliver, Crash, Leave, MarkedEvent}
 use Rattle.rapid_model.specs.StoredWorld.{StoredWorld}
+use Rattle.rapid_world.specs.Stored.{Store}
 use Rattle.rapid_join.specs.Hosts.{configuration_code}
 use Rattle.rapid_node.specs.Codes.{node_code}
 
@@ -69,3 +70,8 @@ marked_code = code_by (WorldEvent × Bool) (coded× event_code coded_bool) (λ m
 abbrev pub stored_code : Coded StoredWorld
 stored_code =
     code_by (Configuration × List MarkedEvent) (coded× configuration_code (coded_list marked_code)) (λ s. (s.founding, s.events)) (λ x. record { founding = x.0; events = x.1 }) (λ _. refl)
+
+-- What a world stores.
+abbrev pub store_code : Coded Store
+store_code =
+    code_by (StoredWorld × (ℕ × ℕ)) (coded× stored_code (coded× coded_ℕ coded_ℕ)) (λ s. (s.world, (s.room, s.start_room))) (λ x. record { world = x.0; room = x.1.0; start_room = x.1.1 }) (λ _. refl)

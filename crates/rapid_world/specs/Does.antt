@@ -8,11 +8,13 @@ use Rattle.rapid_model.specs.WorldStep.{world_step, edge_on}
 use Rattle.rapid_model.specs.Run.{step_reports}
 use Rattle.rapid_model.specs.StoredWorld.{StoredWorld, world_of, event_refusal}
 use Rattle.rapid_world.specs.Handed.{Handed, handed, told, KeepsAt}
+use Rattle.rapid_world.specs.Stored.{Names}
 
--- The event is not refused, and with either mark its step puts a peer in the place of this one, adds packets and
+-- The event names the peer, and is not refused, and with either mark its step puts a peer in the place of this one, adds packets and
 -- reports.
 pub record Does (s : StoredWorld) (e : WorldEvent) (i : ℕ) (p : Peer) (f : Bool → Handed) : Type 0 where
   pub at : slice_get (world_of s).peers i ≡ Some p
+  pub names : Names (Some p.node.me) e
   pub not_refused : event_refusal s e ≡ None
   pub peers : (halts : Bool) → (world_step (world_of s) (record { event = e; halts = halts })).peers ≡ slice_set (world_of s).peers i (f halts).peer
   pub packets : (halts : Bool) → (world_step (world_of s) (record { event = e; halts = halts })).packets ≡ (world_of s).packets ++ (f halts).packets

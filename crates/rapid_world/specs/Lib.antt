@@ -6,6 +6,7 @@ pub mod Framed
 pub mod Handed
 pub mod Recipients
 pub mod Sent
+pub mod Stored
 pub mod Windows
 pub mod Worlds
 pub mod Going

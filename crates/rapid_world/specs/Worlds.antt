@@ -7,13 +7,15 @@ use Rattle.rapid_model.specs.Configuration.{AreParams, AreMembers}
 use Rattle.rapid_model.specs.World.{Peer, World, is_running, running_under, peer_at, observed}
 use Rattle.rapid_model.specs.StoredWorld.{StoredWorld, world_of}
 use Rattle.rapid_world.specs.Framed.{FramedPacket, framed_packet, HasFrame}
+use Rattle.rapid_world.specs.Stored.{started_in}
 
 -- These peers are those of the run of the stored events, these framed packets are its packets with the frames of their
--- messages, and its founders can be founders.
+-- messages, and its founders can be founders. The peers are all that ever started, each at its place.
 pub record IsRunOf (s : StoredWorld) (ps : List Peer) (sent : List FramedPacket) : Type 0 where
   pub params : AreParams s.founding.params
   pub members : AreMembers s.founding.members
   pub peers : ps ≡ (world_of s).peers
+  pub who : map (λ p. p.node.me) ps ≡ started_in s
   pub packets : sent ≡ map framed_packet (world_of s).packets
   pub framed : All HasFrame (world_of s).packets
 

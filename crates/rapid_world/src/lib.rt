@@ -20,6 +20,7 @@ mod report;
 mod runs;
 mod sending;
 mod steps;
+mod stored;
 mod taken;
 mod views;
 mod windows;

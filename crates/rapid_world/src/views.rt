@@ -22,7 +22,7 @@ impl World {
     pub fn event(&self, i: usize) -> Option<(WorldEvent, bool)>
         ensures { option_map marked_of result ≡ slice_get self.now.events i }
     {
-        event_at(self.events(), i)
+        self.stored().event(i)
     }
 
     /// The node of a founder, or of a process that was started, as it stands or as it ended.
@@ -103,11 +103,4 @@ impl World {
             None => None,
         }
     }
-}
-
-/// An event with its mark.
-fn event_at(events: &[(WorldEvent, bool)], i: usize) -> Option<(WorldEvent, bool)>
-    ensures { result ≡ slice_get events.now i }
-{
-    events.get(i).copied()
 }

@@ -10,7 +10,7 @@ ghost use Rattle.rapid_model.specs.Packets.{packet_to};
 ghost use Rattle.rapid_model.specs.RunHolds.{RunHolds};
 ghost use Rattle.rapid_model.specs.StoredWorld.{StoresEvent, new_world, world_of, accepted, event_refusal};
 ghost use Rattle.rapid_model.specs.World as model;
-ghost use Rattle.rapid_world.specs.Events.{event_of, marked_of, report_of, Refuses};
+ghost use Rattle.rapid_world.specs.Events.{event_of, report_of, Refuses};
 ghost use Rattle.rapid_node.specs.Steps.{event_of as taken_of};
 ghost use Rattle.rapid_model.specs.Node.{EdgeDown};
 ghost use Rattle.rapid_model.specs.World.{Peer as ModelPeer};
@@ -25,6 +25,7 @@ use crate::outcome::{has_outcome, is_marked};
 use crate::peer::Peer;
 use crate::peers::Nodes;
 use crate::report::Report;
+use crate::stored::Stored;
 use crate::{WorldError, WorldEvent};
 use rapid_config::{ConfigId, Configuration};
 use rapid_endpoint::{Endpoint, Process, ProcessId};
@@ -38,16 +39,14 @@ use std::marker::Model;
 /// because it was out of memory.
 #[derive(Drop)]
 pub struct World {
-    founding: Configuration,
-    // all events that it accepted, with their marks
-    events: Vec<(WorldEvent, bool)>,
+    // how it was founded, and all events that it accepted, with their marks
+    stored: Stored,
     peers: Nodes,
     mail: Mail,
     alloc: Global,
 }
 
 impl Model for World {
-    ghost use Rattle.std.specs.Prelude.{map};
     ghost use Rattle.rapid_model.specs.StoredWorld.{StoredWorld};
     ghost use Rattle.rapid_world.specs.Codes.{stored_code};
 
@@ -55,12 +54,11 @@ impl Model for World {
 
     ghost coded = { stored_code };
 
-    ghost use Rattle.rapid_world.specs.Events.{marked_of};
     ghost use Rattle.rapid_world.specs.Worlds.{IsRunOf};
 
-    ghost view = { λ w. record { founding = w.founding; events = map marked_of w.events.items } };
+    ghost view = { λ w. w.stored.world };
 
-    ghost invariant = { λ w. IsRunOf (record { founding = w.founding; events = map marked_of w.events.items }) w.peers w.mail.packets };
+    ghost invariant = { λ w. IsRunOf w.stored.world w.peers w.mail.packets };
 }
 
 impl World {
@@ -73,8 +71,7 @@ impl World {
         ensures { result ≡ new_world founding }
     {
         World {
-            founding,
-            events: Vec::new(alloc),
+            stored: Stored::new(alloc, founding),
             peers,
             mail: Mail::new(alloc),
             alloc,
@@ -90,7 +87,7 @@ impl World {
         ensures members { AreMembers self.now.founding.members }
         ensures holds { NoCollision (world_of self.now) → RunHolds (world_of self.now) }
     {
-        let _ = &self.founding;
+        let _ = &self.stored;
         runs_hold();
     }
 
@@ -116,18 +113,18 @@ impl World {
         self.mail.seek(packet);
     }
 
-    /// The events that it accepted, with their marks.
-    pub(crate) fn events(&self) -> &[(WorldEvent, bool)]
-        ensures { map marked_of result.now ≡ self.now.events }
+    /// What it stores.
+    pub(crate) fn stored(&self) -> &Stored
+        ensures { result.now.world ≡ self.now }
     {
-        self.events.as_slice()
+        &self.stored
     }
 
     /// How it was founded.
     pub fn founding(&self) -> &Configuration
         ensures { result.now ≡ self.now.founding }
     {
-        &self.founding
+        self.stored.founding()
     }
 
     /// The allocator of its memory.
@@ -139,7 +136,7 @@ impl World {
     pub fn accepted(&self) -> usize
         ensures { result ≡ accepted self.now }
     {
-        self.events.len()
+        self.stored.len()
     }
 
     /// The node at a place takes another event by this one, which is stored with its mark.
@@ -153,13 +150,13 @@ impl World {
         ensures stored { IfOk result (λ reports. StoresEvent self.old self.new (event_of event) (map report_of reports.items)) }
         ensures unchanged { OnErr result (self.new ≡ self.old) }
     {
-        self.events.reserve(1)?;
+        self.stored.reserve()?;
         let reports = Vec::with_capacity(self.alloc, 1)?;
         // a node whose history is full halts without a mark, also if it had no memory to find out
         let has_outcome = has_outcome(self.peers.as_slice()[place].node(), taken)?;
         let told = self.peers.hand(place, &mut self.mail, taken)?;
         let mark = is_marked(told.halts, has_outcome);
-        push_within(&mut self.events, (event, mark));
+        self.stored.push(&event, place, mark);
         Ok(with_report(reports, told.report))
     }
 
@@ -173,9 +170,9 @@ impl World {
         ensures stored { IfOk result (λ reports. StoresEvent self.old self.new (event_of event) (map report_of reports.items)) }
         ensures unchanged { OnErr result (self.new ≡ self.old) }
     {
-        self.events.reserve(1)?;
+        self.stored.reserve()?;
         self.peers.crash(place);
-        push_within(&mut self.events, (event, false));
+        self.stored.push(&event, place, false);
         Ok(Vec::new(self.alloc))
     }
 
@@ -191,10 +188,10 @@ impl World {
         ensures stored { IfOk result (λ reports. StoresEvent self.old self.new (model.Start process seed) (map report_of reports.items)) }
         ensures unchanged { OnErr result (self.new ≡ self.old) }
     {
-        self.events.reserve(1)?;
+        self.stored.reserve_start()?;
         let peer = Peer::joiner(self.alloc, process, seed)?;
         self.peers.add(peer)?;
-        push_within(&mut self.events, (WorldEvent::Start(process, seed), false));
+        self.stored.push_start(process, seed);
         Ok(Vec::new(self.alloc))
     }
 
@@ -212,10 +209,10 @@ impl World {
         ensures stored { IfOk result (λ reports. StoresEvent self.old self.new (event_of event) (map report_of reports.items)) }
         ensures unchanged { OnErr result (self.new ≡ self.old) }
     {
-        self.events.reserve(1)?;
+        self.stored.reserve()?;
         let reports = Vec::with_capacity(self.alloc, 1)?;
         let told = self.peers.probe(place, ring, ok, observed)?;
-        push_within(&mut self.events, (event, told.halts));
+        self.stored.push(&event, place, told.halts);
         Ok(with_report(reports, told.report))
     }
 }

@@ -4,7 +4,7 @@ use rapid_agent::{Agent, Changes, Next, Subscriber};
 use rapid_config::Params;
 use rapid_endpoint::{Endpoint, Process};
 use rapid_node::Phase;
-use rapid_service::NodeOptions;
+use rapid_options::NodeOptions;
 use std::net::{Net, TcpListener, TcpStream};
 use std::process::Abort;
 use std::random::RandomSource;

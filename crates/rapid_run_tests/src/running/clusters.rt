@@ -3,8 +3,8 @@
 use crate::running::devices::{Screen, Silence, Wires, cut};
 use rapid_config::Params;
 use rapid_endpoint::{Endpoint, ProcessId};
+use rapid_options::NodeOptions;
 use rapid_run::run_node;
-use rapid_service::NodeOptions;
 use std::alloc::{AllocError, Global};
 use std::net::{Net, TcpListener, TcpStream};
 use std::process::Abort;

@@ -3,8 +3,9 @@
 use crate::running::devices::{Broken, Murmur, Screen};
 use rapid_config::Params;
 use rapid_endpoint::{Endpoint, ProcessId};
+use rapid_options::NodeOptions;
 use rapid_run::run_node;
-use rapid_service::{NodeOptions, RunningFault};
+use rapid_service::RunningFault;
 use std::alloc::Global;
 use std::io::{Read, Write};
 use std::net::{Ipv4Addr, Net, SocketAddr, SocketAddrV4, TcpListener, TcpStream};

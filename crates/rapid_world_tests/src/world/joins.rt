@@ -91,3 +91,47 @@ fn a_run_skips_only_refused_events(rt: HostRuntime) -> Result<(), Fail> {
     assert_eq!(&rt; world.accepted(), 16);
     Ok(())
 }
+
+/// Whether two events are the same.
+fn is_same(one: &WorldEvent, other: &WorldEvent) -> bool {
+    match (*one, *other) {
+        (Start(p, seed), Start(q, same)) => p == q && seed == same,
+        (Probe(a, ring, ok), Probe(b, same, answered)) => a == b && ring == same && ok == answered,
+        (Tick(a), Tick(b)) => a == b,
+        (Deliver(packet), Deliver(same)) => packet == same,
+        (Crash(a), Crash(b)) => a == b,
+        (Leave(a), Leave(b)) => a == b,
+        _ => false,
+    }
+}
+
+/// Whether the event at a place is this one, without a mark.
+fn is_stored(world: &World, place: usize, event: &WorldEvent) -> bool {
+    match world.event(place) {
+        Some((stored, halts)) => is_same(&stored, event) && !halts,
+        None => false,
+    }
+}
+
+/// Steps by an event. If it is accepted, it is stored behind the others.
+fn is_kept(world: &mut World, event: &WorldEvent) -> bool {
+    let before = world.accepted();
+    match world.step(event) {
+        Ok(_reports) => is_stored(world, before, event),
+        Err(_refused) => world.event(before).is_none(),
+    }
+}
+
+/// Events are stored as they were given: of each kind, of a founder and of those who started.
+#[test]
+fn events_are_stored_as_given(rt: HostRuntime) -> Result<(), Fail> {
+    let mut world = alone(rt.alloc())?;
+    for event in join().iter().chain(&of_each_kind()) {
+        assert!(&rt; is_kept(&mut world, event));
+    }
+    for (place, event) in join().iter().enumerate() {
+        assert!(&rt; is_stored(&world, place, event));
+    }
+    assert_eq!(&rt; world.accepted(), 16);
+    Ok(())
+}

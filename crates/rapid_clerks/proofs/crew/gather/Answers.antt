@@ -17,5 +17,5 @@ loop-place-preserved g c =
       omega (arith, merged.amount, amount_before, counted, sums),
       search rules,
       search rules,
-      subst (All (λ count. count ≤ g.N.Given.given)) (sym items) (All-push (λ count. count ≤ g.N.Given.given) c.loop-place.counts.items place.done i.4 place.most),
+      subst (All (λ count. count ≤ g.N.TurnCount.given)) (sym items) (All-push (λ count. count ≤ g.N.TurnCount.given) c.loop-place.counts.items place.done i.4 place.most),
     )

@@ -9,4 +9,4 @@ invariant-loop-place g l =
     × (l.share.amount ≡ l.fn.share.amount + sum l.counts.items)
     × (vec_len l.counts + into_iter_len l.place-iterator ≡ vec_len l.fn.places)
     × (vec_len l.fn.places ≤ vec_capacity l.counts)
-    × All (λ count. count ≤ g.N.Given.given) l.counts.items
+    × All (λ count. count ≤ g.N.TurnCount.given) l.counts.items

@@ -2,14 +2,14 @@ use Rattle.std.proofs.Common.{◌≡◌, ◌∙◌, [], ◌∷◌, sym, subst, a
 use mathlib.Core.Option.{some}
 use lib.ListN.{get_elem?}
 use Rattle.atomic_table.specs.Table.{Me}
-use Rattle.rapid_view.specs.declared.known.Known.{Known}
+use Rattle.rapid_view.specs.declared.cell_rule.CellKnowledge.{CellKnowledge}
 use Rattle.rapid_view.specs.Words.{stamp_of}
 use Rattle.rapid_view.proofs.stamp_reader.read_stamp.Goals as goal
 
 pub returns-clause-stamp : goal.returns-clause-stamp
 returns-clause-stamp c s e whole =
     let n = c.args.number in
-    let S : Me (Unit {0}) Known → Type 0 = λ m. get_elem? m.0.seen n ≡ some s in
+    let S : Me (Unit {0}) CellKnowledge → Type 0 = λ m. get_elem? m.0.seen n ≡ some s in
     let e1 = subst S (sym c.read_word-height.ensures.same.2) e in
     let e2 = subst S (sym c.read_word-a.ensures.same.2) e1 in
     let e3 = subst S (sym c.read_word-b.ensures.same.2) e2 in

@@ -1,4 +1,4 @@
-use Rattle.std.proofs.Common.{◌≡◌, ◌-◌, refl, slice_get, ap, subst, sym, arith}
+use Rattle.std.proofs.Common.{◌≡◌, ◌-◌, refl, slice_get, subst, sym, arith}
 use Rattle.std.proofs.lemmas.Option.{slice_get_within}
 use Rattle.rapid_world.specs.Sent.{Sent, all_packets, numbered_packet}
 use Rattle.rapid_world.proofs.Mails.{read_there}

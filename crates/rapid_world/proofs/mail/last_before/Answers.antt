@@ -1,4 +1,4 @@
-use Rattle.std.proofs.Common.{rules, of_calls, sym, arith}
+use Rattle.std.proofs.Common.{rules, of_calls, arith}
 use Rattle.std.proofs.lemmas.Fn.{always_returns_same}
 use Rattle.rapid_world.proofs.Mails.{begins_before, those_before_first, none_before, last_tells}
 use Rattle.rapid_world.proofs.mail.last_before.Goals as goal

@@ -1,5 +1,12 @@
 use Rattle.std.proofs.Common.{◌≡◌}
+use Rattle.rapid_service.specs.Entering.{views_of}
 use Rattle.rapid_service.proofs.service.Service.send_all.Given as goal
 
 abbrev pub invariant-loop-output : goal.invariant-loop-output
-invariant-loop-output g l = (l.self.desk ≡ l.fn.self.desk) × (l.self.rounds ≡ l.fn.self.rounds) × (l.self.me ≡ l.fn.self.me)
+invariant-loop-output g l =
+    record {
+      desk : l.self.desk ≡ l.fn.self.desk;
+      rounds : l.self.rounds ≡ l.fn.self.rounds;
+      me : l.self.me ≡ l.fn.self.me;
+      views : views_of l.self.changes.taken l.self.lines.items l.self.present ≡ views_of l.fn.self.changes.taken l.fn.self.lines.items l.fn.self.present;
+    }

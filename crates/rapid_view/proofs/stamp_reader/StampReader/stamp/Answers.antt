@@ -3,7 +3,7 @@ use Rattle.std.specs.Prelude.{slice_get, Some, ◌-◌, List}
 use mathlib.Core.Option.{some}
 use lib.ListN.{get_elem?}
 use Rattle.atomic_table.specs.Table.{Me}
-use Rattle.rapid_view.specs.declared.known.Known.{Known}
+use Rattle.rapid_view.specs.declared.cell_rule.CellKnowledge.{CellKnowledge}
 use Rattle.rapid_model.specs.Configuration.{Stamp}
 use Rattle.rapid_view.proofs.Moves.{last_there}
 use Rattle.rapid_view.proofs.stamp_reader.StampReader.stamp.Goals as goal
@@ -17,4 +17,4 @@ returns-clause-last c =
     let t = last_there seen some_there in
     let there : get_elem? seen (c.look-count.result - 1) ≡ some t.0 = subst (λ k. get_elem? seen (k - 1) ≡ some t.0) (sym n) t.1 in
     let read : c.read_stamp.result ≡ t.0 = c.read_stamp.ensures.stamp t.0 there (l.6 _ t.0 there) in
-    subst (λ (m : Me (Unit {0}) Known). slice_get m.0.seen (length m.0.seen - 1) ≡ Some c.read_stamp.result) (sym c.read_stamp.ensures.same.2) (t.2 ∙ ap Some (sym read))
+    subst (λ (m : Me (Unit {0}) CellKnowledge). slice_get m.0.seen (length m.0.seen - 1) ≡ Some c.read_stamp.result) (sym c.read_stamp.ensures.same.2) (t.2 ∙ ap Some (sym read))

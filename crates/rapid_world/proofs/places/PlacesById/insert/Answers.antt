@@ -1,4 +1,4 @@
-use Rattle.std.proofs.Common.{◌≡◌, ap, sym, subst, ◌∙◌, cond, Some, ℕ, List}
+use Rattle.std.proofs.Common.{ap, sym, subst, ◌∙◌, cond, Some, ℕ, List}
 use Rattle.std.specs.BTreeSet.{insert_key}
 use Rattle.std.specs.FinMap as finmap
 use Rattle.std.specs.HashMap.{get}

@@ -1,4 +1,4 @@
-use Rattle.std.proofs.Common.{◌≡◌, ℕ, List, [], ap}
+use Rattle.std.proofs.Common.{ℕ, List, ap}
 use Rattle.std.specs.FinMap as finmap
 use Rattle.rapid_model.specs.Process.{bytes_cmp}
 use Rattle.rapid_world.proofs.Next.{none_there}

@@ -1,13 +1,12 @@
-use Rattle.std.proofs.Common.{◌≡◌, ◌&&◌, false, List, ap, sym, subst, refl, ◌∙◌}
+use Rattle.std.proofs.Common.{◌≡◌, ◌&&◌, List, ap, sym, subst, ◌∙◌}
 use Rattle.std.specs.Prelude.{is_some, position}
 use Rattle.std.specs.List.{list_any}
 use Rattle.rapid_model.specs.Process.{identifier, endpoint}
 use Rattle.rapid_model.specs.StoredWorld.{StoredWorld, world_of}
 use Rattle.rapid_model.specs.World.{Peer, is_running, has_identifier, has_endpoint}
-use Rattle.rapid_world.specs.declared.event.WorldEvent.TheVariants.{Start}
 use Rattle.rapid_world.specs.Worlds.{IsRunOf}
 use Rattle.rapid_world.proofs.Finding.{starts_new}
-use Rattle.rapid_world.proofs.Giving.{stored_of, joined_run, joined_stored, no_reports}
+use Rattle.rapid_world.proofs.Giving.{joined_run, joined_stored, no_reports}
 use Rattle.rapid_world.proofs.world.World.join.Goals as goal
 
 pub add-requires : goal.add-requires
@@ -19,12 +18,12 @@ add-requires c =
 
 pub invariant_of-self-2 : goal.invariant_of-self-2
 invariant_of-self-2 c =
-    subst (λ (l : List Peer). IsRunOf (stored_of c.self.inside.founding c.push_within.new.elements.items) l c.self.inside.mail.packets)
+    subst (λ (l : List Peer). IsRunOf c.push_start.new.self.world l c.self.inside.mail.packets)
     (sym c.in_ok-add.ensures.added)
-    (joined_run c.args.self.now _ _ _ _ c.args.process c.args.seed (Start c.args.process c.args.seed, false) _ _ _
-    c.self.view_is c.reserve.ensures.items c.push_within.ensures refl c.self.invariant c.requires.open c.requires.unused c.requires.free c.in_ok-peer.ensures)
+    (joined_run c.args.self.now _ _ _ c.args.process c.args.seed _ _ _
+    c.self.view_is c.reserve_start.ensures.world c.push_start.ensures c.self.invariant c.requires.open c.requires.unused c.requires.free c.in_ok-peer.ensures)
 
 pub returns-clause-stored : goal.returns-clause-stored
 returns-clause-stored c =
-    joined_stored c.args.self.now _ _ _ _ c.args.process c.args.seed (Start c.args.process c.args.seed, false) _
-    c.self.view_is c.reserve.ensures.items c.push_within.ensures refl c.requires.open c.requires.unused c.requires.free (no_reports _ c.new.ensures.items)
+    joined_stored c.args.self.now _ _ _ c.args.process c.args.seed _
+    c.self.view_is c.reserve_start.ensures.world c.push_start.ensures c.requires.open c.requires.unused c.requires.free (no_reports _ c.new.ensures.items)

@@ -1,4 +1,4 @@
-use Rattle.std.proofs.Common.{◌+◌, ◌++◌, ◌∷◌, [], sym, subst}
+use Rattle.std.proofs.Common.{sym, subst}
 use Rattle.rapid_model.specs.StoredWorld.{RunsTo}
 use Rattle.rapid_world.proofs.Running.{one_taken, one_passed}
 use Rattle.rapid_world.proofs.world.World.try_step.Goals as goal

@@ -1,0 +1,12 @@
+use Rattle.std.proofs.Common.{take}
+use Rattle.rapid_service.specs.Entering.{EntersSome, views_of}
+use Rattle.rapid_service.specs.HandingOn.{downs_from}
+use Rattle.rapid_service.specs.Stepping.{StepsAll}
+use Rattle.rapid_service.proofs.service.Service.hand_down.Given as goal
+
+abbrev pub invariant-loop-ring : goal.invariant-loop-ring
+invariant-loop-ring g l =
+    record {
+      steps : StepsAll l.fn.self.desk (downs_from l.id 0 (take l.ring l.downs)) l.self.desk;
+      views : EntersSome (views_of l.fn.self.changes.taken l.fn.self.lines.items l.fn.self.present) (views_of l.self.changes.taken l.self.lines.items l.self.present);
+    }

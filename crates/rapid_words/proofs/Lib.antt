@@ -1,0 +1,4 @@
+pub mod Asking
+pub mod Grammars
+pub mod Reading
+pub mod Refusing
