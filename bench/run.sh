@@ -10,7 +10,7 @@ rustc -O --edition 2021 -o "$room/plain" bench/plain.rs
 rustc -O --edition 2021 --crate-type cdylib -C panic=abort \
     -o "$room/allocated.so" bench/plain/allocated.rs
 
-# The program of a crate, which is proved and built first where it is not there.
+# The program of a crate, which is proved and built first if it is not there.
 program() {
     local built=crates/$1/out/$1
     if [ ! -x "$built" ]; then

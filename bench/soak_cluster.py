@@ -107,7 +107,7 @@ class Fake:
 
 
 def prepare(limit, autogroup):
-    """In a process that becomes a node: no signal is ignored, as `nohup` and `&` have it, and so many descriptors."""
+    """In a process that becomes a node: no signal is ignored, as by `nohup` and `&`, and descriptors are limited."""
     for number in (signal.SIGHUP, signal.SIGINT, signal.SIGTERM):
         signal.signal(number, signal.SIG_DFL)
     if autogroup is not None:

@@ -8,7 +8,8 @@
 A proof shows that code meets its clauses, and not that a clause says what one takes it to say. So a
 definition has to be read if a clause of a public call names it, or if such a definition does. The
 public calls are those of docs/SURFACE.md. What is found errs on the side of too much: a name that
-a clause binds itself counts too if it is also a definition's.
+a clause binds itself counts too if it is also a definition's. Promises that docs/PROMISES.md carries by
+private functions rest on what the clauses of their files name: these files are listed here.
 """
 import re
 import sys
@@ -22,8 +23,21 @@ import surface  # noqa: E402
 PAGE = TOP / "docs/BELIEVED.md"
 MODEL = "rapid_model"
 MARK = "-- Clauses of public calls cite this file."
-# what an impl says of itself that its callers read: its value, and how it compares, copies and converts
-SAID_BY_IMPLS = {"Value", "eq", "cmp", "partial_cmp", "is_clone", "from_gives"}
+# the files whose private functions carry promises (*within* in docs/PROMISES.md)
+WITHIN = [
+    "rapid_clerks/src/verdict.rt",
+    "rapid_cluster/src/cluster.rt",
+    "rapid_desk/src/board.rt",
+    "rapid_run/src/until.rt",
+    *(f"rapid_service/src/{name}.rt" for name in ("asking", "bell", "console", "dealer", "ending", "journal")),
+    *(f"rapid_service/src/{name}.rt" for name in ("note", "service", "ticker")),
+    "rapid_transport/src/connections.rt",
+    "rapid_transport/src/readers.rt",
+    "leader_by_height/src/fence.rt",
+    "leader_by_height/src/main.rt",
+]
+# what an impl says of itself that its callers read: its value, its text, and how it compares, copies and converts
+SAID_BY_IMPLS = {"Value", "eq", "cmp", "partial_cmp", "is_clone", "from_gives", "output"}
 # and what traits of this repository have it say
 SAID_BY_IMPLS |= {"observers", "prints", "met", "next", "faults"}
 TOKEN = re.compile(r"[^\s(){}\[\],;]+")
@@ -34,9 +48,16 @@ Written by `docs/believed.py` from the sources; `docs/believed.py --check` says 
 
 This page is for those who want to know what the promises rest on. A proof shows that the code meets its clauses. \
 That the clauses say the right thing is for a reader to see. Here are all definitions of this repository that a clause \
-of a public call reaches. The clause names them, or a definition does that it names. What stands in `specs/` and not \
-here is glue. It ties code to code, and a mistake in it makes a proof fail and no promise false. The definitions of the \
-toolchain's own libraries (lists, numbers, sets, SHA-256) come on top.
+of a public call reaches. The clause names them, or a definition does that it names. \
+[The last part](#beyond-public-calls) has those that only clauses of private functions reach, by which \
+[PROMISES.md](PROMISES.md) carries a promise (*within*). What stands in `specs/` and not here is glue. It ties code to \
+code, and a mistake in it makes a proof fail and no such promise false. The definitions of the toolchain's own \
+libraries (lists, numbers, sets, SHA-256) come on top.
+
+Definitions are not all that one has to trust. There is also what [README.md](../README.md#what-is-not-proved) names as \
+what it rests on: the toolchain and its logic, the C library, and the stated contracts of the ported crates. And there \
+are premises. Those of the agreement stand with [the headline](PROMISES.md#the-headline). For nodes in several \
+processes there is one more: sockets deliver only what was sent.
 
 How a type's value is read off its fields (`ghost view`) is left out too. A caller knows a value by what calls answer \
 of it.
@@ -147,15 +168,15 @@ def blocks(lines):
             start = at + 1
 
 
-def clauses(lines):
-    """The clauses of the public functions in these lines, and of those that a trait asks for."""
+def clauses(lines, of_all=False):
+    """The clauses of the public functions in these lines, or of all, and of those that a trait asks for."""
     within, public = False, False
     text = []
     head = lines_head(lines)
     is_trait = head.startswith("pub trait ") or " for " in head
     for line in lines:
         if re.match(r"(    )?(pub(\([^)]*\))? )?(const )?fn ", line):
-            public = bool(re.match(r"(    )?pub (const )?fn ", line)) or is_trait
+            public = of_all or bool(re.match(r"(    )?pub (const )?fn ", line)) or is_trait
         starts = re.match(r"\s+(requires|ensures)\*? ", line)
         if starts:
             within = public
@@ -210,6 +231,19 @@ def cited(crate):
     return found
 
 
+def named_in(file):
+    """The definitions that clauses in a file name, and what its types always hold: modules and names."""
+    lines = file.read_text().split("\n")
+    names, modules = imports([line.strip()[6:] for line in lines if line.strip().startswith("ghost use ")])
+    always = [line.partition("{")[2] for line in lines if re.match(r"    ghost (\w+:|invariant =) \{", line)]
+    text = " ".join([clauses(block, of_all=True) for block in blocks(lines)] + always)
+    for parts in (token.split(".") for token in TOKEN.findall(text)):
+        if parts[0] in names:
+            yield names[parts[0]]
+        elif parts[0] in modules and len(parts) > 1:
+            yield modules[parts[0]], parts[1]
+
+
 def crates():
     """The libraries, lowest first."""
     lines = (TOP / "crates.txt").read_text().split("\n")
@@ -217,10 +251,10 @@ def crates():
     return [name for name in names if not name.endswith("_tests") and name not in surface.NO_LIBRARIES]
 
 
-def reached(specs, names):
-    """All definitions that clauses of public calls of these crates reach, by module."""
+def reached(specs, named):
+    """All definitions that these name, and they themselves, by module."""
     found = {}
-    waiting = [definition for name in names for definition in cited(name)]
+    waiting = list(named)
     while waiting:
         module, name = waiting.pop()
         if module not in specs or name in found.get(module, set()):
@@ -239,6 +273,18 @@ def reached(specs, names):
 def written(names):
     """How names are listed."""
     return ", ".join(f"`{name}`" for name in names)
+
+
+def beyond(specs, found):
+    """The last part of the page: what only clauses of private functions reach."""
+    more = reached(specs, [named for file in WITHIN for named in named_in(TOP / "crates" / file)])
+    said = "Clauses of public calls do not reach these. Those of private functions do, by which a promise is carried."
+    rows = []
+    for module in (m for m in specs if m in more):
+        names = [n for n in specs[module].definitions if n in more[module] and n not in found.get(module, set())]
+        if names:
+            rows.append(f"- **{specs[module].file.stem}** of `{module.partition('.')[0]}`: {written(names)}")
+    return ["", "## Beyond public calls", "", said, "", *rows]
 
 
 def page(specs, found, names):
@@ -262,6 +308,7 @@ def page(specs, found, names):
             left.append(f"- **{specs[module].file.stem}**: {written(rest)}")
     said = f"No clause of a public call reaches these definitions of `{MODEL}`:"
     out.extend(["", f"## Left out of {MODEL}", "", said, "", *left])
+    out.extend(beyond(specs, found))
     table = ["| crate | files | lines |", "|---|---|---|"]
     table += [f"| [{crate}](#{crate}) | {files} | {lines} |" for crate, files, lines in totals]
     table.append(f"| all | {sum(t[1] for t in totals)} | {sum(t[2] for t in totals)} |")
@@ -278,11 +325,11 @@ def wanted():
     """All files that are written here, with the text that each has to have."""
     names = crates()
     specs = {}
-    for crate in names:
+    for crate in [*names, "leader_by_height"]:
         for file in sorted((TOP / "crates" / crate / "specs").glob("*.antt")):
             if file.stem != "Lib":
                 specs[f"{crate}.specs.{file.stem}"] = Specs(file)
-    found = reached(specs, names)
+    found = reached(specs, [named for name in names for named in cited(name)])
     texts = {PAGE: page(specs, found, names)}
     for module, it in specs.items():
         if not module.startswith(f"{MODEL}."):

@@ -5,7 +5,7 @@
   docs/manual.py --write   writes docs/manual/rapidd.1 and docs/manual/rapidd.bash
   docs/manual.py --check   ends with status 1 if one of them is not what the sources say
 
-The words are those of crates/rapid_commands/src: commands, their options, what they say of themselves, and the texts
+The words are those of crates/rapid_words/src: commands, their options, what they say of themselves, and the texts
 behind their helps.
 """
 import ast
@@ -14,7 +14,7 @@ import sys
 from pathlib import Path
 
 TOP = Path(__file__).resolve().parent.parent
-SOURCES = TOP / "crates/rapid_commands/src"
+SOURCES = TOP / "crates/rapid_words/src"
 FOLDER = TOP / "docs/manual"
 COMMAND = re.compile(r'Command::new\(alloc, ("\w+"|NODE)\)(.*?)(?=\n    Command::new|;\n|\Z)', re.DOTALL)
 OPTION = re.compile(r"(?<!fn )\b(text|number)\(\s*alloc,\s*(.*?),?\s*\)(?:[;)]|$)", re.DOTALL)

@@ -7,7 +7,7 @@
 
 A function stands on a page if its crate's lib.rt names it or its type in a `pub use`. What it does
 is how its docstring begins: whole sentences of the first paragraph, up to some 40 words, and of a
-law all of it. What its caller shows are its clauses `requires`, and the numbers of refusals are
+law all of it. What its caller has to prove are its clauses `requires`; the numbers of refusals are
 those of the method `code`.
 """
 import re
@@ -37,11 +37,11 @@ for those who look for a call: all public functions and refusals, a page a crate
 
 - Behind each function stands how its docstring begins: its first sentences, up to some 40 words. What a call ensures \
 stands in its contract: [PROMISES.md](PROMISES.md) retells it.
-- *shows* is what its caller has to show, if anything (its clauses `requires`).
+- *requires* is what its caller has to prove, if anything.
 - *errors* is what the docstring says of them.
 - A list of refusals (or replies) has for each the number that `code()` answers, and when it comes. Out of memory is \
-99, except in `rapid_node` and `rapid_desk` (2) and `rapid_world` (7). That it is answered only if a growth was really \
-refused is shown by tests.
+99, except in `rapid_node` and `rapid_desk` (2) and `rapid_world` (7). That it is answered only if an allocation was \
+really refused is shown by tests.
 - A function named `tell` does nothing: what it ensures is for proofs.
 
 ## The crates
@@ -52,8 +52,8 @@ refused is shown by tests.
 class Item:
     """A public item: its docstring, its head line, and its contract's conditions."""
 
-    def __init__(self, doc, head, shows):
-        self.doc, self.head, self.shows = doc, head, shows
+    def __init__(self, doc, head, required):
+        self.doc, self.head, self.required = doc, head, required
 
     def sentences(self):
         """The sentences of the docstring before `# Errors`, by paragraphs."""
@@ -96,19 +96,19 @@ class Type:
 
 def signature(lines, at):
     """The head of the function that begins at a line, on one line, and its conditions."""
-    head, shows = [], []
+    head, required = [], []
     for line in lines[at:]:
         text = line.strip()
         if text.startswith("requires"):
-            shows.append(re.sub(r"^requires (\w+ )?\{ (.*) \}$", r"\2", text))
+            required.append(re.sub(r"^requires (\w+ )?\{ (.*) \}$", r"\2", text))
         elif text.startswith("ensures") or text == "{" or text == "{}":
             break
-        elif not shows:
+        elif not required:
             head.append(text.removesuffix("{").removesuffix(";").strip())
             if text.endswith((" {", ";", "{}")):
                 break
     joined = " ".join(head).replace("( ", "(").replace(",)", ")").replace(", )", ")")
-    return re.sub(r"^pub |const fn ", "", joined).removesuffix(" where").removesuffix(","), shows
+    return re.sub(r"^pub |const fn ", "", joined).removesuffix(" where").removesuffix(","), required
 
 
 def docs_above(lines, at):
@@ -150,8 +150,8 @@ def read_body(lines, at, found):
             found.codes[code[1]] = int(code[2])
         is_trait = found.kind == "trait" and "trait" in lines[at]
         if re.match(r"    pub (const )?fn " if not is_trait else r"    fn ", line):
-            head, shows = signature(lines, place)
-            found.items.append(Item(docs_above(lines, place), head, shows))
+            head, required = signature(lines, place)
+            found.items.append(Item(docs_above(lines, place), head, required))
         constant = re.match(r"    pub const (.*);$", line)
         if constant:
             found.items.append(Item(docs_above(lines, place), "const " + constant[1], []))
@@ -198,11 +198,11 @@ def read_crate(name):
 
 
 def print_item(item, out, owner=""):
-    """One line for an item, and what its caller shows and is refused."""
+    """One line for an item, and what it requires of its caller and refuses."""
     name = re.sub(r"^(fn|const) ", "", item.head)
     out.append(f"- `{owner}{name}`: {item.lead()}" if item.doc else f"- `{owner}{name}`")
-    if item.shows:
-        out.append("  - *shows*: " + "; ".join(f"`{s}`" for s in item.shows))
+    if item.required:
+        out.append("  - *requires*: " + "; ".join(f"`{s}`" for s in item.required))
     if item.errors():
         out.append("  - *errors*: " + item.errors())
 

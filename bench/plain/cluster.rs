@@ -75,7 +75,7 @@ fn report(world: &World, nodes: u16) -> Vec<u8> {
     out
 }
 
-/// Lets so many threads take so many turns each, and prints what comes of it.
+/// Lets this many threads take this many turns each, and prints what comes of it.
 pub fn run(nodes: u16, workers: usize, turns: usize) {
     let mut world = World::new(Params { k: 10, h: 9, l: 3 }, vec![process(1)]);
     for n in 2..=nodes {

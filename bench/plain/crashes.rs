@@ -42,7 +42,7 @@ fn script(world: &World, crashed: &[ProcessId]) -> Vec<WorldEvent> {
     events
 }
 
-/// These events happen, and then packets are delivered in order until so many nodes have installed.
+/// These events happen, and then packets are delivered in order until this many nodes have installed.
 fn run(world: &mut World, events: &[WorldEvent], nodes: usize) {
     let mut left = nodes;
     for event in events {

@@ -75,7 +75,7 @@ impl Detector {
         reports.is_some_and(|reports| reports.direct.count_ones() >= low)
     }
 
-    /// Adds the reports that are implied: where the subject and its observer both have at least L.
+    /// Adds the reports that are implied: if the subject and its observer both have at least L.
     /// Implied reports make nobody else have L, since they are only on those who have.
     fn close(&mut self, view: &View) {
         for subject in self.low.clone() {

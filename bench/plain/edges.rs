@@ -20,7 +20,7 @@ fn next_word(word: u64, ok: bool) -> u64 {
     window | count << 10 | if down { DOWN } else { 0 }
 }
 
-/// How many nanoseconds it takes so many threads, by number, to do this so often each.
+/// How many nanoseconds it takes this many threads to do this, each by its number.
 fn time(threads: usize, work: &(impl Fn(usize) + Sync)) -> u128 {
     let start = Instant::now();
     std::thread::scope(|scope| {
@@ -31,7 +31,7 @@ fn time(threads: usize, work: &(impl Fn(usize) + Sync)) -> u128 {
     start.elapsed().as_nanos()
 }
 
-/// Prints the nanoseconds of a hundred, where the work of a thread is so many.
+/// Prints the nanoseconds of a hundred of the calls that are the work of a thread.
 fn measure(name: &str, work: impl Fn(usize) + Sync) {
     for threads in [1, MOST_THREADS] {
         let least = (0..RUNS).map(|_| time(threads, &work)).min().unwrap();

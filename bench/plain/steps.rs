@@ -9,14 +9,14 @@ use std::time::Instant;
 
 const K: u8 = 16;
 
-/// What happens to a node; a tick where there is no message.
+/// What happens to a node; a tick if there is no message.
 type Happening = Option<Message>;
 
 fn event(happening: &Happening) -> Event<'_> {
     happening.as_ref().map_or(Event::Tick, Event::Receive)
 }
 
-/// Events that so many copies of a node take in a run, each from the same start.
+/// Events that this many copies of a node take in a run, each from the same start.
 struct Steps {
     name: String,
     start: Node,
@@ -82,7 +82,7 @@ fn print_copy_held(name: &str, node: &Node) {
     drop(nodes);
 }
 
-/// The founder with the number 1 among so many on so many rings, and what it is a member of.
+/// The founder with the number 1 among this many on this many rings, and what it is a member of.
 fn founder_on(rings: u8, members: u16) -> (Node, Arc<View>) {
     let members = (1..=members).map(process).collect();
     let config = Configuration::seed(Params { k: rings, h: 9, l: 3 }, members);

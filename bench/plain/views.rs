@@ -10,7 +10,7 @@ const VIEWS: u32 = 10_000;
 const RUNS: u32 = 20;
 pub const MOST_THREADS: usize = 4;
 
-/// What is read of a configuration where its members are not.
+/// What is read of a configuration without its members.
 #[derive(Clone, Copy, PartialEq, Eq)]
 struct Stamp {
     height: u64,
@@ -18,7 +18,7 @@ struct Stamp {
     members: usize,
 }
 
-/// How many nanoseconds it takes so many threads to read so often each.
+/// How many nanoseconds it takes this many threads to read this often, each.
 fn time(threads: usize, times: u32, read: &(impl Fn() + Sync)) -> u128 {
     let start = Instant::now();
     std::thread::scope(|scope| {

@@ -130,7 +130,7 @@ impl Coordinator {
         forced.or_else(least).map(|(cut, _)| cut).or(own).cloned()
     }
 
-    /// Takes a promise. The cut to ask for, where it completes a classic quorum.
+    /// Takes a promise. The cut to ask for, if it completes a classic quorum.
     pub fn hear(
         &mut self,
         members: usize,
