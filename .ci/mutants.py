@@ -62,29 +62,48 @@ def try_twins(crate, made):
 
 
 def try_alone(crate, name, pairs):
-    """Why a mutant is not refused; nothing if it is."""
+    """Why a mutant is not refused; nothing if it is. The functions that it changes are tried first, then
+    their modules, then the whole crate."""
     for part in tree.SOURCES:
         shutil.rmtree(crate / part, ignore_errors=True)
         tree.copied(tree.TOP / "crates" / name / part, crate / part)
     if not pairs:
         return "it has no pair of texts"
-    for file, old, new in pairs:
+    for file, old, _ in pairs:
         text = (crate / file).read_text() if (crate / file).is_file() else ""
         if text.count(old) != 1:
             return f"its old text stands in {file} {text.count(old)} times, and not once"
+    parts = [twins.paths_of(crate, pairs), sorted({"::".join(twins.module_of(it)) for it, _, _ in pairs} - {""}), []]
+    for file, old, new in pairs:
+        text = (crate / file).read_text()
         (crate / file).unlink()
         (crate / file).write_text(text.replace(old, new))
-    ran = tree.rt(["check", "--jobs", "1"], crate)
-    if ran.returncode == 1 and tree.last_line(ran.stdout).startswith("logic=not-proved"):
-        return ""
-    return "the crate is still proved" if not ran.returncode else f"the prover cannot read it: {ran.stdout[-600:]}"
+    for part in [it for it in parts if it or it is parts[-1]]:
+        ran = tree.rt(["check", "--jobs", "1", *(word for it in part for word in ("--only", it))], crate)
+        last = tree.last_line(ran.stdout)
+        if ran.returncode == 1 and (ONLY.fullmatch(last) or last.startswith("logic=not-proved")):
+            return ""
+        if ran.returncode not in (0, 2):
+            return f"the prover cannot read it: {ran.stdout[-600:]}"
+    return "the crate is still proved"
+
+
+def tree_with_proofs(room, name):
+    """A tree of a crate over its libraries, with what a proof of it leaves: that of the last one, or of one now."""
+    crate = prove.tree_over_libraries(room, name)
+    shutil.rmtree(crate / "out/incremental", ignore_errors=True)
+    kept = prove.out_of(name) / "incremental"
+    if not kept.is_dir():
+        tree.rt(["check", "--jobs", "1"], crate)
+        tree.copied(crate / "out/incremental", kept)
+        shutil.rmtree(crate / "out/incremental", ignore_errors=True)
+    tree.copied(kept, crate / "out/incremental", shutil.copy)
+    return crate
 
 
 def try_mutants(room, name):
     """Tries a crate's mutants; how many are refused, and what is wrong with each other."""
-    crate = prove.tree_over_libraries(room / f"{name}-mutants", name)
-    shutil.rmtree(crate / "out/incremental", ignore_errors=True)
-    tree.copied(prove.out_of(name) / "incremental", crate / "out/incremental", shutil.copy)
+    crate = tree_with_proofs(room / f"{name}-mutants", name)
     given = {it.stem: twins.pairs_of(it) for it in mutants_of(name)}
     made = {stem: (twin, pairs) for stem, pairs in given.items() if (twin := twins.twin_of(crate, stem, pairs))}
     refused = try_twins(crate, made) if made else set()
@@ -110,8 +129,7 @@ def run(words):
     prove.ROOM.mkdir(exist_ok=True)
     with tempfile.TemporaryDirectory(dir=prove.ROOM) as room:
         needed = {low for name in chosen for low in [*tree.below(name), name]}
-        names = sorted((it for it in tree.LINES if it in needed), key=lambda it: len(tree.below(it)))
-        tasks = prove.tasks_of(names, Path(room))
+        tasks = prove.tasks_over_kept([it for it in tree.LINES if it in needed], Path(room))
         for name in chosen:
             waits = [it for it in [*tree.below(name), name] if it in tasks]
 

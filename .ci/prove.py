@@ -1,7 +1,9 @@
-"""Proves crates over what earlier proofs left in their folders out/, side by side.
+"""Proves crates side by side: over what earlier proofs left in their folders out/, or from nothing.
 
 Each is proved in a tree of its own, since rt locks all crates below the one that it works on: the
 sources and the libraries below it are links to the same files."""
+import functools
+import hashlib
 import json
 import os
 import shutil
@@ -38,6 +40,39 @@ def tree_over_libraries(room, name):
     return room / "crates" / name
 
 
+@functools.lru_cache(maxsize=None)
+def kit():
+    return (Path(tree.rt(["doc"], tree.TOP).stdout).parent / "WHAT").read_bytes()
+
+
+@functools.lru_cache(maxsize=None)
+def stamp(name):
+    """The word by which rt check knows that a library was built of a crate's present sources: see README.md."""
+    uses = tree.LINES[name].partition("#")[0].partition(":")[2].split()
+    said = {"name": name, "deps": [f"//crates/{it}" if it in tree.LINES else f"@rattle//{it}" for it in uses]}
+    found = hashlib.sha256(repr((said, False)).encode())
+    found.update(kit())
+    for part in tree.SOURCES:
+        for at, folders, names in os.walk(tree.TOP / "crates" / name / part):
+            folders.sort()
+            for it in (Path(at, it) for it in sorted(names)):
+                found.update(repr((f"/{it.relative_to(tree.TOP / 'crates' / name)}", it.read_bytes())).encode())
+    found.update(repr([stamp(it) for it in tree.NEEDS[name]]).encode())
+    return found.hexdigest()
+
+
+def take_libraries(made, names):
+    """Takes the libraries that rt ci built in a copy of the tree, for the checks of mutants."""
+    for name in names:
+        built, out = made / "crates" / name / "out/rlib", out_of(name)
+        if built.is_dir() and not is_proved(name):
+            (out / "proved").unlink(missing_ok=True)
+            shutil.rmtree(out / "rlib", ignore_errors=True)
+            tree.copied(built, out / "rlib", shutil.copy)
+            (out / "rlib/stamp").write_text(stamp(name))
+            (out / "proved").write_text(tree.sum_of(name))
+
+
 def take_over(made, out):
     """Puts what a proof made, also one that failed, in place of what the last one left."""
     out.mkdir(exist_ok=True)
@@ -64,20 +99,38 @@ def prove(room, name, jobs):
     return ran.returncode == 0
 
 
-def tasks_of(names, room):
-    """A task for each of these crates that is not proved yet, after those below it."""
-    todo = [it for it in names if not is_proved(it)]
+def prove_anew(room, name, jobs):
+    """Has rt ci prove a library in a tree of no more crates than it needs: what it proved is kept for the run over all."""
+    tree.write_tree(room / name, [*tree.below(name), name], copy=shutil.copy)
+    ran = tree.rt(["ci"], room / name, env={**os.environ, **({"RT_JOBS": "1"} if jobs == 1 else {})})
+    shutil.rmtree(room / name)
+    if ran.returncode:
+        print(f"== {name}\n{ran.stdout}", flush=True)
+    return ran.returncode == 0
+
+
+def tasks_of(names, room, prover):
+    """A task for each of these crates, after those below it."""
     failed = set()
 
     def task(name):
         def call(jobs):
-            well = not failed & {*tree.below(name)} and prove(room, name, jobs)
+            well = not failed & {*tree.below(name)} and prover(room, name, jobs)
             failed.update([] if well else [name])
             return well
 
-        return [it for it in tree.below(name) if it in todo], call
+        return [it for it in tree.below(name) if it in names], call
 
-    return {it: task(it) for it in todo}
+    return {it: task(it) for it in sorted(names, key=lambda it: len(tree.below(it)))}
+
+
+def tasks_from_nothing(names, room):
+    libraries = [it for it in names if (tree.TOP / "crates" / it / "src/lib.rt").is_file() and it not in tree.NATIVE]
+    return tasks_of(libraries, room, prove_anew)
+
+
+def tasks_over_kept(names, room):
+    return tasks_of([it for it in names if not is_proved(it)], room, prove)
 
 
 def run(tasks):
@@ -99,7 +152,7 @@ def prove_all(names):
     names = [it for it in tree.LINES if it in {low for name in names for low in [*tree.below(name), name]}]
     ROOM.mkdir(exist_ok=True)
     with tempfile.TemporaryDirectory(dir=ROOM) as room:
-        tasks = tasks_of(sorted(names, key=lambda it: len(tree.below(it))), Path(room))
+        tasks = tasks_over_kept(names, Path(room))
         tree.note(f"{len(tasks)} of {len(names)} crates are to be proved")
         given = run(tasks)
     failed = [it for it, well in given.items() if not well]

@@ -62,13 +62,33 @@ def type_of(block):
     return False if found[1] == "trait" or " for " in words or not named else named[0]
 
 
+def module_of(file):
+    return [it for it in file.removeprefix("src/").removesuffix(".rt").split("/") if it not in ("lib", "main")]
+
+
+def paths_of(crate, pairs):
+    """The functions that a mutant changes, by the paths that rt check --only takes; none if it changes
+    something else. A method of a trait's impl stands below the names of type and trait, put together."""
+    found = []
+    for file, old, _ in pairs:
+        text = (crate / file).read_text()
+        place = text[: text.find(old)].count("\n")
+        functions = [it for it in functions_of(text.split("\n")) if it.first <= place <= it.last]
+        if not functions:
+            return []
+        words = re.sub(r"<[^<>]*(?:<[^<>]*>)?[^<>]*>", "", functions[0].block.partition("{")[0])
+        named = re.findall(r"\b[A-Z]\w*", words)
+        owner = "".join(reversed(named[:2])) if " for " in words else "".join(named[:1])
+        found.append("::".join([*module_of(file), *[owner] * bool(owner), functions[0].name]))
+    return sorted({*found})
+
+
 def folder_of(crate, file, function, owner):
     """The folder of a function's proofs, there or not; none if that is not sure."""
-    module = [it for it in file.removeprefix("src/").removesuffix(".rt").split("/") if it not in ("lib", "main")]
     found = [it for it in (crate / "proofs").rglob(function.name) if owner and it.parent.name == owner]
     if len(found) > 1:
         return None
-    own = crate.joinpath("proofs", *module, *[owner] * bool(owner), function.name)
+    own = crate.joinpath("proofs", *module_of(file), *[owner] * bool(owner), function.name)
     return found[0] if found else own
 
 
