@@ -3,7 +3,7 @@
 ghost use Rattle.std.specs.Prelude.{◌≡◌, ℕ, IfOk, OnOk, OnErr};
 ghost use Rattle.std.specs.FinSet as set;
 ghost use Rattle.rapid_cut.specs.Growing.{PutsMask, TakesOut};
-ghost use Rattle.rapid_cut.specs.Masks.{has_ring};
+ghost use Rattle.rapid_alerts.specs.RingMasks.{has_ring};
 
 use crate::few::{copy_of, map_of, place_in};
 use crate::mask::Masks;
