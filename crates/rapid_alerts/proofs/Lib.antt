@@ -3,3 +3,4 @@ pub mod Indexes
 pub mod Listing
 pub mod Marks
 pub mod Raisings
+pub mod RingMasks

@@ -4,3 +4,4 @@ pub mod Listing
 pub mod Marks
 pub mod Outboxes
 pub mod Refusals
+pub mod RingMasks

@@ -1,7 +1,5 @@
 -- What is kept of the alerts on a subject, and the index that it stands for.
-use Rattle.std.specs.Prelude.{◌≡◌, ℕ, Bool, false, ◌&&◌, ◌==◌, List, [], ◌∷◌, ◌++◌, map, filter, nat_lt, Option, Some, None}
-use Rattle.std.specs.List.{range_with_len}
-use Rattle.std.specs.Int.{bit_at}
+use Rattle.std.specs.Prelude.{◌≡◌, ℕ, Bool, false, List, filter, Option, Some, None}
 use Rattle.std.specs.Option.{unwrap_or}
 use Rattle.std.specs.FinSet as set
 use Rattle.std.specs.Map.{keys_of, lookup}
@@ -9,13 +7,9 @@ use Rattle.std.specs.BTreeMap.{is_at}
 use Rattle.rapid_model.specs.Process.{Process, ProcessSet, process_cmp}
 use Rattle.rapid_model.specs.Reports.{Report, Reports}
 use Rattle.rapid_model.specs.Outbox as outbox
-use Rattle.rapid_model.specs.Limits.{most_rings}
 use Rattle.rapid_alerts.specs.declared.mark.Marks.{Marks}
+use Rattle.rapid_alerts.specs.RingMasks.{has_ring, with_rings}
 use Rattle.rapid_alerts.specs.Outboxes.{Index}
-
--- The mask has the bit of the ring.
-abbrev pub has_ring : ℕ → ℕ → Bool
-has_ring mask k = nat_lt k most_rings && bit_at mask k == 1
 
 -- What is kept of a subject without alerts.
 abbrev pub no_marks : Marks
@@ -32,11 +26,6 @@ is_reported es x = has_ring (marks_of es x.0).rings x.1
 -- An alert asks to let the process in.
 abbrev pub is_joiner : List (Process × Marks) → Process → Bool
 is_joiner es s = (marks_of es s).joins
-
--- Each of these processes with each of sixteen rings.
-abbrev pub with_rings : List Process → List Report
-with_rings [] = []
-with_rings (s ∷ ss) = map (λ k. (s, k)) (range_with_len 0 most_rings) ++ with_rings ss
 
 -- What the alerts report.
 unfoldable pub reports_in : List (Process × Marks) → Reports

@@ -9,7 +9,8 @@ ghost use Rattle.rapid_alerts.specs.Alerts.{alert_of, kind_of};
 ghost use Rattle.rapid_alerts.specs.Outboxes.{empty_index, indexed, has_room};
 ghost use Rattle.rapid_alerts.specs.Marks.{IsOn};
 
-use crate::mark::{Marks, has_bit};
+use crate::mark::Marks;
+use crate::ring_mask::has_bit;
 use crate::{Alert, Kind};
 use rapid_config::Cut;
 use rapid_endpoint::Process;

@@ -10,9 +10,11 @@ mod index;
 mod list;
 mod mark;
 mod outbox;
+mod ring_mask;
 
 pub use alert::{Alert, Kind};
 pub use batch::Batch;
 pub use errors::{BatchError, RaiseError};
 pub use list::AlertList;
 pub use outbox::{Outbox, Raising};
+pub use ring_mask::{bit, has_bit};

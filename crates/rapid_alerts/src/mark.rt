@@ -4,9 +4,10 @@ ghost use Rattle.std.specs.Prelude.{◌≡◌, ◌<◌, ℕ, not, ◌||◌, ◌=
 ghost use Rattle.rapid_model.specs.Alert.{is_remove};
 ghost use Rattle.rapid_model.specs.Limits.{most_rings};
 ghost use Rattle.rapid_alerts.specs.Alerts.{kind_of};
-ghost use Rattle.rapid_alerts.specs.Marks.{has_ring};
+ghost use Rattle.rapid_alerts.specs.RingMasks.{has_ring};
 
 use crate::Kind;
+use crate::ring_mask::bit;
 
 /// What is kept of the alerts on one subject.
 #[derive(Clone, Copy, Debug)]
@@ -39,21 +40,6 @@ impl Marks {
             joins: self.joins || lets_in(kind),
         }
     }
-}
-
-/// Whether the mask has the bit of the ring.
-pub(crate) fn has_bit(mask: u16, ring: u8) -> bool
-    ensures { result ≡ has_ring mask ring }
-{
-    ring < 16 && (mask >> ring) & 1 == 1
-}
-
-/// The mask of one ring.
-fn bit(ring: u8) -> u16
-    requires { ring < most_rings }
-    ensures { (k : ℕ) → has_ring result k ≡ k == ring }
-{
-    1 << ring
 }
 
 /// The mask with the bit of the ring.

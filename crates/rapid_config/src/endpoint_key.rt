@@ -1,4 +1,4 @@
-// Endpoints as keys of a set.
+// Endpoints as keys of a set or a map.
 
 ghost use Rattle.std.specs.Prelude.{◌≡◌, [], ◌∷◌};
 ghost use Rattle.std.specs.Cmp.{partial_equiv_from_equiv};
@@ -10,23 +10,26 @@ use rapid_endpoint::Endpoint;
 use std::hash::{Hash, Hasher};
 use std::marker::Model;
 
-/// An endpoint, hashed as its bytes.
-#[derive(Debug, Drop)]
-pub(crate) struct EndpointKey {
+/// An endpoint as the key of a set or a map, hashed as its bytes. Keys are equal if their endpoints
+/// are.
+#[derive(Clone, Copy, Debug)]
+pub struct EndpointKey {
     endpoint: Endpoint,
 }
 
 impl Model for EndpointKey {
-    ghost use Rattle.std.specs.Prelude.{ℕ, List};
+    ghost use Rattle.rapid_model.specs.Bytes.{Endpoint as ModelEndpoint};
 
-    ghost Value = { List ℕ };
+    ghost Value = { ModelEndpoint };
 
     ghost view = { λ k. k.endpoint };
+
+    ghost inverse = { λ endpoint. record { endpoint = endpoint } };
 }
 
 impl EndpointKey {
     /// The key of the endpoint.
-    pub(crate) fn new(endpoint: Endpoint) -> EndpointKey
+    pub fn new(endpoint: Endpoint) -> EndpointKey
         ensures { result ≡ endpoint }
     {
         EndpointKey { endpoint }
@@ -48,7 +51,7 @@ impl Eq for EndpointKey {
 }
 
 impl Hash for EndpointKey {
-    ghost hash_input = { λ e. e ∷ [] };
+    ghost hash_input = { λ endpoint. endpoint ∷ [] };
 
     ghost respects_eq = { same_input };
 

@@ -18,6 +18,7 @@ mod told;
 pub use config_id::ConfigId;
 pub use configuration::Configuration;
 pub use cut::Cut;
+pub use endpoint_key::EndpointKey;
 pub use error::ConfigError;
 pub use params::Params;
 pub use stamp::Stamp;

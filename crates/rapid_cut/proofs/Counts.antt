@@ -8,7 +8,7 @@ use Rattle.std.proofs.Math.Pow.{pow_mono}
 use Rattle.std.proofs.lemmas.Nat.{and_mask, ones_cat, ones_le_self, mod-pow-add, pow-add}
 use Rattle.std.proofs.lemmas.List.Sums.{sum_by-cons}
 use Rattle.std.proofs.lemmas.Nat.Bits.{bit_at_above}
-use Rattle.rapid_cut.specs.Masks.{has_ring}
+use Rattle.rapid_alerts.specs.RingMasks.{has_ring}
 use Rattle.rapid_cut.proofs.Masks.{count_same}
 
 none_set : count_ones 0 ≡ 0

@@ -13,8 +13,9 @@ use Rattle.rapid_cut.specs.declared.mask.Masks.{Masks}
 use Rattle.rapid_cut.specs.declared.growing.Added.{Added}
 use Rattle.rapid_cut.specs.Known.{Known}
 use Rattle.rapid_cut.specs.Growing.{is_for, PutsMask, AddsRings, TakesOut, is_added, without_added, without_all, all_added, HaveGrown}
-use Rattle.rapid_cut.specs.Masks.{has_ring}
-use Rattle.rapid_cut.proofs.Masks.{count_same, no_ring}
+use Rattle.rapid_alerts.specs.RingMasks.{has_ring}
+use Rattle.rapid_alerts.proofs.RingMasks.{no_ring}
+use Rattle.rapid_cut.proofs.Masks.{count_same}
 use Rattle.rapid_cut.proofs.Closing.{both, and_true, or_left, or_right}
 
 or_false : (b : Bool) → (b || false) ≡ b

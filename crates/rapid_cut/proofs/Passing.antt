@@ -11,9 +11,9 @@ use Rattle.rapid_model.specs.Reports.{Report, Reports, reaches_low, is_implied, 
 use Rattle.rapid_model.proofs.Orders.{reports_total, reports_exact, same_bytes_decides}
 use Rattle.rapid_rings.specs.Observing.{ObservesNobody}
 use Rattle.rapid_cut.specs.Closing.{AddsImplied, IsBetween, IsPassing, HaveCome, is_one_of, active}
-use Rattle.rapid_cut.specs.Masks.{has_ring}
+use Rattle.rapid_alerts.specs.RingMasks.{has_ring}
 use Rattle.rapid_cut.specs.Growing.{is_for, AddsRings}
-use Rattle.rapid_cut.proofs.Masks.{no_ring}
+use Rattle.rapid_alerts.proofs.RingMasks.{no_ring}
 use Rattle.rapid_cut.proofs.Sets.{subject_of}
 use Rattle.rapid_cut.proofs.Closing.{both, and_true, or_split, or_left, or_right, ring_below, on_low}
 use Rattle.rapid_cut.proofs.Joiners.{in_filter}

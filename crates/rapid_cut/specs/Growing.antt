@@ -8,7 +8,7 @@ use Rattle.rapid_model.specs.Reports.{Report, Reports, reaches_low}
 use Rattle.rapid_cut.specs.declared.mask.Masks.{Masks}
 use Rattle.rapid_cut.specs.declared.growing.Added.{Added}
 use Rattle.rapid_cut.specs.declared.growing.GrowingReports.{GrowingReports}
-use Rattle.rapid_cut.specs.Masks.{has_ring}
+use Rattle.rapid_alerts.specs.RingMasks.{has_ring}
 use Rattle.rapid_cut.specs.Known.{Known}
 
 -- The report is on this process, for a ring of the mask.

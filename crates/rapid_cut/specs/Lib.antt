@@ -1,6 +1,5 @@
 pub mod Closing
 pub mod Growing
-pub mod Keys
 pub mod Known
 pub mod Laws
 pub mod Limits

@@ -9,12 +9,13 @@ ghost use Rattle.rapid_model.specs.Limits.{most_rings};
 ghost use Rattle.rapid_rings.specs.Observing.{ObservesNobody};
 ghost use Rattle.rapid_cut.specs.Closing.{AddsImplied, IsBetween, IsPassing, HaveCome, active as active_of};
 ghost use Rattle.rapid_cut.specs.Growing.{before};
-ghost use Rattle.rapid_cut.specs.Masks.{has_ring};
+ghost use Rattle.rapid_alerts.specs.RingMasks.{has_ring};
 
 use crate::ascending::merged;
 use crate::growing::GrowingReports;
-use crate::mask::{Masks, bit, count, has_bit, with};
+use crate::mask::{Masks, count, with};
 use crate::reports::KnownReports;
+use rapid_alerts::{bit, has_bit};
 use rapid_endpoint::Process;
 use rapid_rings::ObserverTable;
 use std::alloc::{AllocError, Global};

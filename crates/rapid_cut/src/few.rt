@@ -5,8 +5,8 @@ ghost use Rattle.rapid_model.specs.Process.{Process as Bytes};
 ghost use Rattle.rapid_cut.specs.Listed.{masks_at, StandsAt};
 
 use crate::mask::Masks;
-use crate::subject_key::SubjectKey;
 use rapid_endpoint::Process;
+use rapid_rings::ProcessKey;
 use std::alloc::{AllocError, Global};
 use std::collections::HashMap;
 
@@ -28,12 +28,12 @@ pub fn place_in(entries: &[(Process, Masks)], subject: &Process) -> Option<usize
 pub fn map_of(
     alloc: Global,
     entries: &[(Process, Masks)],
-) -> Result<HashMap<SubjectKey, Masks>, AllocError>
+) -> Result<HashMap<ProcessKey, Masks>, AllocError>
     ensures { IfOk result (λ map. (q : Bytes) → masks_at map.entries q ≡ masks_at entries.now q) }
 {
     let mut map = HashMap::new(alloc);
     for (subject, masks) in entries {
-        let key = SubjectKey::new(*subject);
+        let key = ProcessKey::new(*subject);
         if !map.contains_key(&key) {
             map.insert(key, *masks)?;
         }

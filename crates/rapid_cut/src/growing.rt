@@ -4,7 +4,7 @@ ghost use Rattle.std.specs.Prelude.{◌≡◌, ℕ, ◌||◌, IfOk, OnOk, OnErr}
 ghost use Rattle.std.specs.FinSet as set;
 ghost use Rattle.rapid_model.specs.Reports.{Report};
 ghost use Rattle.rapid_cut.specs.declared.mask.Masks as masks;
-ghost use Rattle.rapid_cut.specs.Masks.{has_ring};
+ghost use Rattle.rapid_alerts.specs.RingMasks.{has_ring};
 ghost use Rattle.rapid_cut.specs.Growing.{AddsRings, is_for, is_added, all_added, without_all, before};
 
 use crate::mask::Masks;

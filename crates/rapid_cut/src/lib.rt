@@ -12,7 +12,6 @@ mod growing;
 mod in_turn;
 mod mask;
 mod reports;
-mod subject_key;
 mod taken;
 
 pub use detector::Detector;

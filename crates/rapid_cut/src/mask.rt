@@ -1,9 +1,9 @@
 // Masks of rings.
 
-ghost use Rattle.std.specs.Prelude.{◌≡◌, ◌<◌, ℕ, not, ◌&&◌, ◌||◌, ◌==◌, count_by};
+ghost use Rattle.std.specs.Prelude.{◌≡◌, ◌<◌, ℕ, not, ◌&&◌, ◌||◌, count_by};
 ghost use Rattle.std.specs.List.{list_any, range_with_len};
 ghost use Rattle.rapid_model.specs.Limits.{most_rings};
-ghost use Rattle.rapid_cut.specs.Masks.{has_ring};
+ghost use Rattle.rapid_alerts.specs.RingMasks.{has_ring};
 
 /// The rings of the reports on a process.
 #[derive(Clone, Copy, Debug)]
@@ -36,21 +36,6 @@ impl Masks {
             all: without(self.all, rings.all),
         }
     }
-}
-
-/// Whether the mask has the bit of the ring.
-pub fn has_bit(mask: u16, ring: u8) -> bool
-    ensures { result ≡ has_ring mask ring }
-{
-    ring < 16 && (mask >> ring) & 1 == 1
-}
-
-/// The mask of one ring.
-pub fn bit(ring: u8) -> u16
-    requires { ring < most_rings }
-    ensures { (k : ℕ) → has_ring result k ≡ k == ring }
-{
-    1 << ring
 }
 
 /// The rings of both masks.

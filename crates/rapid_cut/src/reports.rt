@@ -3,12 +3,12 @@
 ghost use Rattle.std.specs.Prelude.{◌≡◌, ℕ, IfOk, OnOk, OnErr};
 ghost use Rattle.std.specs.FinSet as set;
 ghost use Rattle.rapid_cut.specs.Growing.{PutsMask, TakesOut};
-ghost use Rattle.rapid_cut.specs.Masks.{has_ring};
+ghost use Rattle.rapid_alerts.specs.RingMasks.{has_ring};
 
 use crate::few::{copy_of, map_of, place_in};
 use crate::mask::Masks;
-use crate::subject_key::SubjectKey;
 use rapid_endpoint::Process;
+use rapid_rings::ProcessKey;
 use std::alloc::{AllocError, Global};
 use std::collections::HashMap;
 use std::marker::Model;
@@ -26,7 +26,7 @@ const NONE: Masks = Masks { direct: 0, all: 0 };
 #[derive(Debug, Drop)]
 pub struct KnownReports {
     few: Vec<(Process, Masks)>,
-    many: HashMap<SubjectKey, Masks>,
+    many: HashMap<ProcessKey, Masks>,
     alloc: Global,
 }
 
@@ -66,7 +66,7 @@ impl KnownReports {
             return NONE;
         }
         self.many
-            .get(&SubjectKey::new(*subject))
+            .get(&ProcessKey::new(*subject))
             .copied()
             .unwrap_or(NONE)
     }
@@ -82,7 +82,7 @@ impl KnownReports {
             return Ok(());
         }
         if !self.many.is_empty() {
-            self.many.insert(SubjectKey::new(*subject), masks)?;
+            self.many.insert(ProcessKey::new(*subject), masks)?;
             return Ok(());
         }
         if self.few.len() < FEW {
@@ -90,7 +90,7 @@ impl KnownReports {
             return Ok(());
         }
         let mut many = map_of(self.alloc, self.few.as_slice())?;
-        many.insert(SubjectKey::new(*subject), masks)?;
+        many.insert(ProcessKey::new(*subject), masks)?;
         self.many = many;
         self.few.clear();
         Ok(())
@@ -105,7 +105,7 @@ impl KnownReports {
             self.few[place].1 = self.few[place].1.without(rings);
             return;
         }
-        let key = SubjectKey::new(*subject);
+        let key = ProcessKey::new(*subject);
         if let Some(masks) = self.many.get_mut(&key) {
             *masks = masks.without(rings);
         }
@@ -126,8 +126,8 @@ impl KnownReports {
 /// The same masks. If there are none, a new map costs less than a copy of an empty one.
 fn copied(
     alloc: Global,
-    masks: &HashMap<SubjectKey, Masks>,
-) -> Result<HashMap<SubjectKey, Masks>, AllocError>
+    masks: &HashMap<ProcessKey, Masks>,
+) -> Result<HashMap<ProcessKey, Masks>, AllocError>
     ensures { IfOk result (λ copy. copy.entries ≡ masks.now.entries) }
 {
     if masks.is_empty() {

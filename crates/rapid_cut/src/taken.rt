@@ -11,14 +11,14 @@ ghost use Rattle.rapid_model.specs.Limits.{most_joiners, most_rings};
 ghost use Rattle.rapid_alerts.specs.Alerts.{alert_of};
 ghost use Rattle.rapid_cut.specs.Growing.{before, HaveGrown};
 ghost use Rattle.rapid_cut.specs.Limits.{IsWithinLimits};
-ghost use Rattle.rapid_cut.specs.Masks.{has_ring};
+ghost use Rattle.rapid_alerts.specs.RingMasks.{has_ring};
 
 use crate::closure::is_low;
 use crate::growing::GrowingReports;
 use crate::in_turn::InTurn;
-use crate::mask::{Masks, bit, has_any, has_bit, with};
+use crate::mask::{Masks, has_any, with};
 use crate::reports::KnownReports;
-use rapid_alerts::{Alert, Kind};
+use rapid_alerts::{Alert, Kind, bit, has_bit};
 use rapid_config::Cut;
 use rapid_endpoint::Process;
 use rapid_rings::ObserverTable;

@@ -19,6 +19,7 @@ mod table;
 mod table_error;
 
 pub use observer_table::ObserverTable;
+pub use process_key::ProcessKey;
 pub use rings::Rings;
 pub use table::Table;
 pub use table_error::TableError;

@@ -1,4 +1,4 @@
-// The keys of sets of processes.
+// Processes as keys of a set or a map.
 
 ghost use Rattle.std.specs.Prelude.{◌≡◌, [], ◌∷◌};
 ghost use Rattle.std.specs.Cmp.{partial_equiv_from_equiv};
@@ -10,9 +10,10 @@ use rapid_endpoint::Process;
 use std::hash::{Hash, Hasher};
 use std::marker::Model;
 
-/// A process, hashed as its bytes.
-#[derive(Debug, Drop)]
-pub(crate) struct ProcessKey {
+/// A process as the key of a set or a map, hashed as its bytes. Keys are equal if their processes
+/// are.
+#[derive(Clone, Copy, Debug)]
+pub struct ProcessKey {
     process: Process,
 }
 
@@ -22,11 +23,13 @@ impl Model for ProcessKey {
     ghost Value = { ModelProcess };
 
     ghost view = { λ k. k.process };
+
+    ghost inverse = { λ p. record { process = p } };
 }
 
 impl ProcessKey {
     /// The key of the process.
-    pub(crate) fn new(process: Process) -> ProcessKey
+    pub fn new(process: Process) -> ProcessKey
         ensures { result ≡ process }
     {
         ProcessKey { process }

@@ -4,7 +4,8 @@ ghost use Rattle.std.specs.Prelude.{◌≡◌, OnOk, OnErr};
 ghost use Rattle.std.specs.FinMap as finmap;
 ghost use Rattle.rapid_world.specs.Found.{HasAll};
 
-use crate::keys::{EndpointKey, IdKey};
+use crate::keys::IdKey;
+use rapid_config::EndpointKey;
 use rapid_endpoint::{Endpoint, ProcessId};
 use std::alloc::{AllocError, Global};
 use std::collections::{BTreeSet, HashMap};

@@ -1,6 +1,6 @@
 use Rattle.std.proofs.Common.{◌||◌, ap, ◌∙◌}
-use Rattle.rapid_alerts.specs.Marks.{has_ring}
-use Rattle.rapid_alerts.proofs.Marks.{ring_or}
+use Rattle.rapid_alerts.specs.RingMasks.{has_ring}
+use Rattle.rapid_alerts.proofs.RingMasks.{ring_or}
 use Rattle.rapid_alerts.proofs.mark.with_bit.Goals as goal
 
 pub returns : goal.returns

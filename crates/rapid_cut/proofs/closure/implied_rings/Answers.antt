@@ -1,6 +1,6 @@
 use Rattle.std.proofs.Common.{◌≡◌, ◌∙◌, ◌<◌, ◌≤◌, not, ◌&&◌, ap, sym, subst}
 use Rattle.rapid_model.specs.Reports.{reaches_low}
-use Rattle.rapid_cut.specs.Masks.{has_ring}
+use Rattle.rapid_alerts.specs.RingMasks.{has_ring}
 use Rattle.rapid_cut.proofs.Passing.{missing_is, missing_none, missing_more, missing_all}
 use Rattle.rapid_cut.proofs.closure.implied_rings.Goals.{then-not-has_bit, else-not-has_bit}
 use Rattle.rapid_cut.proofs.closure.implied_rings.Goals as goal

@@ -1,4 +1,4 @@
-use Rattle.rapid_cut.proofs.Masks.{ring_or}
+use Rattle.rapid_alerts.proofs.RingMasks.{ring_or}
 use Rattle.rapid_cut.proofs.mask.with.Goals as goal
 
 pub returns : goal.returns

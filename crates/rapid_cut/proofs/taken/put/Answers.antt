@@ -1,7 +1,7 @@
 use Rattle.std.proofs.Common.{cond, count_by, nat_le, refl, [], ◌∷◌, ◌++◌, ◌∙◌, ap, ◌||◌, sym, subst}
 use Rattle.rapid_model.specs.Ring.{rings}
 use Rattle.rapid_cut.specs.Growing.{HaveGrown}
-use Rattle.rapid_cut.specs.Masks.{has_ring}
+use Rattle.rapid_alerts.specs.RingMasks.{has_ring}
 use Rattle.rapid_cut.proofs.Fresh.{adds_one, grown_more}
 use Rattle.rapid_cut.proofs.taken.put.Goals as goal
 
