@@ -4,7 +4,8 @@ ghost use Rattle.std.specs.Thread.{IsSend, IsSync};
 
 use crate::until::Until;
 use rapid_agent::{Agent, Posts};
-use rapid_service::{Note, RunningFault, Shared, run_lines};
+use rapid_lines::Note;
+use rapid_service::{RunningFault, Shared, run_lines};
 use std::alloc::Global;
 use std::io::{Read, Write};
 use std::net::{Net, TcpListener, TcpStream};

@@ -5,7 +5,7 @@ use Rattle.rapid_model.specs.Bytes.{Text}
 use Rattle.rapid_model.specs.Configuration.{Configuration}
 use Rattle.rapid_desk.specs.declared.notice.Notice.{Notice}
 use Rattle.rapid_desk.specs.declared.notice.Notice.TheVariants.{Change}
-use Rattle.rapid_service.specs.ViewText.{view_text}
+use Rattle.rapid_lines.specs.ViewText.{view_text}
 use Rattle.rapid_service.specs.Entering.{Views, views_of, after_view, after_views, EntersOne, EntersSome}
 use Rattle.rapid_service.specs.declared.present.Present.{Present}
 

@@ -6,7 +6,7 @@ use Rattle.rapid_model.specs.Bytes.{Text}
 use Rattle.rapid_model.specs.Configuration.{Configuration}
 use Rattle.rapid_desk.specs.declared.notice.Notice.{Notice}
 use Rattle.rapid_desk.specs.declared.notice.Notice.TheVariants.{Change}
-use Rattle.rapid_service.specs.ViewText.{view_text}
+use Rattle.rapid_lines.specs.ViewText.{view_text}
 use Rattle.rapid_service.specs.declared.present.Present.{Present}
 
 -- What a service has of its views: what it took of its own subscription, the lines that wait to be printed, and the

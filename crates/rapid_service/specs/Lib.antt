@@ -1,15 +1,6 @@
-pub mod NodeLine
-pub mod ViewText
 pub mod Statuses
-pub mod EdgeText
-pub mod Repeating
-pub mod Remembering
-pub mod Asking
-pub mod PartRounds
 pub mod Stepping
 pub mod Endings
-pub mod NoteText
-pub mod Edges
 pub mod Presents
 pub mod Entering
 pub mod Subscribing

@@ -4,7 +4,7 @@ use Rattle.std.specs.Prelude.{ℕ, List, [], map, Option, Some, None}
 use Rattle.rapid_model.specs.Bytes.{Endpoint}
 use Rattle.rapid_model.specs.Process.{Process}
 use Rattle.rapid_model.specs.Ring.{subjects_of}
-use Rattle.rapid_service.specs.Edges.{edge_of}
+use Rattle.rapid_rounds.specs.Edges.{edge_of}
 use Rattle.rapid_service.specs.declared.present.Present.{Present}
 
 -- The rings and endpoints of those whom a process observes in its present view; nobody before the first.

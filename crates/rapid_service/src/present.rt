@@ -3,8 +3,8 @@
 ghost use Rattle.std.specs.Prelude.{◌≡◌};
 ghost use Rattle.rapid_model.specs.Ring.{subjects_of};
 
-use crate::observed_edges::ObservedEdges;
-use crate::repeats::Repeats;
+use rapid_repeats::Repeats;
+use rapid_rounds::ObservedEdges;
 use rapid_view::View;
 
 /// The current view, the probes of the members that are observed in it, and the filter of messages

@@ -11,37 +11,32 @@ ghost use Rattle.rapid_model.specs.Node as model;
 ghost use Rattle.rapid_model.specs.Ring.{subjects_of};
 ghost use Rattle.rapid_model.specs.Limits.{most_notes, most_subscriptions, most_waiting_views};
 ghost use Rattle.rapid_node.specs.Steps.{event_of};
-ghost use Rattle.rapid_service.specs.Edges.{place_of};
+ghost use Rattle.rapid_lines.specs.ViewText.{view_text};
+ghost use Rattle.rapid_lines.specs.declared.note.Answer.TheVariants.{Nothing};
+ghost use Rattle.rapid_repeats.specs.Remembering.{IsRepeatFor};
+ghost use Rattle.rapid_rounds.specs.Edges.{place_of};
 ghost use Rattle.rapid_service.specs.Entering.{EntersOne, EntersSome, views_of};
 ghost use Rattle.rapid_service.specs.HandingOn.{down_on, downs_from};
 ghost use Rattle.rapid_service.specs.Presents.{edges_in};
-ghost use Rattle.rapid_service.specs.Remembering.{IsRepeatFor};
 ghost use Rattle.rapid_service.specs.Stepping.{HasStepped, HasRefused, Steps, StepsAll, Tells};
 ghost use Rattle.rapid_service.specs.Subscribing.{StillServes};
-ghost use Rattle.rapid_service.specs.ViewText.{view_text};
-ghost use Rattle.rapid_service.specs.declared.note.Answer.TheVariants.{Nothing};
 ghost use Rattle.rapid_service.specs.declared.received.Received.TheVariants as fate;
 
-use crate::asking::Asking;
-use crate::edge_text::EdgeState;
 use crate::fault::RunningFault;
 use crate::journal::shorten;
-use crate::note::{Note, Notes};
-use crate::observed_edges::ObservedEdges;
-use crate::part::{MOST_RINGS, Part, PartRound};
 use crate::post::Post;
 use crate::present::Present;
 use crate::received::Received;
-use crate::repeats::Repeats;
-use crate::rounds::Rounds;
-use crate::view_text::write_view;
 use bytes::Bytes;
 use rapid_config::{ConfigId, Configuration, Params};
 use rapid_desk::{Desk, DeskError, Subscription, Taken};
 use rapid_endpoint::{Endpoint, Process};
 use rapid_join::Reply;
+use rapid_lines::{Asking, Note, Notes, write_view};
 use rapid_message::{Body, Destination, Message, Output, Outputs};
 use rapid_node::{Event, Phase};
+use rapid_repeats::Repeats;
+use rapid_rounds::{EdgeState, MOST_RINGS, ObservedEdges, Part, PartRound, Rounds};
 use rapid_view::{View, ViewSeat};
 use rapid_wire::encode;
 use std::alloc::{AllocError, Global};
@@ -223,7 +218,7 @@ impl<R: Wait + Copy + Drop, P: Post + Drop> Service<R, P> {
         ensures views { views_of self.new.changes.taken self.new.lines.items self.new.present ≡ views_of self.old.changes.taken self.old.lines.items self.old.present }
     {
         match &mut self.present {
-            Some(present) => present.watch.take_parts(parts),
+            Some(present) => Ok(present.watch.take_parts(parts)?),
             None => Ok(None),
         }
     }

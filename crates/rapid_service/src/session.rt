@@ -3,11 +3,10 @@
 ghost use Rattle.std.specs.Prelude.{◌≡◌, ℕ, ◌<◌, List, [], ◌∷◌, length, IfErr, OnOk, OnErr};
 ghost use Rattle.rapid_service.specs.declared.fault.RunningFault.TheVariants.{OutOfMemory};
 
-use crate::command::{Asked, Command, read_line};
 use crate::fault::RunningFault;
 use crate::post::Post;
 use crate::shared::Shared;
-use crate::view_text::{BAD_LINE, NO_VIEW, write_view};
+use rapid_lines::{Asked, BAD_LINE, Command, NO_VIEW, read_line, write_view};
 use rapid_text::{Engine, RunFault, run};
 use rapid_view::{View, ViewError, ViewSeat};
 use std::alloc::{AllocError, Global};

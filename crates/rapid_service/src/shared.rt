@@ -3,24 +3,23 @@
 ghost use Rattle.std.specs.Prelude.{◌≡◌, ◌<◌, ◌≤◌, ◌++◌, [], ℕ, List, false, min, max, vec_len, IfOk, IfErr, OnOk, OnErr};
 ghost use Rattle.rapid_model.specs.Limits.{most_notes, most_probers, most_waiting_views};
 ghost use Rattle.rapid_desk.specs.Desks.{NotSubscribed};
-ghost use Rattle.rapid_service.specs.EdgeText.{edges_text};
-ghost use Rattle.rapid_service.specs.declared.edge_text.EdgeState.{EdgeState};
+ghost use Rattle.rapid_lines.specs.EdgeText.{edges_text};
+ghost use Rattle.rapid_rounds.specs.declared.edge_state.EdgeState.{EdgeState};
 
 use crate::bell::Bell;
 use crate::console::Console;
 use crate::dealer::Dealer;
-use crate::edge_text::write_edges;
 use crate::ending::Ending;
 use crate::fault::RunningFault;
-use crate::note::Note;
-use crate::part::{Part, PartRound};
 use crate::post::Post;
 use crate::service::Service;
 use rapid_config::Params;
 use rapid_desk::{DeskError, Subscription};
 use rapid_endpoint::Process;
+use rapid_lines::{Note, write_edges};
 use rapid_message::{Body, Message};
 use rapid_node::Phase;
+use rapid_rounds::{Part, PartRound};
 use rapid_view::{View, ViewSeat};
 use std::alloc::{AllocError, Global};
 use std::sync::{Mutex, Wait};

@@ -2,7 +2,7 @@
 
 use rapid_config::{Configuration, Params};
 use rapid_endpoint::{Endpoint, Process, ProcessId};
-use rapid_service::{EdgeState, ObservedEdges, Part, PartRound};
+use rapid_rounds::{EdgeState, ObservedEdges, Part, PartRound};
 use std::alloc::{AllocError, Global};
 use std::process::Abort;
 use std::test::*;

@@ -1,5 +1,5 @@
 use Rattle.std.proofs.Common.{IsSomeAnd, sym, subst}
-use Rattle.rapid_service.specs.Remembering.{IsRepeatFor}
+use Rattle.rapid_repeats.specs.Remembering.{IsRepeatFor}
 use Rattle.rapid_service.proofs.service.Service.admits.Goals as goal
 
 -- What the filter of the present view does not let through is a repeat.

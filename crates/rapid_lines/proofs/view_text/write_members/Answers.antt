@@ -1,0 +1,8 @@
+use Rattle.std.proofs.Common.{arith}
+use Rattle.rapid_lines.specs.ViewText.{member_text}
+use Rattle.rapid_lines.proofs.Written.{written_more}
+use Rattle.rapid_lines.proofs.view_text.write_members.Goals as goal
+
+pub loop-member-preserved : goal.loop-member-preserved
+loop-member-preserved c =
+    written_more member_text c.args.members.now c.loop-member.member-index c.args.output.now.items c.loop-member.output.items _ c.member-item.result (omega arith) c.member-item.is c.loop-member.invariant c.in_ok-write_member.ensures

@@ -1,0 +1,3 @@
+pub mod Sames
+pub mod Keeping
+pub mod Finding

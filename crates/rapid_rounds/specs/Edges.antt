@@ -1,0 +1,37 @@
+-- Clauses of public calls cite this file.
+-- The edges that a node observes in a view, their board, and the parts into which their probes are cut.
+use Rattle.std.specs.Prelude.{◌≡◌, ℕ, false, List, [], map, Option, Some, None}
+use Rattle.std.specs.List.{range_with_len}
+use Rattle.rapid_model.specs.Bytes.{Endpoint, ConfigurationId}
+use Rattle.rapid_model.specs.Configuration.{Configuration, configuration_id}
+use Rattle.rapid_model.specs.Process.{Process, endpoint}
+use Rattle.rapid_monitor.specs.Boards.{Watching, Owned, IsSize, fresh_watcher, fresh_seat}
+use Rattle.rapid_monitor.specs.Probes.{BookValue, book_when, part_of}
+use Rattle.rapid_rounds.specs.declared.edge_state.EdgeState.{EdgeState}
+use Rattle.rapid_rounds.specs.declared.part.Part.{Part}
+
+-- The board of as many edges, with one watcher, which knows nothing, and a seat for each edge, by edge. There is none
+-- exactly if no board has as many.
+abbrev pub IsBoard : ℕ → Option Watching → List Owned → Type 0
+IsBoard edges None seats = (¬ IsSize edges 1) × (seats ≡ [])
+IsBoard edges (Some b) seats = (b ≡ fresh_watcher b.board edges) × (seats ≡ map (fresh_seat b.board) (range_with_len 0 edges))
+
+-- The configuration of a part, and its book.
+abbrev pub told_of : Part → ConfigurationId × BookValue
+told_of p = (p.id, p.book)
+
+-- The same of a part of these edges in a configuration, in which nobody has acknowledged and no round was made.
+abbrev pub blank_part : Configuration → List (ℕ × Process) → ℕ → ℕ → ConfigurationId × BookValue
+blank_part c edges parts part = (configuration_id c, book_when (part_of part parts edges) false [])
+
+-- The same of the first parts, by number.
+abbrev pub all_blank : Configuration → List (ℕ × Process) → ℕ → ℕ → List (ConfigurationId × BookValue)
+all_blank c edges parts count = map (blank_part c edges parts) (range_with_len 0 count)
+
+-- The ring of an edge, and the endpoint of who is observed on it.
+abbrev pub edge_of : ℕ × Process → ℕ × Endpoint
+edge_of e = (e.0, endpoint e.1)
+
+-- The same of what is said of an edge.
+abbrev pub place_of : EdgeState → ℕ × Endpoint
+place_of s = (s.ring, s.endpoint)

@@ -1,0 +1,2 @@
+pub mod PartRounds
+pub mod Edges

@@ -1,0 +1,208 @@
+// The members that a node observes in its current view.
+
+ghost use Rattle.std.specs.Prelude.{◌≡◌, ◌⊎◌, ◌<◌, List, map, vec_len, Some, true, false, IfSome, IfNone, IfOk};
+ghost use Rattle.rapid_model.specs.Ring.{subjects_of};
+ghost use Rattle.rapid_monitor.specs.Boards.{Owned};
+ghost use Rattle.rapid_rounds.specs.Edges.{IsBoard, all_blank, blank_part, told_of, edge_of, place_of};
+
+use crate::edge_state::EdgeState;
+use crate::part::Part;
+use rapid_config::Configuration;
+use rapid_endpoint::Process;
+use rapid_monitor::{BoardError, EdgeBoard, EdgeSeat, ProbeBook};
+use rapid_rings::{ObserverTable, Rings};
+use std::alloc::{AllocError, Global};
+
+/// The members that a node observes in one view, and the board of these edges. The seats of the
+/// edges are here until they are given to parts.
+#[derive(Drop)]
+pub struct ObservedEdges {
+    alloc: Global,
+    rings: Rings,
+    me: Process,
+    /// The edges by ring: the ring and who is observed on it. The number of an edge is its place.
+    edges: Vec<(u8, Process)>,
+    /// None if no member is observed.
+    board: Option<EdgeBoard>,
+    /// By edge: the seats that were not given to a part.
+    seats: Vec<Option<EdgeSeat>>,
+    /// Whether the parts were taken.
+    parted: bool,
+    ghost observed: { edges.items ≡ subjects_of rings me },
+}
+
+/// The seats, each to be taken by itself.
+fn loose(alloc: Global, seats: Vec<EdgeSeat>) -> Result<Vec<Option<EdgeSeat>>, AllocError>
+    ensures { IfOk result (λ loose. loose.items ≡ map Some seats.items) }
+{
+    seats.into_iter().map(|seat| Some(seat)).collect(alloc)
+}
+
+/// A board of this many edges, and a seat for each; no board if there are no edges.
+fn board_of(alloc: Global, edges: usize) -> Result<(Option<EdgeBoard>, Vec<EdgeSeat>), AllocError>
+    ensures { IfOk result (λ made. IsBoard edges made.0 made.1.items) }
+{
+    match EdgeBoard::new(alloc, edges, 1) {
+        Ok((mut boards, seats)) => Ok((boards.pop(), seats)),
+        // There are at most 16 edges, so only a board without edges is refused.
+        Err(BoardError::BadSize) => Ok((None, Vec::new(alloc))),
+        Err(BoardError::OutOfMemory) => Err(AllocError),
+    }
+}
+
+impl ObservedEdges {
+    /// Of a process in a configuration. It computes the rings of the configuration.
+    pub fn new(
+        alloc: Global,
+        configuration: &Configuration,
+        me: &Process,
+    ) -> Result<ObservedEdges, AllocError>
+        ensures edges { IfOk result (λ w. w.edges.items ≡ subjects_of configuration.now me.now) }
+        ensures made { IfOk result (λ w. (w.rings ≡ configuration.now) × (w.me ≡ me.now) × (w.parted ≡ false)) }
+    {
+        let rings = Rings::new(alloc, configuration)?;
+        ObservedEdges::over(alloc, rings, me)
+    }
+
+    /// Of the process in a configuration that follows. The rings are made of the current ones, so
+    /// keys are hashed for newcomers only.
+    pub fn next(&self, configuration: &Configuration) -> Result<ObservedEdges, AllocError>
+        ensures edges { IfOk result (λ w. w.edges.items ≡ subjects_of configuration.now self.now.me) }
+        ensures made { IfOk result (λ w. (w.rings ≡ configuration.now) × (w.me ≡ self.now.me) × (w.parted ≡ false)) }
+    {
+        let rings = self.rings.next(self.alloc, configuration)?;
+        ObservedEdges::over(self.alloc, rings, &self.me)
+    }
+
+    /// Of a process in the configuration of these rings.
+    fn over(alloc: Global, rings: Rings, me: &Process) -> Result<ObservedEdges, AllocError>
+        ensures edges { IfOk result (λ w. w.edges.items ≡ subjects_of rings me.now) }
+        ensures made { IfOk result (λ w. (w.rings ≡ rings) × (w.me ≡ me.now) × (w.parted ≡ false)) }
+        ensures seats { IfOk result (λ w. (seats : List Owned) × IsBoard (vec_len w.edges) w.board seats × (w.seats.items ≡ map Some seats)) }
+    {
+        let edges = rings.subjects_of(alloc, me)?;
+        let (board, seats) = board_of(alloc, edges.len())?;
+        Ok(ObservedEdges {
+            alloc,
+            rings,
+            me: *me,
+            edges,
+            board,
+            seats: loose(alloc, seats)?,
+            parted: false,
+        })
+    }
+
+    /// The parts of the probes, as many as are asked for, each with the seats of its rings: once, at
+    /// least one.
+    pub fn take_parts(&mut self, parts: u8) -> Result<Option<Vec<Part>>, AllocError>
+        ensures none { IfOk result (λ r. IfNone r ((self.old.parted ≡ true) ⊎ (parts ≡ 0))) }
+        ensures once { IfOk result (λ r. IfSome r (λ all. (self.old.parted ≡ false) × (0 < parts) × (self.new.parted ≡ true))) }
+        ensures parts { IfOk result (λ r. IfSome r (λ all. map told_of all.items ≡ all_blank self.old.rings self.old.edges.items parts parts)) }
+        ensures same { (self.new.rings ≡ self.old.rings) × (self.new.me ≡ self.old.me) × (self.new.edges.items ≡ self.old.edges.items) }
+    {
+        if self.parted || parts == 0 {
+            return Ok(None);
+        }
+        self.parted = true;
+        Ok(Some(self.all_parts(parts)?))
+    }
+
+    /// All parts, by number.
+    fn all_parts(&mut self, parts: u8) -> Result<Vec<Part>, AllocError>
+        requires { 0 < parts }
+        ensures parts { IfOk result (λ all. map told_of all.items ≡ all_blank self.old.rings self.old.edges.items parts parts) }
+        ensures same { (self.new.rings ≡ self.old.rings) × (self.new.me ≡ self.old.me) × (self.new.edges.items ≡ self.old.edges.items) × (self.new.parted ≡ self.old.parted) }
+    {
+        let mut all = Vec::with_capacity(self.alloc, usize::from(parts))?;
+        for part in 0..parts {
+            all.push(self.part(part, parts)?)?;
+        }
+        Ok(all)
+    }
+
+    /// A part of the probes: its book, and the seats of its edges in the book's order.
+    fn part(&mut self, part: u8, parts: u8) -> Result<Part, AllocError>
+        requires { 0 < parts }
+        ensures part { IfOk result (λ p. told_of p ≡ blank_part self.old.rings self.old.edges.items parts part) }
+        ensures same { (self.new.rings ≡ self.old.rings) × (self.new.me ≡ self.old.me) × (self.new.edges.items ≡ self.old.edges.items) × (self.new.parted ≡ self.old.parted) }
+    {
+        let book = ProbeBook::part(self.alloc, &self.rings, &self.me, part, parts)?;
+        let seats = seats_in(
+            self.alloc,
+            self.edges.as_slice(),
+            self.seats.as_mut_slice(),
+            part,
+            parts,
+        )?;
+        match Part::new(self.rings.id(), book, seats) {
+            Some(part) => Ok(part),
+            // A board has a seat for each edge, and both are dealt by ring: this does not happen.
+            None => Err(AllocError),
+        }
+    }
+
+    /// Each edge by ring, and whether it is down now.
+    pub fn states(&mut self) -> Result<Vec<EdgeState>, AllocError>
+        ensures edges { IfOk result (λ states. map place_of states.items ≡ map edge_of self.old.edges.items) }
+        ensures same { (self.new.rings ≡ self.old.rings) × (self.new.me ≡ self.old.me) × (self.new.edges.items ≡ self.old.edges.items) × (self.new.parted ≡ self.old.parted) }
+    {
+        states_of(self.alloc, self.edges.as_slice(), &mut self.board)
+    }
+}
+
+/// Takes the seats of the rings whose number, divided by the number of parts, leaves this one.
+fn seats_in(
+    alloc: Global,
+    edges: &[(u8, Process)],
+    seats: &mut [Option<EdgeSeat>],
+    part: u8,
+    parts: u8,
+) -> Result<Vec<EdgeSeat>, AllocError>
+    requires { 0 < parts }
+{
+    let mut own = Vec::new(alloc);
+    for i in 0..edges.len().min(seats.len()) {
+        if edges[i].0 % parts == part
+            && let Some(seat) = seats[i].take()
+        {
+            own.push(seat)?;
+        }
+    }
+    Ok(own)
+}
+
+/// Each of these edges, and whether a watcher, if there is one, answers that it is down.
+fn states_of(
+    alloc: Global,
+    edges: &[(u8, Process)],
+    board: &mut Option<EdgeBoard>,
+) -> Result<Vec<EdgeState>, AllocError>
+    ensures { IfOk result (λ states. map place_of states.items ≡ map edge_of edges.now) }
+{
+    let mut states = Vec::with_capacity(alloc, edges.len())?;
+    for i in 0..edges.len() {
+        states.push(state_of(&edges[i], is_down(board, i)))?;
+    }
+    Ok(states)
+}
+
+/// An edge that is up or down.
+fn state_of(edge: &(u8, Process), is_down: bool) -> EdgeState
+    ensures edge { place_of result ≡ edge_of edge.now }
+    ensures down { result.is_down ≡ is_down }
+{
+    EdgeState {
+        ring: edge.0,
+        endpoint: edge.1.endpoint(),
+        is_down,
+    }
+}
+
+/// Whether a watcher, if there is one, answers that an edge is down.
+fn is_down(board: &mut Option<EdgeBoard>, edge: usize) -> bool {
+    match board {
+        Some(board) if edge < board.edges() => board.is_down(edge),
+        _ => false,
+    }
+}
