@@ -23,13 +23,14 @@ pub struct Joiner {
 
 impl Model for Joiner {
     ghost use Rattle.std.specs.Prelude.{◌<◌};
+    ghost use Rattle.rapid_model.specs.Limits.{question_period};
     ghost use Rattle.rapid_model.specs.JoinSides.{JoinerSide};
 
     ghost Value = { JoinerSide };
 
     ghost view = { λ j. record { process = j.process; joiner = record { seed = j.seed; ticks = j.ticks } } };
 
-    ghost invariant = { λ j. j.ticks < 10 };
+    ghost invariant = { λ j. j.ticks < question_period };
 }
 
 impl Joiner {

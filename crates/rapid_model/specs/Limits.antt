@@ -93,6 +93,10 @@ most_watchers = 64
 abbrev pub most_probers : ℕ
 most_probers = 16
 
+-- Every this many ticks a running node begins a round of probes.
+abbrev pub probe_period : ℕ
+probe_period = 10
+
 -- How many messages a running node remembers at most, the last of each sender and kind: of members, and of others.
 abbrev pub most_kept_of_members : ℕ
 most_kept_of_members = 2048
@@ -108,6 +112,10 @@ long_journal = 512
 abbrev pub most_notes : ℕ
 most_notes = 64
 
+-- How many bytes of lines wait to be printed by a running node at most.
+abbrev pub most_unprinted : ℕ
+most_unprinted = 1048576
+
 -- How many frames wait for one sender at most, how many connections it keeps open, and how many peers that were too
 -- slow it remembers.
 abbrev pub most_waiting_frames : ℕ
@@ -118,6 +126,10 @@ most_connections = 64
 
 abbrev pub most_slow_peers : ℕ
 most_slow_peers = 1024
+
+-- How many incoming connections a running node reads at most.
+abbrev pub most_readers : ℕ
+most_readers = 256
 
 -- How many clerks drive a simulated cluster at most, each in a thread of its own.
 abbrev pub most_clerks : ℕ

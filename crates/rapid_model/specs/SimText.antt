@@ -13,7 +13,7 @@ use Rattle.rapid_model.specs.Refusal as faults
 use Rattle.rapid_model.specs.Refusal.{WorldRefusal}
 use Rattle.rapid_model.specs.Run.{WorldReport, ReportInstalled, ReportHalted, founded, reports_of, step_reports}
 use Rattle.rapid_model.specs.StoredWorld.{StoredWorld, new_world, world_of, event_refusal, with_event, unmarked}
-use Rattle.rapid_model.specs.Limits.{most_in_flow}
+use Rattle.rapid_model.specs.Limits.{down_failures, most_in_flow}
 use Rattle.rapid_model.specs.Lines.{line_feed, space, lines, line_words}
 use Rattle.rapid_model.specs.Numbered.{number_under}
 use Rattle.rapid_model.specs.SimLine.{SimLine, Parameters, Found, Events, Lose, Deliver, Drop, Flow, Packets, command_named}
@@ -134,7 +134,7 @@ rings_between w observer id = filter (observes_on id (peer_at w (running_under w
 
 -- Four failed probes.
 abbrev pub failing : Identifier → ℕ → List WorldEvent
-failing observer k = replicate 4 (world.Probe observer k false)
+failing observer k = replicate down_failures (world.Probe observer k false)
 
 -- The probes by which all that run lose the member of this identifier: four that fail on each ring on which it is
 -- observed, by observer and ring.

@@ -1,6 +1,7 @@
 // When rounds of probes begin.
 
 ghost use Rattle.std.specs.Prelude.{◌≡◌, ◌==◌, ◌%◌, ◌+◌, ℕ};
+ghost use Rattle.rapid_model.specs.Limits.{probe_period};
 
 use std::marker::Model;
 
@@ -16,12 +17,13 @@ pub struct Rounds {
 
 impl Model for Rounds {
     ghost use Rattle.std.specs.Prelude.{◌<◌, ℕ};
+    ghost use Rattle.rapid_model.specs.Limits.{probe_period};
 
     ghost Value = { ℕ };
 
     ghost view = { λ r. r.ticks };
 
-    ghost invariant = { λ r. r.ticks < 10 };
+    ghost invariant = { λ r. r.ticks < probe_period };
 }
 
 impl Rounds {
@@ -34,8 +36,8 @@ impl Rounds {
 
     /// A tick more; whether a round begins after it.
     pub fn tick(&mut self) -> bool
-        ensures after { (n : ℕ) → self.old ≡ n % 10 → self.new ≡ (n + 1) % 10 }
-        ensures due { (n : ℕ) → self.old ≡ n % 10 → result ≡ ((n + 1) % 10 == 0) }
+        ensures after { (n : ℕ) → self.old ≡ n % probe_period → self.new ≡ (n + 1) % probe_period }
+        ensures due { (n : ℕ) → self.old ≡ n % probe_period → result ≡ ((n + 1) % probe_period == 0) }
     {
         let begins = self.ticks == TICKS_PER_ROUND - 1;
         self.ticks = if begins { 0 } else { self.ticks + 1 };

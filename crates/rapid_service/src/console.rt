@@ -2,6 +2,7 @@
 
 ghost use Rattle.std.specs.Prelude.{◌≡◌, ◌⊎◌, ◌+◌, ◌≤◌, ◌<◌, ◌==◌, ◌&&◌, ◌++◌, [], true, false, not, length, vec_len, nat_le, if◌then◌else◌, IfErr, IfSome, IfNone, OnOk, OnErr};
 ghost use Rattle.std.specs.Io.KnownBytes.{Appends};
+ghost use Rattle.rapid_model.specs.Limits.{most_unprinted};
 ghost use Rattle.rapid_text.specs.Underway.{AppendsFront};
 ghost use Rattle.rapid_service.specs.declared.fault.RunningFault.TheVariants.{OutOfMemory, Write as CannotWrite};
 
@@ -29,12 +30,12 @@ pub struct Console {
 struct Pending {
     lines: Vec<u8>,
     closed: bool,
-    ghost few: { vec_len lines ≤ 1048576 },
+    ghost few: { vec_len lines ≤ most_unprinted },
 }
 
 /// Whether lines of this length may wait beside those that wait.
 fn has_room(waiting: usize, added: usize) -> bool
-    ensures { result ≡ nat_le (waiting + added) 1048576 }
+    ensures { result ≡ nat_le (waiting + added) most_unprinted }
 {
     waiting <= MOST_WAITING && added <= MOST_WAITING - waiting
 }
@@ -53,7 +54,7 @@ impl Pending {
     /// Adds lines, if no end was told and there is room for them.
     fn add(&mut self, lines: &[u8]) -> Result<(), RunningFault>
         ensures waits { OnOk result (self.new.lines.items ≡ (if self.old.closed then self.old.lines.items else self.old.lines.items ++ lines.now)) }
-        ensures refused { IfErr result (λ e. (self.old.closed ≡ false) × (((e ≡ CannotWrite) × (1048576 < length self.old.lines.items + length lines.now)) ⊎ (e ≡ OutOfMemory))) }
+        ensures refused { IfErr result (λ e. (self.old.closed ≡ false) × (((e ≡ CannotWrite) × (most_unprinted < length self.old.lines.items + length lines.now)) ⊎ (e ≡ OutOfMemory))) }
         ensures unchanged { OnErr result (self.new.lines.items ≡ self.old.lines.items) }
         ensures open { self.new.closed ≡ self.old.closed }
     {
@@ -85,7 +86,7 @@ impl Pending {
 
     /// Takes the lines out, if there are any.
     fn take(&mut self, alloc: Global) -> Option<Vec<u8>>
-        ensures all { IfSome result (λ lines. (lines.items ≡ self.old.lines.items) × (0 < vec_len lines) × (vec_len lines ≤ 1048576)) }
+        ensures all { IfSome result (λ lines. (lines.items ≡ self.old.lines.items) × (0 < vec_len lines) × (vec_len lines ≤ most_unprinted)) }
         ensures none { IfNone result (self.old.lines.items ≡ []) }
         ensures rest { self.new.lines.items ≡ [] }
         ensures open { self.new.closed ≡ self.old.closed }
@@ -138,7 +139,7 @@ impl Console {
 
     /// Waits for lines, and takes them; none if no more come.
     fn next<R: Wait>(&self, rt: &R) -> Option<Vec<u8>>
-        ensures { IfSome result (λ lines. (0 < vec_len lines) × (vec_len lines ≤ 1048576)) }
+        ensures { IfSome result (λ lines. (0 < vec_len lines) × (vec_len lines ≤ most_unprinted)) }
     {
         let pending = self.pending.lock(rt);
         let mut pending = self

@@ -9,7 +9,7 @@ ghost use Rattle.rapid_model.specs.Configuration.{founding};
 ghost use Rattle.rapid_model.specs.Message.{Probe};
 ghost use Rattle.rapid_model.specs.Node as model;
 ghost use Rattle.rapid_model.specs.Ring.{subjects_of};
-ghost use Rattle.rapid_model.specs.Limits.{most_notes, most_subscriptions, most_waiting_views};
+ghost use Rattle.rapid_model.specs.Limits.{most_notes, most_subscriptions, most_waiting_views, probe_period};
 ghost use Rattle.rapid_node.specs.Steps.{event_of};
 ghost use Rattle.rapid_lines.specs.ViewText.{view_text};
 ghost use Rattle.rapid_lines.specs.declared.note.Answer.TheVariants.{Nothing};
@@ -200,8 +200,8 @@ impl<R: Wait + Copy + Drop, P: Post + Drop> Service<R, P> {
     /// A tick of the node; whether a round of probes is due after it, as after every tenth.
     pub fn tick(&mut self) -> Result<bool, RunningFault>
         ensures step { OnOk result (Steps self.old.desk model.Tick self.new.desk) }
-        ensures due { (n : ℕ) → self.old.rounds ≡ n % 10 → IfOk result (λ due. due ≡ ((n + 1) % 10 == 0)) }
-        ensures counted { (n : ℕ) → self.old.rounds ≡ n % 10 → OnOk result (self.new.rounds ≡ (n + 1) % 10) }
+        ensures due { (n : ℕ) → self.old.rounds ≡ n % probe_period → IfOk result (λ due. due ≡ ((n + 1) % probe_period == 0)) }
+        ensures counted { (n : ℕ) → self.old.rounds ≡ n % probe_period → OnOk result (self.new.rounds ≡ (n + 1) % probe_period) }
         ensures views { OnOk result (EntersOne (views_of self.old.changes.taken self.old.lines.items self.old.present) (views_of self.new.changes.taken self.new.lines.items self.new.present)) }
     {
         self.step(Event::Tick)?;

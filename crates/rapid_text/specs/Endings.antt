@@ -1,7 +1,8 @@
 -- Clauses of public calls cite this file.
 -- Where lines end.
-use Rattle.std.specs.Prelude.{◌≡◌, ℕ, ◌<◌, ◌⊎◌, Bool, not, ◌==◌, List, [], ◌∷◌, ◌++◌, length, if◌then◌else◌}
+use Rattle.std.specs.Prelude.{◌≡◌, ℕ, ◌+◌, ◌<◌, ◌⊎◌, Bool, not, ◌==◌, List, [], ◌∷◌, ◌++◌, length, if◌then◌else◌}
 use Rattle.std.specs.List.{list_all}
+use Rattle.rapid_model.specs.Limits.{longest_line}
 use Rattle.rapid_model.specs.Lines.{line_feed, carriage_return}
 
 -- No line ends in these bytes.
@@ -16,7 +17,7 @@ without_return (x ∷ y ∷ ys) = x ∷ without_return (y ∷ ys)
 
 -- All of a line is kept, or both the line and what is kept of it are too long.
 abbrev pub Keeps : List ℕ → List ℕ → Type 0
-Keeps line kept = (kept ≡ line) ⊎ ((257 < length line) × (257 < length kept))
+Keeps line kept = (kept ≡ line) ⊎ ((longest_line + 1 < length line) × (longest_line + 1 < length kept))
 
 -- The second is a beginning of the first.
 abbrev pub BeginsWith : List ℕ → List ℕ → Type 0

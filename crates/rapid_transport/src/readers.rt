@@ -1,6 +1,7 @@
 // The incoming connections that are read.
 
 ghost use Rattle.std.specs.Prelude.{◌≤◌, ◌<◌, ◌+◌, vec_len, IfSome};
+ghost use Rattle.rapid_model.specs.Limits.{most_readers};
 
 use std::alloc::Global;
 use std::net::{Shutdown, TcpStream};
@@ -20,7 +21,7 @@ struct Reader {
 pub(crate) struct Readers {
     all: Vec<Reader>,
     next: u64,
-    ghost few: { vec_len all ≤ 256 },
+    ghost few: { vec_len all ≤ most_readers },
 }
 
 impl Readers {

@@ -5,6 +5,7 @@ use Rattle.clap.specs.Simple.{App, new_app, new_rule, with_rule, with_subcommand
 use Rattle.clap.specs.Walk.{Rule, Text}
 use Rattle.clap.specs.declared.builder.action.ArgAction.TheVariants.{Set}
 use Rattle.clap.specs.declared.builder.value_parser.ValueParser.TheVariants as vp
+use Rattle.rapid_model.specs.Limits.{most_clerks, most_probers}
 
 -- An option whose value is a text.
 abbrev pub text_option : Text → Rule
@@ -27,7 +28,7 @@ cluster_words =
     with_params
     (with_rule (with_rule (with_rule (new_app (codes "cluster"))
     (number_option (codes "nodes") (codes "3") (pos 1) (pos 64)))
-    (number_option (codes "workers") (codes "4") (pos 1) (pos 32)))
+    (number_option (codes "workers") (codes "4") (pos 1) (pos most_clerks)))
     (number_option (codes "turns") (codes "10") (pos 1) (pos 10000)))
 
 -- `node`.
@@ -38,7 +39,7 @@ node_words =
     (text_option (codes "id")))
     (text_option (codes "join"))))
     (number_option (codes "tick-ms") (codes "0") (pos 0) (pos 60000)))
-    (number_option (codes "probers") (codes "1") (pos 1) (pos 16))
+    (number_option (codes "probers") (codes "1") (pos 1) (pos most_probers))
 
 -- The program, which has a version and wants a command.
 abbrev pub program_words : App

@@ -3,6 +3,7 @@
 ghost use Rattle.std.specs.Prelude.{◌≡◌, false, IfOk, IfSome, IfNone, codes, pos};
 ghost use Rattle.std.specs.Option.{option_map};
 ghost use Rattle.clap.specs.Words.{rule_of, app_of};
+ghost use Rattle.rapid_model.specs.Limits.{most_probers};
 ghost use Rattle.rapid_options.specs.Options.{AreRead, IsRefusal};
 ghost use Rattle.rapid_words.specs.Grammar.{text_option, number_option, node_words};
 
@@ -46,7 +47,7 @@ fn tick_ms<'a>(alloc: Global) -> Arg<'a>
 
 /// The option of how many threads probe.
 fn probers<'a>(alloc: Global) -> Arg<'a>
-    ensures rule { rule_of result ≡ number_option (codes "probers") (codes "1") (pos 1) (pos 16) }
+    ensures rule { rule_of result ≡ number_option (codes "probers") (codes "1") (pos 1) (pos most_probers) }
     ensures local { result.global ≡ false }
 {
     number(
