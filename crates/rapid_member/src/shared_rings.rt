@@ -73,6 +73,15 @@ impl ObserverTable for SharedRings {
         self.rings.member_and_observer(ring, subject)
     }
 
+    fn member_and_observer_near(
+        &self,
+        ring: u8,
+        subject: &Process,
+        place: &mut usize,
+    ) -> (bool, Option<Process>) {
+        self.rings.member_and_observer_near(ring, subject, place)
+    }
+
     fn may_observe(&self, process: &Process) -> bool {
         self.rings.may_observe(process)
     }

@@ -1,5 +1,5 @@
 -- What is found by place: the seats of members, and what members and others observe.
-use Rattle.std.proofs.Common.{◌≡◌, ℕ, ◌+◌, ◌<◌, ◌≤◌, Bool, true, false, ◌||◌, cond, List, [], ◌∷◌, ◌++◌, map, length, get_or, take, refl, sym, ap, subst, ◌∙◌, Some, None, slice_get, position, nat_lt, arith}
+use Rattle.std.proofs.Common.{◌≡◌, ℕ, ◌+◌, ◌<◌, ◌≤◌, Bool, true, false, not, ◌&&◌, ◌||◌, cond, List, [], ◌∷◌, ◌++◌, map, length, get_or, take, refl, sym, ap, subst, ◌∙◌, Some, None, slice_get, position, nat_lt, arith}
 use Rattle.std.specs.Prelude.{Option, filter_map}
 use Rattle.std.specs.Option.{option_map, option_eq, option_to_list}
 use Rattle.std.specs.List.{find, position_or_len, cons_option}
@@ -14,11 +14,11 @@ use Rattle.rapid_model.specs.Configuration.{Configuration, position_of}
 use Rattle.rapid_model.specs.Ring.{is_next_before, ring_observer, observers_of, rings, subject_on, subjects_of}
 use Rattle.rapid_model.proofs.Orders.{same_bytes_decides}
 use Rattle.rapid_config.proofs.Places.{in_by_place}
-use Rattle.rapid_rings.specs.Observing.{ObservesNobody}
+use Rattle.rapid_rings.specs.Observing.{ObservesNobody, NoneObservesItself}
 use Rattle.rapid_rings.specs.Seats.{Placed, HasRings}
 use Rattle.rapid_rings.proofs.Rounds.{not_found}
 use Rattle.rapid_rings.proofs.Numbers.{tested, not_tested}
-use Rattle.rapid_rings.proofs.Subjects.{is_observer}
+use Rattle.rapid_rings.proofs.Subjects.{is_observer, passes_found}
 
 -- ---- places
 
@@ -133,6 +133,18 @@ stranger_is_no_observer c o out k s h =
   where
     no_both : (b : Bool) → b ≡ true → b ≡ false → ⊥
     no_both b t f = cc
+
+pub none_observes_itself : (c : Configuration) → NoneObservesItself (observers_of c)
+unfolding observers_of
+none_observes_itself c k s h =
+    elim (nat_lt k c.params.k) as (λ b. cond b (ring_observer c.members k s) None ≡ Some s → ⊥) [
+      | true ↦ λ e. no_both (same_bytes s s) _ ((same_bytes_decides s s).1 refl) (passes_found (is_next_before c.members k s) c.members s e)
+      | false ↦ λ e. cc
+    ] h
+  where
+    no_both : (a b : Bool) → a ≡ true → (not a && b) ≡ true → ⊥
+    no_both true b t h = cc
+    no_both false b t h = cc
 
 -- ---- lists
 

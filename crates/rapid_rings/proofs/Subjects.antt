@@ -30,7 +30,7 @@ pub is_observer : (r : Option Process) (o : Process) → option_eq same_bytes r 
 is_observer None o h = cc
 is_observer (Some p) o h = ap Some ((same_bytes_decides p o).0 h)
 
-passes_found : (p : Process → Bool) (ms : List Process) (o : Process) → find p ms ≡ Some o → p o ≡ true
+pub passes_found : (p : Process → Bool) (ms : List Process) (o : Process) → find p ms ≡ Some o → p o ≡ true
 passes_found p [] o h = cc
 passes_found p (m ∷ ms) o h =
     elim (p m) as (λ b. p m ≡ b → cond b (Some m) (find p ms) ≡ Some o → p o ≡ true) [

@@ -2,7 +2,7 @@
 
 ghost use Rattle.std.specs.Prelude.{◌≡◌, false};
 ghost use Rattle.rapid_model.specs.Ring.{Observers, AreObservers};
-ghost use Rattle.rapid_rings.specs.Observing.{ObservesNobody};
+ghost use Rattle.rapid_rings.specs.Observing.{ObservesNobody, NoneObservesItself};
 
 use rapid_config::{ConfigId, Params};
 use rapid_endpoint::Process;
@@ -40,12 +40,36 @@ pub trait ObserverTable {
         (self.is_member(subject), self.observer(ring, subject))
     }
 
+    /// What `member_and_observer` answers, whatever `place` holds. A table may look for the subject
+    /// at that place first, and note there where it found it. So who asks for one subject on several
+    /// rings, one after the other, has it searched once.
+    fn member_and_observer_near(
+        &self,
+        ring: u8,
+        subject: &Process,
+        place: &mut usize,
+    ) -> (bool, Option<Process>)
+        ensures member { result.0 ≡ (observers self.now).is_member subject.now }
+        ensures observer { result.1 ≡ (observers self.now).observer ring subject.now }
+    {
+        let _ = place;
+        self.member_and_observer(ring, subject)
+    }
+
     /// Whether the process may observe someone. False says that nobody has it as an observer, on
     /// any ring. True says nothing, and is never wrong.
     fn may_observe(&self, process: &Process) -> bool
         ensures { result ≡ false → ObservesNobody (observers self.now) process.now }
     {
         let _ = process;
+        true
+    }
+
+    /// Whether a process may be its own observer. False says that none is, on any ring. True says
+    /// nothing, and is never wrong.
+    fn may_any_observe_itself(&self) -> bool
+        ensures { result ≡ false → NoneObservesItself (observers self.now) }
+    {
         true
     }
 }

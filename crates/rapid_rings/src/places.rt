@@ -1,7 +1,7 @@
 // The places of members, which are guessed first: lists that differ in few have most members in a
 // row.
 
-ghost use Rattle.std.specs.Prelude.{◌≡◌, ◌≤◌, ◌∷◌, ◌++◌, [], length, map, if◌then◌else◌, IfOk, OnOk};
+ghost use Rattle.std.specs.Prelude.{◌≡◌, ◌≤◌, ◌<◌, ◌∷◌, ◌++◌, [], true, length, map, if◌then◌else◌, Some, IfSome, IfOk, OnOk};
 ghost use Rattle.std.specs.List.{range_with_len};
 ghost use Rattle.rapid_model.specs.Configuration.{position_of};
 ghost use Rattle.rapid_model.specs.Limits.{most_members};
@@ -70,31 +70,43 @@ fn push_unless(places: &mut Vec<u16>, is_known: bool, place: u16) -> Result<(), 
     Ok(())
 }
 
-// The place of a process in a configuration. It is searched for only if the process is not at the
-// guessed place.
+// The place of a process in a configuration, by a guess.
 fn place_near(configuration: &Configuration, guess: u16, process: &Process) -> Option<u16>
     ensures { result ≡ position_of configuration.now process.now }
 {
-    match configuration.members().get(usize::from(guess)) {
-        Some(member) => {
-            if *process == *member {
-                Some(guess)
-            } else {
-                place_of(configuration, process)
-            }
-        }
-        None => place_of(configuration, process),
+    configuration.tell();
+    match position_near(configuration, usize::from(guess), process) {
+        Some(place) => Some(place as u16),
+        None => None,
     }
 }
 
-// The place of a process in a configuration.
-fn place_of(configuration: &Configuration, process: &Process) -> Option<u16>
-    ensures { result ≡ position_of configuration.now process.now }
+/// The place of a process in a configuration. It is searched for only if the process is not at the
+/// guessed place.
+#[inline(always)]
+pub(crate) fn position_near(
+    configuration: &Configuration,
+    guess: usize,
+    process: &Process,
+) -> Option<usize>
+    ensures place { result ≡ position_of configuration.now process.now }
+    ensures within { IfSome result (λ place. place < length configuration.now.members) }
 {
-    configuration.tell();
-    match configuration.position(process) {
-        Some(place) => Some(place as u16),
-        None => None,
+    if is_at(configuration, guess, process) {
+        Some(guess)
+    } else {
+        configuration.position(process)
+    }
+}
+
+// Whether a member is at a place. False says nothing.
+fn is_at(configuration: &Configuration, place: usize, process: &Process) -> bool
+    ensures place { result ≡ true → position_of configuration.now process.now ≡ Some place }
+    ensures within { result ≡ true → place < length configuration.now.members }
+{
+    match configuration.members().get(place) {
+        Some(member) => *process == *member,
+        None => false,
     }
 }
 

@@ -10,7 +10,7 @@ ghost use Rattle.rapid_model.specs.Ring.{observers_of, subject_on, subjects_of};
 
 use crate::ObserverTable;
 use crate::known_keys::KnownKeys;
-use crate::places::{places_below, places_in, places_of_strangers};
+use crate::places::{places_below, places_in, places_of_strangers, position_near};
 use crate::ring::{NextMembers, Ring};
 use rapid_config::{ConfigId, Configuration, Params};
 use rapid_endpoint::Process;
@@ -220,7 +220,22 @@ impl ObserverTable for Rings {
         (place.is_some(), self.observer_of(ring, place, subject))
     }
 
+    fn member_and_observer_near(
+        &self,
+        ring: u8,
+        subject: &Process,
+        place: &mut usize,
+    ) -> (bool, Option<Process>) {
+        let found = position_near(&self.configuration, *place, subject);
+        *place = found.unwrap_or(*place);
+        (found.is_some(), self.observer_of(ring, found, subject))
+    }
+
     fn may_observe(&self, process: &Process) -> bool {
         self.is_member(process)
+    }
+
+    fn may_any_observe_itself(&self) -> bool {
+        false
     }
 }

@@ -1,0 +1,9 @@
+use Rattle.std.proofs.Common.{◌∙◌, sym}
+use Rattle.rapid_rings.proofs.Following.{at_guess}
+use Rattle.rapid_rings.proofs.places.is_at.Goals as goal
+
+pub returns-in-Some-clause-place : goal.returns-in-Some-clause-place
+returns-in-Some-clause-place c is =
+    let h = c.in-Some.ensures.lookup in
+    rw (← c.members.ensures.value) (at_guess c.members.result.now c.args.process.now c.in-Some.member.now c.args.place
+    (rw c.members.ensures.value c.members.ensures.valid.identifiers) h.3.0 h.1 (sym c.eq.ensures ∙ is))
