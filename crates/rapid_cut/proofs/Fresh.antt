@@ -1,5 +1,5 @@
 -- Sets of reports that grow, and what was before.
-use Rattle.std.proofs.Common.{Option, None, ◌≡◌, ℕ, ◌≤◌, Bool, true, false, cond, not, ◌&&◌, ◌||◌, ◌==◌, List, [], ◌∷◌, ◌++◌, count_by, nat_le, refl, sym, ap, subst, ◌∙◌, Some, arith, eq-eqb}
+use Rattle.std.proofs.Common.{◌≡◌, ℕ, ◌≤◌, Bool, true, false, cond, not, ◌&&◌, ◌||◌, ◌==◌, List, [], ◌∷◌, ◌++◌, count_by, nat_le, refl, sym, ap, subst, ◌∙◌, Some, arith, eq-eqb}
 use Rattle.std.specs.Ordering.{eq_by_cmp}
 use Rattle.std.specs.Cmp.{both_ways}
 use Rattle.std.specs.FinSet as set
@@ -12,7 +12,7 @@ use Rattle.rapid_model.proofs.Closure.{count_mono}
 use Rattle.rapid_cut.specs.declared.mask.Masks.{Masks}
 use Rattle.rapid_cut.specs.declared.growing.Added.{Added}
 use Rattle.rapid_cut.specs.Known.{Known}
-use Rattle.rapid_cut.specs.Growing.{is_for, PutsMask, AddsRings, TakesOut, is_added, without_added, without_all, all_added, HaveGrown}
+use Rattle.rapid_cut.specs.Growing.{is_for, PutsMask, AddsRings, TakesOut, is_added, without_added, without_all, HaveGrown}
 use Rattle.rapid_alerts.specs.RingMasks.{has_ring}
 use Rattle.rapid_alerts.proofs.RingMasks.{no_ring}
 use Rattle.rapid_cut.proofs.Masks.{count_same}
@@ -36,18 +36,48 @@ without_none part r = set.same_set reports_total reports_exact _ _ (λ q. contai
 pub all_none : (r : Known) (xs : List Added) → xs ≡ [] → without_all r xs ≡ r
 all_none r xs e = ap (without_all r) e ∙ (λ i. record { direct = without_none (λ m. m.direct) r.direct i; all = without_none (λ m. m.all) r.all i })
 
--- what is added is noted after the others
-pub added_then : (part : Masks → ℕ) (first : Option Added) (xs : List Added) (a : Added) (q : Report) → is_added part (all_added first (xs ++ a ∷ [])) q ≡ (is_added part (all_added first xs) q || is_for a.subject (part a.rings) q)
-added_then part None xs a q =
-    list_any-append (λ (b : Added). is_for b.subject (part b.rings) q) xs (a ∷ []) ∙ ap (λ b. is_added part xs q || b) (or_false (is_for a.subject (part a.rings) q))
-added_then part (Some f) xs a q =
-    ap (λ b. is_for f.subject (part f.rings) q || b)
-    (list_any-append (λ (b : Added). is_for b.subject (part b.rings) q) xs (a ∷ []) ∙ ap (λ b. is_added part xs q || b) (or_false (is_for a.subject (part a.rings) q)))
-    ∙ turn (is_for f.subject (part f.rings) q) (is_added part xs q) (is_for a.subject (part a.rings) q)
+-- what is added is noted in front of the others, if nothing was noted last
+pub noted_first : (part : Masks → ℕ) (xs : List Added) (a : Added) (q : Report) → is_added part (a ∷ xs) q ≡ (is_added part xs q || is_for a.subject (part a.rings) q)
+noted_first part xs a q = turn (is_for a.subject (part a.rings) q) (is_added part xs q)
   where
-    turn : (a b c : Bool) → (a || (b || c)) ≡ ((a || b) || c)
-    turn true b c = refl
-    turn false b c = refl
+    turn : (a b : Bool) → (a || b) ≡ (b || a)
+    turn true true = refl
+    turn true false = refl
+    turn false true = refl
+    turn false false = refl
+
+-- what was noted last then goes behind the others
+pub noted_then : (part : Masks → ℕ) (last : Added) (xs : List Added) (a : Added) (q : Report) → is_added part (a ∷ (xs ++ last ∷ [])) q ≡ (is_added part (last ∷ xs) q || is_for a.subject (part a.rings) q)
+noted_then part last xs a q =
+    ap (λ b. is_for a.subject (part a.rings) q || b) (list_any-append (λ (b : Added). is_for b.subject (part b.rings) q) xs (last ∷ []))
+    ∙ turn (is_for a.subject (part a.rings) q) (is_added part xs q) (is_for last.subject (part last.rings) q)
+  where
+    turn : (a b c : Bool) → (a || (b || (c || false))) ≡ ((c || b) || a)
+    turn true true true = refl
+    turn true true false = refl
+    turn true false true = refl
+    turn true false false = refl
+    turn false true true = refl
+    turn false true false = refl
+    turn false false true = refl
+    turn false false false = refl
+
+-- on one process, what is added is noted with what was noted last
+pub noted_with : (part : Masks → ℕ) (last : Added) (xs : List Added) (a : Added) (rings : Masks) (q : Report) → last.subject ≡ a.subject → ((k : ℕ) → has_ring (part rings) k ≡ (has_ring (part last.rings) k || has_ring (part a.rings) k))
+    → is_added part (record { subject = a.subject; rings = rings } ∷ xs) q ≡ (is_added part (last ∷ xs) q || is_for a.subject (part a.rings) q)
+noted_with part last xs a rings q same h =
+    ap (λ b. (same_bytes a.subject q.0 && b) || is_added part xs q) (h q.1)
+    ∙ turn (same_bytes a.subject q.0) (has_ring (part last.rings) q.1) (has_ring (part a.rings) q.1) (is_added part xs q)
+    ∙ ap (λ (s : Process). ((same_bytes s q.0 && has_ring (part last.rings) q.1) || is_added part xs q) || is_for a.subject (part a.rings) q) (sym same)
+  where
+    turn : (s l a b : Bool) → ((s && (l || a)) || b) ≡ (((s && l) || b) || (s && a))
+    turn true true a b = refl
+    turn true false true true = refl
+    turn true false true false = refl
+    turn true false false true = refl
+    turn true false false false = refl
+    turn false l a true = refl
+    turn false l a false = refl
 
 -- on a process, the rings that are new are those of the reports that are not there
 pub new_for : (s : Process) (r : Reports) (mask rings fresh : ℕ) → ((k : ℕ) → set.contains r (s, k) ≡ has_ring mask k) → ((k : ℕ) → has_ring fresh k ≡ (has_ring rings k && not (has_ring mask k)))

@@ -1,5 +1,5 @@
 -- One pass over the processes adds what the direct reports imply.
-use Rattle.std.proofs.Common.{◌≡◌, ℕ, ◌+◌, ◌≤◌, ◌<◌, Bool, true, false, not, ◌==◌, ◌&&◌, ◌||◌, List, [], ◌∷◌, ◌++◌, length, take, drop, get_or, filter, zero, suc, add-one, refl, sym, ap, subst, ◌∙◌, Option, Some, None, ◌⊎◌, inl, inr, nat_lt, arith, eq-eqb, ne_eqb}
+use Rattle.std.proofs.Common.{◌≡◌, ℕ, ◌+◌, ◌≤◌, ◌<◌, Bool, true, false, not, ◌==◌, ◌&&◌, ◌||◌, List, [], ◌∷◌, ◌++◌, length, take, drop, get_or, filter, zero, suc, add-one, refl, sym, ap, subst, ◌∙◌, Option, Some, None, inl, inr, nat_lt, arith, eq-eqb, ne_eqb}
 use Rattle.std.specs.Cmp.{both_ways}
 use Rattle.std.specs.FinSet as set
 use Rattle.std.proofs.lemmas.Bool.{cases_eq}
@@ -9,13 +9,14 @@ use Rattle.rapid_model.specs.Process.{Process, is_in, same_bytes}
 use Rattle.rapid_model.specs.Ring.{Observers, AreObservers}
 use Rattle.rapid_model.specs.Reports.{Report, Reports, reaches_low, is_implied, subjects, reports}
 use Rattle.rapid_model.proofs.Orders.{reports_total, reports_exact, same_bytes_decides}
-use Rattle.rapid_rings.specs.Observing.{ObservesNobody}
+use Rattle.rapid_rings.specs.Observing.{ObservesNobody, NoneObservesItself}
 use Rattle.rapid_cut.specs.Closing.{AddsImplied, IsBetween, IsPassing, HaveCome, is_one_of, active}
 use Rattle.rapid_alerts.specs.RingMasks.{has_ring}
 use Rattle.rapid_cut.specs.Growing.{is_for, AddsRings}
 use Rattle.rapid_alerts.proofs.RingMasks.{no_ring}
 use Rattle.rapid_cut.proofs.Sets.{subject_of}
 use Rattle.rapid_cut.proofs.Closing.{both, and_true, or_split, or_left, or_right, ring_below, on_low}
+use Rattle.rapid_cut.proofs.Active.{low_active}
 use Rattle.rapid_cut.proofs.Joiners.{in_filter}
 use Rattle.rapid_cut.proofs.OnePass.{one_pass}
 
@@ -122,6 +123,15 @@ adds_implied t direct s old new mask rings at is adds =
 
 -- ---- the processes
 
+single : (ps : List Process) (p q : Process) → length ps ≡ 1 → is_in ps p ≡ true → is_in ps q ≡ true → p ≡ q
+single [] p q one h i = cc
+single (x ∷ []) p q one h i = (same_bytes_decides p x).0 (sym (or_false (same_bytes p x)) ∙ h) ∙ sym ((same_bytes_decides q x).0 (sym (or_false (same_bytes q x)) ∙ i))
+  where
+    or_false : (b : Bool) → (b || false) ≡ b
+    or_false true = refl
+    or_false false = refl
+single (x ∷ y ∷ ys) p q one h i = absurd (omega (arith, one))
+
 kept : (p : Process → Bool) (ss : List Process) (s : Process) → is_in ss s ≡ true → p s ≡ true → is_in (filter p ss) s ≡ true
 kept p ss s h k = in_filter p ss s ∙ and_true _ _ h k
 
@@ -152,6 +162,25 @@ passing_grown t direct all grown b come nobody =
     none_by : (k : ℕ) (s : Process) (o : Option Process) → t.observer k s ≡ o → is_one_of grown o ≡ true → ⊥
     none_by k s None e h = cc
     none_by k s (Some p) e h = nobody p h k s e
+
+-- one process alone has L, and none observes itself: nothing is implied, so nothing misses
+pub passing_alone : (t : Observers) (direct all : Reports) (ps : List Process) → AreObservers t → ps ≡ active t direct → length ps ≡ 1 → NoneObservesItself t → IsBetween t direct all → IsPassing t direct [] all
+passing_alone t direct all ps obs l one none b =
+    record {
+      between = b;
+      low = λ s h. cc;
+      rest = λ x h.
+          let a = both (nat_lt x.1 t.params.k && reaches_low t direct (Some x.0)) (reaches_low t direct (t.observer x.1 x.0)) h in
+          let low = (both (nat_lt x.1 t.params.k) (reaches_low t direct (Some x.0)) a.0).1 in
+          absurd (alone x.1 x.0 (t.observer x.1 x.0) refl low a.1);
+    }
+  where
+    among : (s : Process) → reaches_low t direct (Some s) ≡ true → is_in ps s ≡ true
+    among s low = ap (λ qs. is_in qs s) l ∙ sym (low_active t direct s obs) ∙ low
+
+    alone : (k : ℕ) (s : Process) (o : Option Process) → t.observer k s ≡ o → reaches_low t direct (Some s) ≡ true → reaches_low t direct o ≡ true → ⊥
+    alone k s None e low by = cc
+    alone k s (Some p) e low by = none k s (e ∙ ap Some (single ps p s one (among p by) (among s low)))
 
 -- one more that observes nobody
 pub nobody_more : (t : Observers) (ps : List Process) (i : ℕ) (p : Process) → i < length ps → p ≡ get_or ps i p → ObservesNobody t p → ((o : Process) → is_in (take i ps) o ≡ true → ObservesNobody t o)

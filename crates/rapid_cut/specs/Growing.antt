@@ -39,14 +39,14 @@ without_added part r xs = set.retain r (λ x. not (is_added part xs x))
 abbrev pub without_all : Known → List Added → Known
 without_all r xs = record { direct = without_added (λ m. m.direct) r.direct xs; all = without_added (λ m. m.all) r.all xs }
 
--- All that was added: the first addition, if there is one, and the others.
+-- All that was added: the last addition, if there is one, and the others.
 abbrev pub all_added : Option Added → List Added → List Added
 all_added None xs = xs
 all_added (Some a) xs = a ∷ xs
 
 -- What was known before.
 abbrev pub before : GrowingReports → Known
-before g = without_all g.reports (all_added g.first g.others.items)
+before g = without_all g.reports (all_added g.last g.others.items)
 
 -- These processes are those that have at least L reports now and had not.
 pub record HaveGrown (t : Observers) (old new : Reports) (grown : List Process) : Type 0 where

@@ -1,12 +1,12 @@
 // The reports that a set implies.
 
-ghost use Rattle.std.specs.Prelude.{◌≡◌, ℕ, true, false, not, ◌&&◌, ◌||◌, ◌==◌, ◌<◌, count_by, nat_le, Some, IfOk, OnOk};
+ghost use Rattle.std.specs.Prelude.{◌≡◌, ℕ, true, false, not, ◌&&◌, ◌||◌, ◌==◌, ◌<◌, length, count_by, nat_le, Some, IfOk, OnOk};
 ghost use Rattle.std.specs.List.Sorted.{IsStrictlySortedBy};
 ghost use Rattle.rapid_model.specs.Process.{Process as Bytes, process_cmp, is_in};
 ghost use Rattle.rapid_model.specs.Ring.{AreObservers, rings};
 ghost use Rattle.rapid_model.specs.Reports as model;
 ghost use Rattle.rapid_model.specs.Limits.{most_rings};
-ghost use Rattle.rapid_rings.specs.Observing.{ObservesNobody};
+ghost use Rattle.rapid_rings.specs.Observing.{ObservesNobody, NoneObservesItself};
 ghost use Rattle.rapid_cut.specs.Closing.{AddsImplied, IsBetween, IsPassing, HaveCome, active as active_of};
 ghost use Rattle.rapid_cut.specs.Growing.{before};
 ghost use Rattle.rapid_alerts.specs.RingMasks.{has_ring};
@@ -62,16 +62,19 @@ fn reaches_low<T: ObserverTable>(table: &T, reports: &KnownReports, subject: &Pr
     is_low(table, reports.on(subject).direct)
 }
 
-/// Whether the process has an observer on the ring that has at least L direct reports.
+/// Whether the process has an observer on the ring that has at least L direct reports. It is looked
+/// for at the place first.
 fn is_observer_low<T: ObserverTable>(
     table: &T,
     reports: &KnownReports,
     subject: &Process,
     ring: u8,
+    place: &mut usize,
 ) -> bool
     ensures { result ≡ model.reaches_low (T.observers table.now) reports.now.direct ((T.observers table.now).observer ring subject.now) }
 {
-    match table.observer(ring, subject) {
+    let (_, observer) = table.member_and_observer_near(ring, subject, place);
+    match observer {
         Some(observer) => reaches_low(table, reports, &observer),
         None => false,
     }
@@ -101,8 +104,11 @@ fn implied_rings<T: ObserverTable>(
     ensures { (k : ℕ) → has_ring result k ≡ (not (has_ring mask k) && model.is_implied (T.observers table.now) reports.now.direct (subject.now, k)) }
 {
     let mut implied = 0;
+    // the subject is searched for once, and not once a ring
+    let mut place = usize::MAX;
     for ring in 0..table.params().k() {
-        let is_added = !has_bit(mask, ring) && is_observer_low(table, reports, subject, ring);
+        let is_added = !has_bit(mask, ring)
+            && is_observer_low(table, reports, subject, ring, &mut place);
         implied = with_ring(implied, ring, is_added);
     }
     implied
@@ -160,8 +166,17 @@ fn may_any_observe<T: ObserverTable>(table: &T, processes: &[Process]) -> bool
     false
 }
 
+/// Whether there is one process alone, and no process is its own observer. False says nothing.
+fn is_alone<T: ObserverTable>(table: &T, processes: &[Process]) -> bool
+    ensures one { result ≡ true → length processes.now ≡ 1 }
+    ensures none { result ≡ true → NoneObservesItself (T.observers table.now) }
+{
+    processes.len() == 1 && !table.may_any_observe_itself()
+}
+
 /// Adds all that the direct reports imply once these processes came to L. `active` are all that
-/// have as many. If they observe nobody, only reports on them are missing.
+/// have as many. If there is one alone, which does not observe itself, nothing is implied. If those
+/// that came to L observe nobody, only reports on them are missing.
 pub fn close_grown<T: ObserverTable>(
     table: &T,
     active: &[Process],
@@ -176,6 +191,9 @@ pub fn close_grown<T: ObserverTable>(
     ensures all { OnOk result (known.new.reports.all ≡ model.reports (T.observers table.now) known.old.reports.direct) }
     ensures before { before known.new ≡ before known.old }
 {
+    if is_alone(table, active) {
+        return close(table, &[], known);
+    }
     if may_any_observe(table, grown) {
         close(table, active, known)
     } else {

@@ -25,8 +25,8 @@ struct Added {
 pub struct GrowingReports {
     /// All that are known.
     pub reports: KnownReports,
-    // what was added first, and what was added then
-    first: Option<Added>,
+    // what was added last, and what was added before that
+    last: Option<Added>,
     others: Vec<Added>,
 }
 
@@ -39,7 +39,7 @@ impl GrowingReports {
     {
         GrowingReports {
             reports: KnownReports::new(alloc),
-            first: None,
+            last: None,
             others: Vec::new(alloc),
         }
     }
@@ -56,7 +56,7 @@ impl GrowingReports {
             subject: *subject,
             rings: rings.without(so_far),
         };
-        note(&mut self.first, &mut self.others, added)?;
+        note_joined(&mut self.last, &mut self.others, added)?;
         self.reports.put(subject, so_far.with(rings))?;
         Ok(())
     }
@@ -66,7 +66,7 @@ impl GrowingReports {
         ensures reports { self.new.reports ≡ self.old.reports }
         ensures kept { before self.new ≡ self.new.reports }
     {
-        self.first = None;
+        self.last = None;
         self.others.clear();
     }
 
@@ -75,11 +75,11 @@ impl GrowingReports {
         ensures reports { self.new.reports ≡ before self.old }
         ensures kept { before self.new ≡ self.new.reports }
     {
-        if let Some(added) = self.first {
+        if let Some(added) = self.last {
             self.reports.take_out(&added.subject, added.rings);
         }
         take_out(&mut self.reports, self.others.as_slice());
-        self.first = None;
+        self.last = None;
         self.others.clear();
     }
 
@@ -91,7 +91,7 @@ impl GrowingReports {
     {
         Ok(GrowingReports {
             reports: self.reports.try_copy(alloc)?,
-            first: None,
+            last: None,
             others: Vec::new(alloc),
         })
     }
@@ -106,15 +106,36 @@ fn take_out(reports: &mut KnownReports, others: &[Added])
     }
 }
 
-/// Notes what is added.
-fn note(first: &mut Option<Added>, others: &mut Vec<Added>, added: Added) -> Result<(), AllocError>
-    ensures more { OnOk result ((part : masks.Masks → ℕ) (x : Report) → is_added part (all_added first.new others.new.items) x ≡ (is_added part (all_added first.old others.old.items) x || is_for added.subject (part added.rings) x)) }
-    ensures unchanged { OnErr result (all_added first.new others.new.items ≡ all_added first.old others.old.items) }
+/// Notes what is added, on the process that was noted last with what was noted there.
+fn note_joined(
+    last: &mut Option<Added>,
+    others: &mut Vec<Added>,
+    added: Added,
+) -> Result<(), AllocError>
+    ensures direct { OnOk result ((x : Report) → is_added (λ m. m.direct) (all_added last.new others.new.items) x ≡ (is_added (λ m. m.direct) (all_added last.old others.old.items) x || is_for added.subject added.rings.direct x)) }
+    ensures all { OnOk result ((x : Report) → is_added (λ m. m.all) (all_added last.new others.new.items) x ≡ (is_added (λ m. m.all) (all_added last.old others.old.items) x || is_for added.subject added.rings.all x)) }
+    ensures unchanged { OnErr result (all_added last.new others.new.items ≡ all_added last.old others.old.items) }
 {
-    if first.is_none() {
-        *first = Some(added);
-        return Ok(());
+    if let Some(noted) = *last {
+        if noted.subject == added.subject {
+            *last = Some(Added {
+                subject: added.subject,
+                rings: noted.rings.with(added.rings),
+            });
+            return Ok(());
+        }
     }
-    others.push(added)?;
+    note(last, others, added)
+}
+
+/// Notes what is added.
+fn note(last: &mut Option<Added>, others: &mut Vec<Added>, added: Added) -> Result<(), AllocError>
+    ensures more { OnOk result ((part : masks.Masks → ℕ) (x : Report) → is_added part (all_added last.new others.new.items) x ≡ (is_added part (all_added last.old others.old.items) x || is_for added.subject (part added.rings) x)) }
+    ensures unchanged { OnErr result (all_added last.new others.new.items ≡ all_added last.old others.old.items) }
+{
+    if let Some(noted) = *last {
+        others.push(noted)?;
+    }
+    *last = Some(added);
     Ok(())
 }

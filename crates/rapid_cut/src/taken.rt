@@ -26,13 +26,13 @@ use std::alloc::{AllocError, Global};
 
 /// Whether the alert is well-formed. Then its ring exists, its observer is that ring's, and its
 /// configuration is the table's. And its kind is Remove exactly if the subject is a member. Also
-/// whether the subject is a member.
-fn check<T: ObserverTable>(table: &T, alert: &Alert) -> (bool, bool)
+/// whether the subject is a member. It is looked for at the place first.
+fn check<T: ObserverTable>(table: &T, alert: &Alert, place: &mut usize) -> (bool, bool)
     ensures value { result.0 ≡ model.is_well_formed (T.observers table.now) (alert_of alert.now) }
     ensures ring { result.0 ≡ true → alert.now.ring < most_rings }
     ensures member { result.1 ≡ (T.observers table.now).is_member alert.now.subject }
 {
-    let (member, observer) = table.member_and_observer(alert.ring, &alert.subject);
+    let (member, observer) = table.member_and_observer_near(alert.ring, &alert.subject, place);
     let fits = match alert.kind {
         Kind::Remove => member,
         Kind::Join => !member,
@@ -148,12 +148,13 @@ fn put<T: ObserverTable>(
     Ok(())
 }
 
-/// Takes the alert or leaves it; whether it was taken.
+/// Takes the alert or leaves it; whether it was taken. Its subject is looked for at the place first.
 fn take<T: ObserverTable>(
     table: &T,
     known: &mut GrowingReports,
     joiners: &mut usize,
     grown: &mut Vec<Process>,
+    place: &mut usize,
     alert: &Alert,
 ) -> Result<bool, AllocError>
     requires joiners { joiners.old ≡ length (detector.joiners (T.observers table.now) known.old.reports.direct) }
@@ -166,7 +167,7 @@ fn take<T: ObserverTable>(
     ensures grown { OnOk result ((start : Reports) → HaveGrown (T.observers table.now) start known.old.reports.direct grown.old.items → HaveGrown (T.observers table.now) start known.new.reports.direct grown.new.items) }
     ensures before { before known.new ≡ before known.old }
 {
-    let (well_formed, member) = check(table, alert);
+    let (well_formed, member) = check(table, alert, place);
     if !well_formed {
         return Ok(false);
     }
@@ -218,9 +219,11 @@ pub fn take_all<T: ObserverTable, A: InTurn>(
     let mut joiners = joiners;
     let mut count = 0;
     let mut grown = Vec::new(alloc);
+    // where the last subject was found: alerts on one subject mostly come one after the other
+    let mut found = usize::MAX;
     for place in 0..alerts.count() {
         let alert = alerts.at(place);
-        if take(table, known, &mut joiners, &mut grown, &alert)? {
+        if take(table, known, &mut joiners, &mut grown, &mut found, &alert)? {
             count += 1;
         }
     }

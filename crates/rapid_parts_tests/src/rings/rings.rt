@@ -37,6 +37,8 @@ enum Call<'a> {
     Subject(u8, u16, u16),
     /// By one search, whether on a ring a process is a member, and its observer.
     Search(u8, u16, bool, u16),
+    /// From a place on, whether each of these processes is a member, and its observers.
+    Near(usize, &'a [u16]),
     /// The rings of a configuration of these members that follows, and who observes whom there.
     Next(&'a [Name], &'a [Edge]),
 }
@@ -73,6 +75,7 @@ fn tell(rings: &Rings, configuration: &Configuration) -> bool {
         && rings.id() == configuration.id()
         && rings.is_member(&process(2))
         && !rings.is_member(&process(6))
+        && !rings.may_any_observe_itself()
 }
 
 /// Whether on the next rings each one observes the other, process 1 has three subjects, and they
@@ -105,6 +108,29 @@ fn is_found(rings: &Rings, ring: u8, subject: u16, is_member: bool, observer: u1
     found == is_member && is_numbered(by, observer)
 }
 
+/// Whether a search from a place on finds what one without a place does, on three rings and on one
+/// that there is not.
+fn is_near(rings: &Rings, subject: &Process, place: &mut usize) -> bool {
+    for ring in 0..4 {
+        let (found, by) = rings.member_and_observer_near(ring, subject, place);
+        if found != rings.is_member(subject) || by != rings.observer(ring, subject) {
+            return false;
+        }
+    }
+    true
+}
+
+/// Whether each of these is found so, one after the other, the first from this place on.
+fn are_near(rings: &Rings, first: usize, subjects: &[u16]) -> bool {
+    let mut place = first;
+    for subject in subjects {
+        if !is_near(rings, &process(*subject), &mut place) {
+            return false;
+        }
+    }
+    true
+}
+
 /// Whether a call answers as it has to.
 fn answers(alloc: Global, rings: &Rings, call: &Call) -> Result<bool, ConfigError> {
     match call {
@@ -118,6 +144,7 @@ fn answers(alloc: Global, rings: &Rings, call: &Call) -> Result<bool, ConfigErro
         Call::Search(ring, subject, is_member, observer) => {
             Ok(is_found(rings, *ring, *subject, *is_member, *observer))
         }
+        Call::Near(place, subjects) => Ok(are_near(rings, *place, subjects)),
         Call::Next(names, edges) => follow(alloc, rings, names, edges),
     }
 }
@@ -298,6 +325,20 @@ const SEARCHES: [Call; 2] = [Call::Search(1, 4, true, 2), Call::Search(2, 6, fal
 #[test]
 fn one_search_tells_members_and_observers(rt: HostRuntime) -> Result<(), Fail> {
     runs(rt.alloc(), THREE, &FIVE, &SEARCHES)
+}
+
+// Members and two joiners, from right places and from wrong ones.
+const NEAR: [Call; 5] = [
+    Call::Near(0, &[1, 2, 3, 4, 5, 6, 1]),
+    Call::Near(4, &[5, 5, 1, 7, 7, 2]),
+    Call::Near(2, &[1, 6, 4]),
+    Call::Near(5, &[3, 3]),
+    Call::Near(usize::MAX, &[6, 2]),
+];
+
+#[test]
+fn any_place_to_search_from_answers_the_same(rt: HostRuntime) -> Result<(), Fail> {
+    runs(rt.alloc(), THREE, &FIVE, &NEAR)
 }
 
 const OF_SIXTEEN: [Name; 4] = [(1, 1), (2, 2), (300, 300), (65_535, 65_535)];

@@ -2,6 +2,7 @@
 
 use crate::numbered::{Marks, is_numbered, process};
 use rapid_config::{ConfigId, Params};
+use rapid_endpoint::Process;
 use rapid_rings::{ObserverTable, Table, TableError};
 use std::alloc::Global;
 use std::test::Fail;
@@ -35,6 +36,14 @@ fn fill(table: &mut Table) -> bool {
     true
 }
 
+/// Whether on a ring a process is a member or not, and has this observer, also if it is looked for at
+/// a place first.
+fn are_found(table: &Table, ring: u8, subject: &Process, (is_member, number): (bool, u16)) -> bool {
+    let (found, by) = table.member_and_observer(ring, subject);
+    let (found_near, by_near) = table.member_and_observer_near(ring, subject, &mut 7);
+    found == is_member && is_numbered(by, number) && found_near == found && by_near == by
+}
+
 /// Whether a call answers as it has to.
 fn answers(table: &mut Table, call: &Call) -> bool {
     match call {
@@ -47,10 +56,13 @@ fn answers(table: &mut Table, call: &Call) -> bool {
         }
         Call::Member(number, is_member) => table.is_member(&process(*number)) == *is_member,
         Call::Search(ring, subject, is_member, number) => {
-            let (found, by) = table.member_and_observer(*ring, &process(*subject));
-            found == *is_member && is_numbered(by, *number)
+            are_found(table, *ring, &process(*subject), (*is_member, *number))
         }
-        Call::Bare(k) => table.params().k() == *k && table.id() == ConfigId::new([0; 32]),
+        Call::Bare(k) => {
+            table.params().k() == *k
+                && table.id() == ConfigId::new([0; 32])
+                && table.may_any_observe_itself()
+        }
         Call::Fill => fill(table),
     }
 }
