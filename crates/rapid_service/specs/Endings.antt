@@ -1,5 +1,5 @@
 -- Whether a node goes on, and why it ends.
-use Rattle.std.specs.Prelude.{Bool, true, false, Option, Some, None}
+use Rattle.std.specs.Prelude.{Bool, true, false, Option, None}
 use Rattle.rapid_service.specs.declared.ending.State.{State}
 use Rattle.rapid_service.specs.declared.ending.State.TheVariants.{Running, Ending}
 use Rattle.rapid_service.specs.declared.fault.RunningFault.{RunningFault}

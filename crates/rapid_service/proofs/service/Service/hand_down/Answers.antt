@@ -1,4 +1,4 @@
-use Rattle.std.proofs.Common.{refl, [], sym, subst, take, ap, ◌∙◌, arith}
+use Rattle.std.proofs.Common.{refl, [], sym, subst, take, ap, arith}
 use Rattle.std.proofs.lemmas.List.{take_all}
 use Rattle.rapid_service.specs.HandingOn.{down_on, downs_from}
 use Rattle.rapid_service.specs.Stepping.{StepsAll}
