@@ -83,9 +83,7 @@ def try_alone(crate, name, pairs):
         last = tree.last_line(ran.stdout)
         if ran.returncode == 1 and (ONLY.fullmatch(last) or last.startswith("logic=not-proved")):
             return ""
-        if ran.returncode not in (0, 2):
-            return f"the prover cannot read it: {ran.stdout[-600:]}"
-    return "the crate is still proved"
+    return "the crate is still proved" if not ran.returncode else f"the prover cannot read it: {ran.stdout[-600:]}"
 
 
 def tree_with_proofs(room, name):
