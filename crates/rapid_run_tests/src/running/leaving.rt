@@ -34,7 +34,7 @@ struct Place {
 }
 
 /// A place at a port.
-fn place(alloc: Global, port: u16) -> Place {
+fn place_at(alloc: Global, port: u16) -> Place {
     Place {
         port,
         printed: Mutex::new(Vec::new(alloc)),
@@ -121,8 +121,8 @@ fn leave<R: Wait + Clock>(rt: &R, stays: &Place, leaves: &Place) -> Result<(), &
 fn one_of_two_leaves(rt: HostRuntime) -> Result<(), Fail> {
     let alloc = rt.alloc();
     let params = Params::new(3, 3, 1)?;
-    let stays = place(alloc, STAYS);
-    let leaves = place(alloc, LEAVES);
+    let stays = place_at(alloc, STAYS);
+    let leaves = place_at(alloc, LEAVES);
     let (rt, stays, leaves) = (&rt, &stays, &leaves);
     thread::scope(thread::scope_env(), rt, |scope| {
         let _ = scope.spawn(move || run(rt, alloc, params, stays));
