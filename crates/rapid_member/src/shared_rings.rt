@@ -85,4 +85,8 @@ impl ObserverTable for SharedRings {
     fn may_observe(&self, process: &Process) -> bool {
         self.rings.may_observe(process)
     }
+
+    fn may_any_observe_itself(&self) -> bool {
+        self.rings.may_any_observe_itself()
+    }
 }

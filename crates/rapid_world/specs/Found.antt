@@ -1,19 +1,13 @@
 -- The keys by which the peers of a world are found.
-use Rattle.std.proofs.Common.{ap}
-use Rattle.std.specs.Prelude.{◌≡◌, ℕ, Bool, true, ◌&&◌, List, [], ◌∷◌, map, filter, position, is_some, IsTrue, slice_get, Option, Some}
+use Rattle.std.specs.Prelude.{◌≡◌, ℕ, Bool, true, ◌&&◌, List, map, filter, position, is_some, slice_get, Option, Some}
 use Rattle.std.specs.List.{list_any}
 use Rattle.std.specs.Coded.{Coded, coded_ℕ}
 use Rattle.std.specs.FinMap as finmap
-use Rattle.rapid_model.proofs.Orders.{same_bytes_decides}
 use Rattle.rapid_model.specs.Bytes.{Identifier}
 use Rattle.rapid_model.specs.Codes.{bytes_code}
 use Rattle.rapid_model.specs.InOrder.{in_order}
 use Rattle.rapid_model.specs.Process.{bytes_cmp, same_bytes, identifier, endpoint}
 use Rattle.rapid_model.specs.World.{Peer, is_running, has_identifier}
-
--- Equal keys are hashed alike.
-pub same_input : (x y : List ℕ) → IsTrue (same_bytes x y) → ◌≡◌ {A = List (List ℕ)} (x ∷ []) (y ∷ [])
-same_input x y h = ap (λ (z : List ℕ). let l : List (List ℕ) = z ∷ [] in l) ((same_bytes_decides x y).0 h)
 
 -- Places by identifiers, or by endpoints.
 abbrev pub Places : Type 0

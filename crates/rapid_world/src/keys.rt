@@ -4,7 +4,7 @@ ghost use Rattle.std.specs.Prelude.{◌≡◌, [], ◌∷◌};
 ghost use Rattle.std.specs.Cmp.{partial_equiv_from_equiv};
 ghost use Rattle.std.proofs.lemmas.Cmp.{nat_list_cmp_total, eq_by_cmp_equiv};
 ghost use Rattle.rapid_model.specs.Process.{same_bytes};
-ghost use Rattle.rapid_world.specs.Found.{same_input};
+ghost use Rattle.rapid_config.specs.Endpoints.{same_input};
 
 use rapid_endpoint::ProcessId;
 use std::hash::{Hash, Hasher};
