@@ -86,22 +86,17 @@ def try_alone(crate, name, pairs):
     return "the crate is still proved" if not ran.returncode else f"the prover cannot read it: {ran.stdout[-600:]}"
 
 
-def tree_with_proofs(room, name):
-    """A tree of a crate over its libraries, with what a proof of it leaves: that of the last one, or of one now."""
+def tree_of_mutants(room, name):
+    """A tree of a crate over its libraries, with a copy of what its last proof left, if it was proved here."""
     crate = prove.tree_over_libraries(room, name)
     shutil.rmtree(crate / "out/incremental", ignore_errors=True)
-    kept = prove.out_of(name) / "incremental"
-    if not kept.is_dir():
-        tree.rt(["check", "--jobs", "1"], crate)
-        tree.copied(crate / "out/incremental", kept)
-        shutil.rmtree(crate / "out/incremental", ignore_errors=True)
-    tree.copied(kept, crate / "out/incremental", shutil.copy)
+    tree.copied(prove.out_of(name) / "incremental", crate / "out/incremental", shutil.copy)
     return crate
 
 
 def try_mutants(room, name):
     """Tries a crate's mutants; how many are refused, and what is wrong with each other."""
-    crate = tree_with_proofs(room / f"{name}-mutants", name)
+    crate = tree_of_mutants(room / f"{name}-mutants", name)
     given = {it.stem: twins.pairs_of(it) for it in mutants_of(name)}
     made = {stem: (twin, pairs) for stem, pairs in given.items() if (twin := twins.twin_of(crate, stem, pairs))}
     refused = try_twins(crate, made) if made else set()
@@ -126,13 +121,13 @@ def run(words):
     tree.note(f"the mutants of {len(chosen)} crates are tried{agree}")
     prove.ROOM.mkdir(exist_ok=True)
     with tempfile.TemporaryDirectory(dir=prove.ROOM) as room:
-        needed = {low for name in chosen for low in [*tree.below(name), name]}
+        needed = {low for name in chosen for low in tree.below(name)}
         tasks = prove.tasks_over_kept([it for it in tree.LINES if it in needed], Path(room))
         for name in chosen:
-            waits = [it for it in [*tree.below(name), name] if it in tasks]
+            waits = [it for it in tree.below(name) if it in tasks]
 
             def call(jobs, name=name):
-                lacking = [it for it in [*tree.below(name), name] if not prove.is_proved(it)]
+                lacking = [it for it in tree.below(name) if not prove.is_proved(it)]
                 return not lacking and try_mutants(Path(room), name)
 
             tasks[f"{name} mutants"] = waits, call

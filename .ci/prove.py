@@ -100,8 +100,8 @@ def prove(room, name, jobs):
 
 
 def prove_anew(room, name, jobs):
-    """Has rt ci prove a library in a tree of no more crates than it needs: what it proved is kept for the run over all."""
-    tree.write_tree(room / name, [*tree.below(name), name], copy=shutil.copy)
+    """Has rt ci prove a crate in a tree of no more crates than it needs: what it proved is kept for the run over all."""
+    tree.write_tree(room / name, [*tree.below(name), name], (*tree.SOURCES, *tree.FILES_OF_A_RUN), shutil.copy)
     ran = tree.rt(["ci"], room / name, env={**os.environ, **({"RT_JOBS": "1"} if jobs == 1 else {})})
     shutil.rmtree(room / name)
     if ran.returncode:
@@ -125,8 +125,7 @@ def tasks_of(names, room, prover):
 
 
 def tasks_from_nothing(names, room):
-    libraries = [it for it in names if (tree.TOP / "crates" / it / "src/lib.rt").is_file() and it not in tree.NATIVE]
-    return tasks_of(libraries, room, prove_anew)
+    return tasks_of(names, room, prove_anew)
 
 
 def tasks_over_kept(names, room):

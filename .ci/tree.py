@@ -12,6 +12,7 @@ from pathlib import Path
 
 TOP = Path(__file__).resolve().parent.parent
 SOURCES = ("src", "specs", "proofs")
+FILES_OF_A_RUN = ("stdin", "stdout", "args", "status", "data")
 MEMORY = 4_000_000_000  # of one check, in bytes
 NATIVE = ("rapid_slow_tests",)  # tests that ./check has LLVM build
 APART = ("rapid_bench", "rapid_reference")  # programs on which no promise rests
