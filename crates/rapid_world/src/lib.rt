@@ -17,6 +17,7 @@ mod peers;
 mod places;
 mod recipients;
 mod report;
+mod room;
 mod runs;
 mod sending;
 mod steps;

@@ -100,6 +100,7 @@ impl World {
         self.seek(number);
         match self.arrival(number) {
             Ok((place, message)) => {
+                self.aim(place);
                 self.hand(WorldEvent::Deliver(number), place, &Event::Receive(message))
             }
             Err(error) => Err(error),

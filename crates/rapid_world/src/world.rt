@@ -20,11 +20,12 @@ ghost use Rattle.rapid_world.specs.Framed.{framed_packet, HasFrame};
 ghost use Rattle.rapid_world.specs.Handed.{crash_of};
 ghost use Rattle.rapid_world.specs.Worlds.{IsRunOf};
 
-use crate::mail::{Mail, push_within};
+use crate::mail::Mail;
 use crate::outcome::{has_outcome, is_marked};
 use crate::peer::Peer;
 use crate::peers::Nodes;
 use crate::report::Report;
+use crate::room::ReportRoom;
 use crate::stored::Stored;
 use crate::{WorldError, WorldEvent};
 use rapid_config::{ConfigId, Configuration};
@@ -43,6 +44,8 @@ pub struct World {
     stored: Stored,
     peers: Nodes,
     mail: Mail,
+    // for what the next step reports
+    room: ReportRoom,
     alloc: Global,
 }
 
@@ -74,6 +77,7 @@ impl World {
             stored: Stored::new(alloc, founding),
             peers,
             mail: Mail::new(alloc),
+            room: ReportRoom::new(alloc),
             alloc,
         }
     }
@@ -111,6 +115,14 @@ impl World {
         ensures { self.new ≡ self.old }
     {
         self.mail.seek(packet);
+    }
+
+    /// The node at a place takes a packet. So who runs at the endpoint of the next one is mostly found
+    /// at once. Nothing else changes.
+    pub(crate) fn aim(&mut self, place: usize)
+        ensures { self.new ≡ self.old }
+    {
+        self.peers.aim(place);
     }
 
     /// What it stores.
@@ -151,13 +163,13 @@ impl World {
         ensures unchanged { OnErr result (self.new ≡ self.old) }
     {
         self.stored.reserve()?;
-        let reports = Vec::with_capacity(self.alloc, 1)?;
+        self.room.reserve()?;
         // a node whose history is full halts without a mark, also if it had no memory to find out
         let has_outcome = has_outcome(self.peers.as_slice()[place].node(), taken)?;
         let told = self.peers.hand(place, &mut self.mail, taken)?;
         let mark = is_marked(told.halts, has_outcome);
         self.stored.push(&event, place, mark);
-        Ok(with_report(reports, told.report))
+        Ok(self.room.take(told.report))
     }
 
     /// The node at a place crashes by this event, which is stored.
@@ -210,20 +222,9 @@ impl World {
         ensures unchanged { OnErr result (self.new ≡ self.old) }
     {
         self.stored.reserve()?;
-        let reports = Vec::with_capacity(self.alloc, 1)?;
+        self.room.reserve()?;
         let told = self.peers.probe(place, ring, ok, observed)?;
         self.stored.push(&event, place, told.halts);
-        Ok(with_report(reports, told.report))
+        Ok(self.room.take(told.report))
     }
-}
-
-/// The reports with one more, if there is one.
-fn with_report(mut reports: Vec<Report>, report: Option<Report>) -> Vec<Report>
-    requires { vec_len reports < vec_capacity reports }
-    ensures { result.items ≡ reports.items ++ option_to_list report }
-{
-    if let Some(report) = report {
-        push_within(&mut reports, report);
-    }
-    reports
 }
