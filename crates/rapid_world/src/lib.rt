@@ -3,6 +3,7 @@
 //! contract.
 #![tactic(auto)]
 
+mod arrived;
 mod error;
 mod event;
 mod founding;

@@ -20,6 +20,7 @@ ghost use Rattle.rapid_world.specs.Framed.{framed_packet, HasFrame};
 ghost use Rattle.rapid_world.specs.Handed.{crash_of};
 ghost use Rattle.rapid_world.specs.Worlds.{IsRunOf};
 
+use crate::arrived::Arrived;
 use crate::mail::Mail;
 use crate::outcome::{has_outcome, is_marked};
 use crate::peer::Peer;
@@ -34,6 +35,7 @@ use rapid_node::Event;
 use rapid_safety::runs_hold;
 use std::alloc::{AllocError, Global};
 use std::marker::Model;
+use std::mem;
 
 /// A world of many nodes and the packets between them, which runs by events. Its value is how it
 /// was founded, and the events that it accepted. Each has a mark whether its node halted in it
@@ -46,6 +48,8 @@ pub struct World {
     mail: Mail,
     // for what the next step reports
     room: ReportRoom,
+    // the message that came last: mostly the next one that comes is the same
+    last: Option<Box<Arrived>>,
     alloc: Global,
 }
 
@@ -78,6 +82,7 @@ impl World {
             peers,
             mail: Mail::new(alloc),
             room: ReportRoom::new(alloc),
+            last: None,
             alloc,
         }
     }
@@ -123,6 +128,20 @@ impl World {
         ensures { self.new ≡ self.old }
     {
         self.peers.aim(place);
+    }
+
+    /// Takes out the message that came last. Nothing else changes.
+    pub(crate) fn take_last(&mut self) -> Option<Box<Arrived>>
+        ensures { self.new ≡ self.old }
+    {
+        mem::replace(&mut self.last, None)
+    }
+
+    /// Keeps the message that came last. Nothing else changes.
+    pub(crate) fn keep_last(&mut self, arrived: Box<Arrived>)
+        ensures { self.new ≡ self.old }
+    {
+        self.last = Some(arrived);
     }
 
     /// What it stores.

@@ -1,4 +1,4 @@
-use Rattle.std.proofs.Common.{◌≡◌, ◌&&◌, List, Some, subst, ◌∙◌}
+use Rattle.std.proofs.Common.{◌≡◌, ◌&&◌, List, Some, subst}
 use Rattle.std.specs.Prelude.{position}
 use Rattle.rapid_model.specs.World.{Peer, is_running, has_endpoint}
 use Rattle.rapid_world.specs.Found.{RunsAt}
