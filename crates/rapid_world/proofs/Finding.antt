@@ -19,7 +19,7 @@ use Rattle.rapid_model.specs.Edge.{probed}
 use Rattle.rapid_model.specs.WorldStep.{added, edge_on, with_edge}
 use Rattle.rapid_safety.proofs.Histories.{get_set, get_push}
 use Rattle.rapid_safety.proofs.Lived.{get_map, apart_names}
-use Rattle.rapid_world.specs.Found.{Places, AreFound, IsOnlyAt, IsNew}
+use Rattle.rapid_world.specs.Found.{Places, AreFound, IsOnlyAt, RunsAt, IsNew}
 use Rattle.rapid_world.specs.Handed.{handed, told, stepped, KeepsAt}
 
 differ : {b : Bool} → b ≡ true → b ≡ false → ⊥
@@ -171,6 +171,12 @@ module _ (ids ends : Places) (ps : List Peer) (are : AreFound ids ends ps) where
   end_only e i p at ok =
       let r = and_parts (is_running p) (has_endpoint e p) ok in
       ap (finmap.get ends) ((same_bytes_decides e (endpoint p.node.me)).0 r.1) ∙ are.endpoints i p at r.0
+
+  -- a place at which one was seen to run there
+  pub near_is : (e : List ℕ) (i : ℕ) → RunsAt ps e i → Some i ≡ position (λ p. is_running p && has_endpoint e p) ps
+  near_is e i r =
+      sym (position_there (λ p. is_running p && has_endpoint e p) ps i r.peer r.at r.runs
+      (λ j q at ok. sym (end_only e i r.peer r.at r.runs) ∙ end_only e j q at ok))
 
   -- a place more by an identifier that no peer has
   pub id_more : (p : Peer) (n : ℕ) → IsNew ps p → AreFound (finmap.insert ids (identifier p.node.me) n) ends ps

@@ -3,11 +3,11 @@ use Rattle.std.specs.Prelude.{◌≡◌, ℕ, Bool, true, ◌&&◌, List, map, f
 use Rattle.std.specs.List.{list_any}
 use Rattle.std.specs.Coded.{Coded, coded_ℕ}
 use Rattle.std.specs.FinMap as finmap
-use Rattle.rapid_model.specs.Bytes.{Identifier}
+use Rattle.rapid_model.specs.Bytes.{Identifier, Endpoint}
 use Rattle.rapid_model.specs.Codes.{bytes_code}
 use Rattle.rapid_model.specs.InOrder.{in_order}
 use Rattle.rapid_model.specs.Process.{bytes_cmp, same_bytes, identifier, endpoint}
-use Rattle.rapid_model.specs.World.{Peer, is_running, has_identifier}
+use Rattle.rapid_model.specs.World.{Peer, is_running, has_identifier, has_endpoint}
 
 -- Places by identifiers, or by endpoints.
 abbrev pub Places : Type 0
@@ -29,6 +29,12 @@ pub record AreFound (by_id by_endpoint : Places) (ps : List Peer) : Type 0 where
 -- If an element passes the test, it stands at the place.
 abbrev pub IsOnlyAt : {A : Type 0} → (A → Bool) → List A → Option ℕ → Type 0
 IsOnlyAt {A} f xs place = (i : ℕ) (x : A) → slice_get xs i ≡ Some x → f x ≡ true → place ≡ Some i
+
+-- The peer at the place runs at the endpoint.
+pub record RunsAt (ps : List Peer) (e : Endpoint) (i : ℕ) : Type 0 where
+  pub peer : Peer
+  pub at : slice_get ps i ≡ Some peer
+  pub runs : (is_running peer && has_endpoint e peer) ≡ true
 
 -- No peer has the identifier of this one, and none runs at its endpoint.
 pub record IsNew (ps : List Peer) (p : Peer) : Type 0 where

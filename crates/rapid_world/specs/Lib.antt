@@ -1,3 +1,4 @@
+pub mod Arrivals
 pub mod Codes
 pub mod Does
 pub mod Events

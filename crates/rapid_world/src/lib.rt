@@ -3,6 +3,7 @@
 //! contract.
 #![tactic(auto)]
 
+mod arrived;
 mod error;
 mod event;
 mod founding;
@@ -17,6 +18,7 @@ mod peers;
 mod places;
 mod recipients;
 mod report;
+mod room;
 mod runs;
 mod sending;
 mod steps;

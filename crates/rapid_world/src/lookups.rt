@@ -1,12 +1,12 @@
 // Nodes by their identifiers and endpoints.
 
-ghost use Rattle.std.specs.Prelude.{◌≡◌, ◌&&◌, ◌++◌, position, map, filter, flat_map, slice_get, if◌then◌else◌, IfOk, OnOk, Some, None};
+ghost use Rattle.std.specs.Prelude.{◌≡◌, ◌&&◌, ◌++◌, position, map, filter, flat_map, slice_get, if◌then◌else◌, true, IfOk, IfSome, OnOk, Some, None};
 ghost use Rattle.std.specs.List.{list_any, find};
 ghost use Rattle.std.specs.Option.{option_map, option_and_then};
 ghost use Rattle.rapid_model.specs.InOrder.{in_order};
 ghost use Rattle.rapid_model.specs.Process.{bytes_cmp, identifier};
 ghost use Rattle.rapid_model.specs.World.{is_running, has_identifier, has_endpoint};
-ghost use Rattle.rapid_world.specs.Found.{IsOnlyAt};
+ghost use Rattle.rapid_world.specs.Found.{IsOnlyAt, RunsAt};
 ghost use Rattle.rapid_world.specs.Worlds.{running_id};
 
 use crate::peer::Peer;
@@ -92,6 +92,30 @@ pub(crate) fn place_at(peers: &[Peer], place: Option<usize>, endpoint: &Endpoint
         Some(peer) => if_at(peer, place, endpoint),
         None => None,
     }
+}
+
+/// Whether the peer at a place runs at the endpoint.
+fn is_at(peers: &[Peer], place: usize, endpoint: &Endpoint) -> bool
+    ensures { result ≡ true → RunsAt peers.now endpoint.now place }
+{
+    match peers.get(place) {
+        Some(peer) => runs_at(peer, endpoint),
+        None => false,
+    }
+}
+
+/// The place of the peer that runs at the endpoint, if it is the next one or this one.
+pub(crate) fn place_near(peers: &[Peer], near: usize, endpoint: &Endpoint) -> Option<usize>
+    ensures { IfSome result (RunsAt peers.now endpoint.now) }
+{
+    let next = near.saturating_add(1);
+    if is_at(peers, next, endpoint) {
+        return Some(next);
+    }
+    if is_at(peers, near, endpoint) {
+        return Some(near);
+    }
+    None
 }
 
 /// The node of a peer, if it has the identifier.

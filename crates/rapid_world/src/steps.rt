@@ -3,7 +3,7 @@
 ghost use Rattle.std.specs.Prelude.{◌≡◌, ◌++◌, ◌∷◌, [], ℕ, suc, List, if◌then◌else◌, true, false, is_some, nat_lt, map, length, IfOk, IfErr, OnErr, Some, None};
 ghost use Rattle.std.specs.Option.{option_map};
 ghost use Rattle.rapid_model.specs.Agreement.{NoCollision};
-ghost use Rattle.rapid_model.specs.Node.{EdgeDown, Receive};
+ghost use Rattle.rapid_model.specs.Node.{EdgeDown};
 ghost use Rattle.rapid_model.specs.RunHolds.{RunHolds};
 ghost use Rattle.rapid_model.specs.StoredWorld.{StoredWorld, StoresEvent, RunsTo, world_of, accepted, event_refusal};
 ghost use Rattle.rapid_model.specs.World as model;
@@ -13,13 +13,12 @@ ghost use Rattle.rapid_node.specs.Steps.{event_of as taken_of};
 ghost use Rattle.rapid_world.specs.Does.{Hands, Probes};
 ghost use Rattle.rapid_world.specs.Events.{event_of, report_of, Refuses};
 
+use crate::arrived::Arrived;
 use crate::report::Report;
 use crate::{World, WorldError, WorldEvent};
 use rapid_config::ConfigId;
 use rapid_endpoint::{Endpoint, Process, ProcessId};
-use rapid_message::Message;
 use rapid_node::Event;
-use rapid_wire::read_frame;
 use std::alloc::AllocError;
 
 impl World {
@@ -70,9 +69,13 @@ impl World {
     }
 
     /// The place of the node to which a packet comes, and the message of its frame.
-    fn arrival(&self, number: u64) -> Result<(usize, Message), WorldError>
+    fn arrival(
+        &self,
+        number: u64,
+        last: Option<Box<Arrived>>,
+    ) -> Result<(usize, Box<Arrived>), WorldError>
         requires { nat_lt (accepted self.now) most_events ≡ true }
-        ensures hands { IfOk result (λ x. Hands self.now (model.Deliver number) x.0 (Receive x.1)) }
+        ensures hands { IfOk result (λ x. Hands self.now (model.Deliver number) x.0 x.1.value.taken) }
         ensures refused { IfErr result (Refuses (event_refusal self.now (model.Deliver number))) }
     {
         self.tell();
@@ -80,8 +83,8 @@ impl World {
         let near = self.peers().newest_view();
         match self.frame(number) {
             Some(packet) => match self.running_at(packet.0) {
-                Some(place) => match read_frame(self.alloc(), near, packet.1) {
-                    Ok(message) => Ok((place, message)),
+                Some(place) => match Arrived::read(self.alloc(), near, last, packet.1) {
+                    Ok(arrived) => Ok((place, arrived)),
                     Err(AllocError) => Err(WorldError::OutOfMemory),
                 },
                 None => Err(WorldError::NoSuchNode),
@@ -98,9 +101,13 @@ impl World {
         ensures unchanged { OnErr result (self.new ≡ self.old) }
     {
         self.seek(number);
-        match self.arrival(number) {
-            Ok((place, message)) => {
-                self.hand(WorldEvent::Deliver(number), place, &Event::Receive(message))
+        let last = self.take_last();
+        match self.arrival(number, last) {
+            Ok((place, arrived)) => {
+                self.aim(place);
+                let result = self.hand(WorldEvent::Deliver(number), place, arrived.event());
+                self.keep_last(arrived);
+                result
             }
             Err(error) => Err(error),
         }

@@ -20,11 +20,13 @@ ghost use Rattle.rapid_world.specs.Framed.{framed_packet, HasFrame};
 ghost use Rattle.rapid_world.specs.Handed.{crash_of};
 ghost use Rattle.rapid_world.specs.Worlds.{IsRunOf};
 
-use crate::mail::{Mail, push_within};
+use crate::arrived::Arrived;
+use crate::mail::Mail;
 use crate::outcome::{has_outcome, is_marked};
 use crate::peer::Peer;
 use crate::peers::Nodes;
 use crate::report::Report;
+use crate::room::ReportRoom;
 use crate::stored::Stored;
 use crate::{WorldError, WorldEvent};
 use rapid_config::{ConfigId, Configuration};
@@ -33,6 +35,7 @@ use rapid_node::Event;
 use rapid_safety::runs_hold;
 use std::alloc::{AllocError, Global};
 use std::marker::Model;
+use std::mem;
 
 /// A world of many nodes and the packets between them, which runs by events. Its value is how it
 /// was founded, and the events that it accepted. Each has a mark whether its node halted in it
@@ -43,6 +46,10 @@ pub struct World {
     stored: Stored,
     peers: Nodes,
     mail: Mail,
+    // for what the next step reports
+    room: ReportRoom,
+    // the message that came last: mostly the next one that comes is the same
+    last: Option<Box<Arrived>>,
     alloc: Global,
 }
 
@@ -74,6 +81,8 @@ impl World {
             stored: Stored::new(alloc, founding),
             peers,
             mail: Mail::new(alloc),
+            room: ReportRoom::new(alloc),
+            last: None,
             alloc,
         }
     }
@@ -111,6 +120,28 @@ impl World {
         ensures { self.new ≡ self.old }
     {
         self.mail.seek(packet);
+    }
+
+    /// The node at a place takes a packet. So who runs at the endpoint of the next one is mostly found
+    /// at once. Nothing else changes.
+    pub(crate) fn aim(&mut self, place: usize)
+        ensures { self.new ≡ self.old }
+    {
+        self.peers.aim(place);
+    }
+
+    /// Takes out the message that came last. Nothing else changes.
+    pub(crate) fn take_last(&mut self) -> Option<Box<Arrived>>
+        ensures { self.new ≡ self.old }
+    {
+        mem::replace(&mut self.last, None)
+    }
+
+    /// Keeps the message that came last. Nothing else changes.
+    pub(crate) fn keep_last(&mut self, arrived: Box<Arrived>)
+        ensures { self.new ≡ self.old }
+    {
+        self.last = Some(arrived);
     }
 
     /// What it stores.
@@ -151,13 +182,13 @@ impl World {
         ensures unchanged { OnErr result (self.new ≡ self.old) }
     {
         self.stored.reserve()?;
-        let reports = Vec::with_capacity(self.alloc, 1)?;
+        self.room.reserve()?;
         // a node whose history is full halts without a mark, also if it had no memory to find out
         let has_outcome = has_outcome(self.peers.as_slice()[place].node(), taken)?;
         let told = self.peers.hand(place, &mut self.mail, taken)?;
         let mark = is_marked(told.halts, has_outcome);
         self.stored.push(&event, place, mark);
-        Ok(with_report(reports, told.report))
+        Ok(self.room.take(told.report))
     }
 
     /// The node at a place crashes by this event, which is stored.
@@ -210,20 +241,9 @@ impl World {
         ensures unchanged { OnErr result (self.new ≡ self.old) }
     {
         self.stored.reserve()?;
-        let reports = Vec::with_capacity(self.alloc, 1)?;
+        self.room.reserve()?;
         let told = self.peers.probe(place, ring, ok, observed)?;
         self.stored.push(&event, place, told.halts);
-        Ok(with_report(reports, told.report))
+        Ok(self.room.take(told.report))
     }
-}
-
-/// The reports with one more, if there is one.
-fn with_report(mut reports: Vec<Report>, report: Option<Report>) -> Vec<Report>
-    requires { vec_len reports < vec_capacity reports }
-    ensures { result.items ≡ reports.items ++ option_to_list report }
-{
-    if let Some(report) = report {
-        push_within(&mut reports, report);
-    }
-    reports
 }

@@ -1,7 +1,12 @@
-use Rattle.std.proofs.Common.{List, ap, sym, slice_get, ◌∙◌}
-use Rattle.rapid_model.specs.World.{Peer}
-use Rattle.rapid_world.proofs.Finding.{end_only}
+use Rattle.std.proofs.Common.{◌≡◌, ◌&&◌, List, Some, subst}
+use Rattle.std.specs.Prelude.{position}
+use Rattle.rapid_model.specs.World.{Peer, is_running, has_endpoint}
+use Rattle.rapid_world.specs.Found.{RunsAt}
+use Rattle.rapid_world.proofs.Finding.{near_is}
 use Rattle.rapid_world.proofs.peers.Nodes.place_at.Goals as goal
 
-pub place_at-requires : goal.place_at-requires
-place_at-requires c = λ i p at ok. c.get.ensures ∙ end_only _ _ _ c.self.invariant c.args.endpoint.now i p (ap (λ (l : List Peer). slice_get l i) (sym c.as_slice.ensures.value) ∙ at) ok
+pub returns-in-Some : goal.returns-in-Some
+returns-in-Some c =
+    subst (λ (l : List Peer). Some c.in-Some.place ≡ position (λ p. is_running p && has_endpoint c.args.endpoint.now p) l) c.self.view_is
+    (near_is _ _ _ c.self.invariant c.args.endpoint.now c.in-Some.place
+    (subst (λ (l : List Peer). RunsAt l c.args.endpoint.now c.in-Some.place) c.as_slice.ensures.value c.in-Some.ensures))

@@ -1,6 +1,5 @@
 use Rattle.std.proofs.Common.{ap, sym, subst, ◌∙◌}
-use Rattle.rapid_model.specs.Message.{Message}
-use Rattle.rapid_model.specs.Node.{Receive}
+use Rattle.rapid_model.specs.Node.{Event}
 use Rattle.rapid_model.specs.StoredWorld.{world_of}
 use Rattle.rapid_model.specs.World as model
 use Rattle.rapid_world.specs.Does.{Hands}
@@ -8,13 +7,13 @@ use Rattle.rapid_world.proofs.Cases.{deliver_hands, deliver_refused, receiver_re
 use Rattle.rapid_world.proofs.Framing.{packet_there, packet_not_there}
 use Rattle.rapid_world.proofs.world.World.arrival.Goals as goal
 
-pub read_frame-requires : goal.read_frame-requires
-read_frame-requires c = let t = packet_there _ _ _ c.in-Some.ensures in (t.0.message, t.3)
+pub read-requires : goal.read-requires
+read-requires c = let t = packet_there _ _ _ c.in-Some.ensures in (t.0.message, t.3)
 
 pub returns-in-Ok-clause-hands : goal.returns-in-Ok-clause-hands
 returns-in-Ok-clause-hands c =
     let t = packet_there _ _ _ c.in-Some.ensures in
-    subst (λ (m : Message). Hands c.args.self.now (model.Deliver c.args.number) c.in-Some-running_at.place (Receive m)) (sym (c.in-Ok.ensures t.0.message t.3))
+    subst (λ (e : Event). Hands c.args.self.now (model.Deliver c.args.number) c.in-Some-running_at.place e) (sym (c.in-Ok.ensures t.0.message t.3))
     (deliver_hands c.args.self.now c.args.number t.0 c.in-Some-running_at.place c.tell.ensures.members c.requires t.1 (ap (model.running_at (world_of c.args.self.now)) (sym t.2) ∙ sym c.in-Some-running_at.ensures))
 
 pub returns-in-Err-clause-refused : goal.returns-in-Err-clause-refused

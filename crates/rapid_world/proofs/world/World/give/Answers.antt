@@ -1,4 +1,4 @@
-use Rattle.std.proofs.Common.{◌≡◌, ◌++◌, List, map, get_or, slice_set, is_some, ap, subst, sym, ◌∙◌}
+use Rattle.std.proofs.Common.{◌≡◌, ◌++◌, List, [], map, get_or, slice_set, is_some, refl, ap, subst, sym, ◌∙◌}
 use Rattle.std.specs.Prelude.{All}
 use Rattle.std.proofs.lemmas.Result.{err_from_is_err_and}
 use Rattle.rapid_model.specs.Node.{Node, is_halted}
@@ -22,12 +22,12 @@ returns-in_err-reserve-clause-unchanged c =
     let p = err_from_is_err_and c.from_residual.result c.from_residual.ensures.1 in
     rw (p.1) (c.reserve.ensures.world ∙ c.self.view_is)
 
-pub invariant_of-self-in_err-reports : goal.invariant_of-self-in_err-reports
-invariant_of-self-in_err-reports c = rw c.reserve.ensures.world c.self.invariant
+pub invariant_of-self-in_err-reserve-2 : goal.invariant_of-self-in_err-reserve-2
+invariant_of-self-in_err-reserve-2 c = rw c.reserve.ensures.world c.self.invariant
 
-pub returns-in_err-reports-clause-unchanged : goal.returns-in_err-reports-clause-unchanged
-returns-in_err-reports-clause-unchanged c =
-    let p = err_from_is_err_and c.from_residual-in_err-reports.result c.from_residual-in_err-reports.ensures.1 in
+pub returns-in_err-reserve-2-clause-unchanged : goal.returns-in_err-reserve-2-clause-unchanged
+returns-in_err-reserve-2-clause-unchanged c =
+    let p = err_from_is_err_and c.from_residual-in_err-reserve-2.result c.from_residual-in_err-reserve-2.ensures.1 in
     rw (p.1) (c.reserve.ensures.world ∙ c.self.view_is)
 
 pub has_outcome-requires : goal.has_outcome-requires
@@ -74,7 +74,7 @@ returns-clause-stored c =
     let same = same_mark c.requires.peer (taken_of c.args.taken.now) c.in_ok-told.told.halts c.in_ok-has_outcome.has_outcome goes ∙ ap (handed c.requires.peer (taken_of c.args.taken.now)) (sym c.is_marked-mark.ensures) in
     given_stored c.args.self.now _ _ _ (record { event = event_of c.args.event; halts = c.is_marked-mark.result }) _ _ (handed c.requires.peer (taken_of c.args.taken.now)) _
     c.self.view_is c.reserve.ensures.world c.push.ensures c.requires.does
-    (one_report _ _ _ c.with_report.ensures c.in_ok-reports.ensures.items ∙ c.in_ok-told.ensures.reports c.requires.peer at ∙ ap (λ (d : Handed). d.reports) same)
+    (one_report [] _ _ c.take.ensures refl ∙ c.in_ok-told.ensures.reports c.requires.peer at ∙ ap (λ (d : Handed). d.reports) same)
     (handed_marks c.requires.peer (taken_of c.args.taken.now) c.is_marked-mark.result)
     (λ t. mark_needed c.requires.peer (taken_of c.args.taken.now) c.in_ok-told.told.halts c.in_ok-has_outcome.has_outcome goes (sym c.is_marked-mark.ensures ∙ t))
 

@@ -1,4 +1,4 @@
-use Rattle.std.proofs.Common.{refl, ◌∙◌}
+use Rattle.std.proofs.Common.{[], refl, ◌∙◌}
 use Rattle.std.proofs.lemmas.Result.{err_from_is_err_and}
 use Rattle.rapid_model.specs.Node.{EdgeDown}
 use Rattle.rapid_world.specs.Events.{event_of}
@@ -16,12 +16,12 @@ returns-in_err-reserve-clause-unchanged c =
     let p = err_from_is_err_and c.from_residual.result c.from_residual.ensures.1 in
     rw (p.1) (c.reserve.ensures.world ∙ c.self.view_is)
 
-pub invariant_of-self-in_err-reports : goal.invariant_of-self-in_err-reports
-invariant_of-self-in_err-reports c = rw c.reserve.ensures.world c.self.invariant
+pub invariant_of-self-in_err-reserve-2 : goal.invariant_of-self-in_err-reserve-2
+invariant_of-self-in_err-reserve-2 c = rw c.reserve.ensures.world c.self.invariant
 
-pub returns-in_err-reports-clause-unchanged : goal.returns-in_err-reports-clause-unchanged
-returns-in_err-reports-clause-unchanged c =
-    let p = err_from_is_err_and c.from_residual-in_err-reports.result c.from_residual-in_err-reports.ensures.1 in
+pub returns-in_err-reserve-2-clause-unchanged : goal.returns-in_err-reserve-2-clause-unchanged
+returns-in_err-reserve-2-clause-unchanged c =
+    let p = err_from_is_err_and c.from_residual-in_err-reserve-2.result c.from_residual-in_err-reserve-2.ensures.1 in
     rw (p.1) (c.reserve.ensures.world ∙ c.self.view_is)
 
 pub probe-requires : goal.probe-requires
@@ -51,7 +51,7 @@ returns-clause-stored c =
     let at = at_place _ _ _ _ _ _ c.self.invariant c.self.view_is c.requires.1.does.at in
     given_stored c.args.self.now _ _ _ (record { event = event_of c.args.event; halts = c.in_ok-told.told.halts }) _ _ (told c.requires.0 c.args.ring c.args.ok (EdgeDown c.args.observed.0 c.args.ring c.args.observed.1)) _
     c.self.view_is c.reserve.ensures.world c.push.ensures c.requires.1.does
-    (one_report _ _ _ c.with_report.ensures c.in_ok-reports.ensures.items ∙ c.in_ok-told.ensures.reports c.requires.0 at)
+    (one_report [] _ _ c.take.ensures refl ∙ c.in_ok-told.ensures.reports c.requires.0 at)
     (told_marks c.requires.0 c.args.ring c.args.ok (EdgeDown c.args.observed.0 c.args.ring c.args.observed.1) c.in_ok-told.told.halts (c.in_ok-told.ensures.quiet c.requires.0 at))
     (λ t. told_needed c.requires.0 c.args.ring c.args.ok c.args.observed.0 c.args.observed.1)
 
