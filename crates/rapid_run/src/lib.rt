@@ -4,8 +4,10 @@
 
 mod polled;
 mod run;
+mod streams;
 mod threads;
 mod until;
 
 pub use polled::Polled;
 pub use run::run_node;
+pub use streams::Streams;

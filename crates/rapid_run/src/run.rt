@@ -1,6 +1,7 @@
 // A node, from its options to its end.
 
-use crate::threads::{Streams, run_threads, tell};
+use crate::streams::Streams;
+use crate::threads::{run_threads, tell};
 use rapid_agent::Agent;
 use rapid_options::NodeOptions;
 use rapid_service::RunningFault;
@@ -68,9 +69,7 @@ pub fn run_node<R, S, I, O, E>(
     alloc: Global,
     options: NodeOptions,
     source: &S,
-    reader: &mut I,
-    writer: &mut O,
-    err: &mut E,
+    streams: Streams<&mut I, &mut O, &mut E>,
 ) -> Result<(), RunningFault>
 where
     R: Net<Listener = TcpListener, Stream = TcpStream> + Threads + Wait + Clock + Sync,
@@ -79,13 +78,18 @@ where
     O: Write + Send,
     E: Write + Send,
 {
+    let Streams {
+        reader,
+        writer,
+        err,
+    } = streams;
     let told = AtomicBool::new(false);
-    let streams = Streams {
+    let lent = Streams {
         reader,
         writer,
         err: &mut *err,
     };
-    let ended = run(rt, alloc, options, source, streams, &told);
+    let ended = run(rt, alloc, options, source, lent, &told);
     if let Err(fault) = &ended
         && !told.load(Ordering::SeqCst)
     {

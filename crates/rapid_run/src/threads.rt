@@ -2,6 +2,7 @@
 
 ghost use Rattle.std.specs.Thread.{IsSend, IsSync};
 
+use crate::streams::Streams;
 use crate::until::Until;
 use rapid_agent::{Agent, Posts};
 use rapid_lines::Note;
@@ -16,14 +17,6 @@ use std::time::{Clock, Duration};
 
 /// The time between two looks for something to report, in milliseconds.
 const BETWEEN_REPORTS: u64 = 1_000;
-
-/// What a node reads and writes.
-#[derive(Drop)]
-pub(crate) struct Streams<I: Drop, O: Drop, E: Drop> {
-    pub reader: I,
-    pub writer: O,
-    pub err: E,
-}
 
 /// Reports a fault by one line.
 pub(crate) fn tell<E: Write>(fault: RunningFault, err: &mut E) {
