@@ -85,8 +85,8 @@ where
     } = streams;
     let told = AtomicBool::new(false);
     let lent = Streams {
-        reader,
-        writer,
+        reader: &mut *reader,
+        writer: &mut *writer,
         err: &mut *err,
     };
     let ended = run(rt, alloc, options, source, lent, &told);
