@@ -2,6 +2,7 @@
 //! clock, each in threads of their own.
 #![tactic(auto)]
 
+mod node;
 mod polled;
 mod run;
 mod streams;

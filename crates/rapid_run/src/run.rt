@@ -1,5 +1,8 @@
 // A node, from its options to its end.
 
+ghost use Rattle.std.specs.Thread.{IsSync};
+
+use crate::node::AgentNode;
 use crate::streams::Streams;
 use crate::threads::{run_threads, tell};
 use rapid_agent::Agent;
@@ -41,7 +44,25 @@ where
         writer: &mut *writer,
         err: &mut *err,
     };
-    run_threads(rt, alloc, &agent, streams, told)
+    let node = AgentNode {
+        rt,
+        alloc,
+        agent: &agent,
+    };
+    let console = agent.shared().console();
+    run_threads(
+        rt,
+        &node,
+        console,
+        streams,
+        told,
+        ||
+            requires { IsSync R.row }
+        {
+            // its outcome is asked for once all threads have ended
+            let _ = agent.run();
+        },
+    )
 }
 
 /// Runs a node over loopback TCP until it ends: by the line `quit`, at the end of the input, or by
