@@ -5,7 +5,7 @@ ghost use Rattle.rapid_commands.specs.NodeWords.{NamesNode};
 
 use clap::ArgMatches;
 use rapid_options::NodeWords;
-use rapid_run::run_node;
+use rapid_run::{Streams, run_node};
 use rapid_service::RunningFault;
 use rapid_words::{DONE, NODE, REFUSED, options_of, tell_port};
 use std::alloc::Global;
@@ -76,7 +76,12 @@ where
         return REFUSED;
     };
     let listen = options.listen;
-    match run_node(rt, alloc, options, rt, reader, out, err) {
+    let streams = Streams {
+        reader,
+        writer: out,
+        err: &mut *err,
+    };
+    match run_node(rt, alloc, options, rt, streams) {
         Ok(()) => DONE,
         Err(fault) => {
             if fault == RunningFault::NoPort {

@@ -4,7 +4,7 @@ use bytes::Bytes;
 use rapid_config::Params;
 use rapid_endpoint::{Endpoint, ProcessId};
 use rapid_options::NodeOptions;
-use rapid_run::run_node;
+use rapid_run::{Streams, run_node};
 use rapid_service::RunningFault;
 use rapid_transport::{Metered, SenderQueue, receive};
 use rapid_wire::Feed;
@@ -92,7 +92,12 @@ where
         tick_ms: 0,
         probers: 1,
     };
-    run_node(rt, alloc, asked, rt, reader, writer, err)
+    let streams = Streams {
+        reader,
+        writer,
+        err,
+    };
+    run_node(rt, alloc, asked, rt, streams)
 }
 
 /// What a founder prints for its lines. It has no observer to tell that it leaves.

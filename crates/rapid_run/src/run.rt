@@ -1,6 +1,10 @@
 // A node, from its options to its end.
 
-use crate::threads::{Streams, run_threads, tell};
+ghost use Rattle.std.specs.Thread.{IsSync};
+
+use crate::node::AgentNode;
+use crate::streams::Streams;
+use crate::threads::{run_threads, tell};
 use rapid_agent::Agent;
 use rapid_options::NodeOptions;
 use rapid_service::RunningFault;
@@ -40,7 +44,25 @@ where
         writer: &mut *writer,
         err: &mut *err,
     };
-    run_threads(rt, alloc, &agent, streams, told)
+    let node = AgentNode {
+        rt,
+        alloc,
+        agent: &agent,
+    };
+    let console = agent.shared().console();
+    run_threads(
+        rt,
+        &node,
+        console,
+        streams,
+        told,
+        ||
+            requires { IsSync R.row }
+        {
+            // its outcome is asked for once all threads have ended
+            let _ = agent.run();
+        },
+    )
 }
 
 /// Runs a node over loopback TCP until it ends: by the line `quit`, at the end of the input, or by
@@ -68,9 +90,7 @@ pub fn run_node<R, S, I, O, E>(
     alloc: Global,
     options: NodeOptions,
     source: &S,
-    reader: &mut I,
-    writer: &mut O,
-    err: &mut E,
+    streams: Streams<&mut I, &mut O, &mut E>,
 ) -> Result<(), RunningFault>
 where
     R: Net<Listener = TcpListener, Stream = TcpStream> + Threads + Wait + Clock + Sync,
@@ -79,13 +99,18 @@ where
     O: Write + Send,
     E: Write + Send,
 {
-    let told = AtomicBool::new(false);
-    let streams = Streams {
+    let Streams {
         reader,
         writer,
+        err,
+    } = streams;
+    let told = AtomicBool::new(false);
+    let lent = Streams {
+        reader: &mut *reader,
+        writer: &mut *writer,
         err: &mut *err,
     };
-    let ended = run(rt, alloc, options, source, streams, &told);
+    let ended = run(rt, alloc, options, source, lent, &told);
     if let Err(fault) = &ended
         && !told.load(Ordering::SeqCst)
     {

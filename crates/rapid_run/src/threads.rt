@@ -2,13 +2,12 @@
 
 ghost use Rattle.std.specs.Thread.{IsSend, IsSync};
 
+use crate::node::Node;
+use crate::streams::Streams;
 use crate::until::Until;
-use rapid_agent::{Agent, Posts};
 use rapid_lines::Note;
-use rapid_service::{RunningFault, Shared, run_lines};
-use std::alloc::Global;
+use rapid_service::{Console, Ending, RunningFault};
 use std::io::{Read, Write};
-use std::net::{Net, TcpListener, TcpStream};
 use std::sync::Wait;
 use std::sync::atomic::{AtomicBool, Ordering};
 use std::thread::{self, Threads};
@@ -16,14 +15,6 @@ use std::time::{Clock, Duration};
 
 /// The time between two looks for something to report, in milliseconds.
 const BETWEEN_REPORTS: u64 = 1_000;
-
-/// What a node reads and writes.
-#[derive(Drop)]
-pub(crate) struct Streams<I: Drop, O: Drop, E: Drop> {
-    pub reader: I,
-    pub writer: O,
-    pub err: E,
-}
 
 /// Reports a fault by one line.
 pub(crate) fn tell<E: Write>(fault: RunningFault, err: &mut E) {
@@ -52,38 +43,34 @@ fn tell_notes<E: Write>(notes: &[Note], err: &mut E) {
 /// ends.
 fn print<W: Wait + Clock, O: Write + Drop>(
     rt: &W,
-    shared: &Shared<&W, Posts>,
+    ending: &Ending,
+    console: &Console,
     writer: O,
     unwritten: &AtomicBool,
 ) {
-    let mut writer = Until::new(rt, shared.ending(), writer);
-    if !shared.console().print(rt, &mut writer) {
+    let mut writer = Until::new(rt, ending, writer);
+    if !console.print(rt, &mut writer) {
         unwritten.store(true, Ordering::SeqCst);
-        shared.ending().end(rt, Some(RunningFault::Write));
+        ending.end(rt, Some(RunningFault::Write));
     }
 }
 
 /// Answers the lines of the input until it ends or the node does.
-fn answer<W: Wait + Clock, I: Read + Drop>(
-    rt: &W,
-    alloc: Global,
-    shared: &Shared<&W, Posts>,
-    reader: I,
-) {
-    let mut reader = Until::new(rt, shared.ending(), reader);
-    run_lines(rt, alloc, shared, &mut reader);
+fn answer<W: Wait + Clock, N: Node, I: Read + Drop>(rt: &W, node: &N, reader: I) {
+    let mut reader = Until::new(rt, node.ending(), reader);
+    node.answer(&mut reader);
 }
 
 /// Waits until the node ends. Meanwhile it reports the node's notes, and once that there are too
 /// few file descriptors, if so.
-fn watch<W: Wait + Clock, E: Write>(rt: &W, agent: &Agent<'_, W>, err: &mut E) {
+fn watch<W: Wait + Clock, N: Node, E: Write>(rt: &W, node: &N, err: &mut E) {
     let between = Duration::from_millis(BETWEEN_REPORTS);
-    let shared = agent.shared();
+    let ending = node.ending();
     let mut warned = false;
     for _ in rt.forever() {
-        let ends = shared.ending().wait(rt, between);
-        tell_notes(shared.take_notes(rt).as_slice(), err);
-        if !warned && agent.counters().exhausted > 0 {
+        let ends = ending.wait(rt, between);
+        tell_notes(node.take_notes().as_slice(), err);
+        if !warned && node.lacks_descriptors() {
             warned = true;
             warn(err);
         }
@@ -94,15 +81,10 @@ fn watch<W: Wait + Clock, E: Write>(rt: &W, agent: &Agent<'_, W>, err: &mut E) {
 }
 
 /// Reports the node's notes, and the fault by which it ends, once it ends, whoever ends it.
-fn report<W: Wait + Clock, E: Write + Drop>(
-    rt: &W,
-    agent: &Agent<'_, W>,
-    err: E,
-    told: &AtomicBool,
-) {
-    let ending = agent.shared().ending();
+fn report<W: Wait + Clock, N: Node, E: Write + Drop>(rt: &W, node: &N, err: E, told: &AtomicBool) {
+    let ending = node.ending();
     let mut err = Until::new(rt, ending, err);
-    watch(rt, agent, &mut err);
+    watch(rt, node, &mut err);
     if let Err(fault) = ending.outcome(rt) {
         tell(fault, &mut err);
         told.store(true, Ordering::SeqCst);
@@ -110,82 +92,84 @@ fn report<W: Wait + Clock, E: Write + Drop>(
 }
 
 /// Ends the node because a thread of it could not be started.
-fn give_up<W: Wait>(rt: &W, shared: &Shared<&W, Posts>) {
-    shared.ending().end(rt, Some(RunningFault::OutOfMemory));
+fn give_up<W: Wait>(rt: &W, ending: &Ending) {
+    ending.end(rt, Some(RunningFault::OutOfMemory));
 }
 
-/// Lets the node take lines, ticks and messages until it ends, and reports its notes and its fault.
-/// It returns when the threads for that have ended.
-fn work<W, I, E>(rt: &W, alloc: Global, agent: &Agent<'_, W>, reader: I, err: E, told: &AtomicBool)
+/// Lets the node take lines while `run` lets it take ticks and messages, until it ends, and reports
+/// its notes and its fault. It returns when the threads for that have ended.
+fn work<W, N, I, E, F>(rt: &W, node: &N, reader: I, err: E, told: &AtomicBool, run: F)
 where
-    W: Net<Listener = TcpListener, Stream = TcpStream> + Threads + Wait + Clock + Sync,
+    W: Threads + Wait + Clock + Sync,
+    N: Node + Sync,
     I: Read + Send + Drop,
     E: Write + Send + Drop,
+    F: FnOnce() + Drop,
+    requires { F.IsAlwaysCallable run }
 {
-    let shared = agent.shared();
     thread::scope(
         thread::scope_env(),
         rt,
         |scope|
-            requires { IsSync W.row × IsSend I.row × IsSend E.row }
+            requires { IsSync W.row × IsSync N.row × IsSend I.row × IsSend E.row × F.IsAlwaysCallable run }
         {
-            if scope.spawn(move || report(rt, agent, err, told)).is_err() {
-                return give_up(rt, shared);
+            if scope.spawn(move || report(rt, node, err, told)).is_err() {
+                return give_up(rt, node.ending());
             }
-            if scope
-                .spawn(move || answer(rt, alloc, shared, reader))
-                .is_err()
-            {
-                return give_up(rt, shared);
+            if scope.spawn(move || answer(rt, node, reader)).is_err() {
+                return give_up(rt, node.ending());
             }
-            // its outcome is asked for once all threads have ended
-            let _ = agent.run();
+            run();
         },
     );
 }
 
 /// Runs the threads of a node until it ends, and says why it did. When it returns all have ended,
 /// and what was added to the console is printed. A fault that ends the node is reported at once,
-/// and then `told` is true.
-pub(crate) fn run_threads<W, I, O, E>(
+/// and then `told` is true. Meanwhile `run` lets the node take ticks and messages, until it ends.
+pub(crate) fn run_threads<W, N, I, O, E, F>(
     rt: &W,
-    alloc: Global,
-    agent: &Agent<'_, W>,
+    node: &N,
+    console: &Console,
     streams: Streams<I, O, E>,
     told: &AtomicBool,
+    run: F,
 ) -> Result<(), RunningFault>
 where
-    W: Net<Listener = TcpListener, Stream = TcpStream> + Threads + Wait + Clock + Sync,
+    W: Threads + Wait + Clock + Sync,
+    N: Node + Sync,
     I: Read + Send + Drop,
     O: Write + Send + Drop,
     E: Write + Send + Drop,
+    F: FnOnce() + Drop,
+    requires { F.IsAlwaysCallable run }
 {
     let Streams {
         reader,
         writer,
         err,
     } = streams;
-    let shared = agent.shared();
+    let ending = node.ending();
     let unwritten = AtomicBool::new(false);
     let failed = &unwritten;
     thread::scope(
         thread::scope_env(),
         rt,
         |scope|
-            requires { IsSync W.row × IsSend I.row × IsSend O.row × IsSend E.row }
+            requires { IsSync W.row × IsSync N.row × IsSend I.row × IsSend O.row × IsSend E.row × F.IsAlwaysCallable run }
         {
             if scope
-                .spawn(move || print(rt, shared, writer, failed))
+                .spawn(move || print(rt, ending, console, writer, failed))
                 .is_err()
             {
-                return give_up(rt, shared);
+                return give_up(rt, ending);
             }
-            work(rt, alloc, agent, reader, err, told);
+            work(rt, node, reader, err, told, run);
             // only now: all threads that print have ended, and what they added is still written
-            shared.console().close(rt);
+            console.close(rt);
         },
     );
-    shared.ending().outcome(rt)?;
+    ending.outcome(rt)?;
     // the node may have ended well, and its last lines were not taken
     if unwritten.load(Ordering::SeqCst) {
         return Err(RunningFault::Write);

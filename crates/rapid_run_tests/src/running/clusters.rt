@@ -4,7 +4,7 @@ use crate::running::devices::{Screen, Silence, Wires, cut};
 use rapid_config::Params;
 use rapid_endpoint::{Endpoint, ProcessId};
 use rapid_options::NodeOptions;
-use rapid_run::run_node;
+use rapid_run::{Streams, run_node};
 use std::alloc::{AllocError, Global};
 use std::net::{Net, TcpListener, TcpStream};
 use std::process::Abort;
@@ -98,15 +98,12 @@ where
     };
     let asked = options(place.port, place.seed, place.params);
     let mut told = Vec::new(alloc);
-    let _ = run_node(
-        &wires,
-        alloc,
-        asked,
-        rt,
-        &mut reader,
-        &mut writer,
-        &mut told,
-    );
+    let streams = Streams {
+        reader: &mut reader,
+        writer: &mut writer,
+        err: &mut told,
+    };
+    let _ = run_node(&wires, alloc, asked, rt, streams);
 }
 
 /// Whether the last that each node printed ends with this text.

@@ -4,7 +4,7 @@ use crate::running::devices::{Cue, Screen};
 use rapid_config::Params;
 use rapid_endpoint::{Endpoint, ProcessId};
 use rapid_options::NodeOptions;
-use rapid_run::run_node;
+use rapid_run::{Streams, run_node};
 use std::alloc::Global;
 use std::net::{Net, TcpListener, TcpStream};
 use std::random::RandomSource;
@@ -83,7 +83,12 @@ where
     };
     let mut told = Vec::new(alloc);
     let asked = options(place.port, params);
-    let _ = run_node(rt, alloc, asked, rt, &mut reader, &mut writer, &mut told);
+    let streams = Streams {
+        reader: &mut reader,
+        writer: &mut writer,
+        err: &mut told,
+    };
+    let _ = run_node(rt, alloc, asked, rt, streams);
 }
 
 /// Waits until the last that each of both printed ends with this text; whether it does.

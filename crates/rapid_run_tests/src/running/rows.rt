@@ -4,7 +4,7 @@ use crate::running::devices::{Broken, Murmur, Screen};
 use rapid_config::Params;
 use rapid_endpoint::{Endpoint, ProcessId};
 use rapid_options::NodeOptions;
-use rapid_run::run_node;
+use rapid_run::{Streams, run_node};
 use rapid_service::RunningFault;
 use std::alloc::Global;
 use std::io::{Read, Write};
@@ -56,7 +56,12 @@ where
         tick_ms: 0,
         probers: 1,
     };
-    run_node(rt, alloc, asked, rt, reader, writer, err)
+    let streams = Streams {
+        reader,
+        writer,
+        err,
+    };
+    run_node(rt, alloc, asked, rt, streams)
 }
 
 #[test]
