@@ -8,6 +8,7 @@ mod ending;
 mod fault;
 mod identity;
 mod journal;
+mod places;
 mod post;
 mod present;
 mod prober;
