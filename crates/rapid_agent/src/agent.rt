@@ -211,7 +211,7 @@ impl<'a, W: Wait> Agent<'a, W> {
     }
 
     /// The member is to leave: it asks those that observe it to have it removed. It goes on until a
-    /// view comes without it, and is in phase `Removed` then. It is asked again if a view comes that
+    /// view comes without it, and is in phase `Removed` then. Call this again if a view comes that
     /// still has it.
     ///
     /// # Errors
