@@ -1,6 +1,7 @@
 // A clerk.
 
-ghost use Rattle.std.specs.Prelude.{◌≡◌, ◌≢◌, ◌+◌, ◌<◌, ◌≤◌, length};
+ghost use Rattle.std.specs.Prelude.{◌≡◌, ◌≢◌, ◌+◌, ◌<◌, ◌≤◌, All, length, take};
+ghost use Rattle.rapid_world.specs.declared.error.WorldError.TheVariants.{EventsFull, OutOfMemory};
 ghost use Rattle.rapid_clerks.specs.declared.verdict.Ended.TheVariants as ended;
 
 use crate::verdict::{Verdict, judge};
@@ -53,6 +54,10 @@ impl<L: Ledger> Clerk<L> {
         ensures most { result + self.new.passed ≤ length jobs.now }
         ensures through { self.new.ended ≡ ended.Through → result + self.new.passed ≡ length jobs.now }
         ensures early { self.new.ended ≢ ended.Through → result + self.new.passed < length jobs.now }
+        ensures each { All B.answered (take (result + self.new.passed) jobs.now) }
+        ensures shut { self.new.ended ≡ ended.Shut → G.has_shut }
+        ensures full { self.new.ended ≡ ended.Full → B.refused_by EventsFull }
+        ensures memory { self.new.ended ≡ ended.OutOfMemory → B.refused_by OutOfMemory }
         ensures parts { self.new.share.parts ≡ self.old.share.parts }
         ensures worker { self.new.worker ≡ self.old.worker }
     {

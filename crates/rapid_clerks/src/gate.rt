@@ -1,10 +1,16 @@
 // The gate of clerks.
 
+ghost use Rattle.std.specs.Prelude.{◌≡◌, false};
+
 /// Says when clerks go on. Clerks call it while they hold no lock.
 pub trait Gate {
+    // It has not let a clerk in. A gate that lets all in gives what cannot hold.
+    ghost has_shut: { Type 0 } = { Unit {0} };
+
     /// A clerk is about to do its job with this number, from 1. If the answer is false the clerk
     /// stops.
-    fn enter(&self, worker: usize, turn: u64) -> bool;
+    fn enter(&self, worker: usize, turn: u64) -> bool
+        ensures shut { result ≡ false → has_shut };
 
     /// A clerk did its job with this number, or was refused it.
     fn left(&self, worker: usize, turn: u64);

@@ -1,6 +1,6 @@
 // What clerks are given to do.
 
-ghost use Rattle.std.specs.Prelude.{◌≡◌, ◌+◌, ◌<◌, OnOk, OnErr};
+ghost use Rattle.std.specs.Prelude.{◌≡◌, ◌+◌, ◌<◌, OnOk, OnErr, IfErr};
 
 use rapid_world::{Report, WorldError, WorldEvent};
 use std::sync::ledger::{Ledger, Share};
@@ -22,6 +22,14 @@ pub struct TurnJob;
 
 /// What clerks work on: it does jobs of this type, and counts them in a ledger.
 pub trait DoJob<L: Ledger, J> {
+    ghost use Rattle.rapid_world.specs.declared.error.WorldError.{WorldError};
+
+    // This job was handed in and answered.
+    ghost answered: { J → Type 0 } = { λ _. Unit {0} };
+
+    // A job was refused by this error.
+    ghost refused_by: { WorldError → Type 0 } = { λ _. Unit {0} };
+
     /// Does a job. If it was done the share is raised by one, else it is as it was.
     ///
     /// # Errors
@@ -31,5 +39,7 @@ pub trait DoJob<L: Ledger, J> {
         requires { 0 < share.old.parts }
         ensures raised { OnOk result (share.new.amount ≡ share.old.amount + 1) }
         ensures kept { OnErr result (share.new.amount ≡ share.old.amount) }
-        ensures parts { share.new.parts ≡ share.old.parts };
+        ensures parts { share.new.parts ≡ share.old.parts }
+        ensures answered { answered job.now }
+        ensures told { IfErr result refused_by };
 }

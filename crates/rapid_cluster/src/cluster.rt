@@ -35,6 +35,8 @@ const PARTS: u64 = 33;
 struct Open;
 
 impl Gate for Open {
+    ghost has_shut = { ⊥ };
+
     fn enter(&self, _worker: usize, _turn: u64) -> bool {
         true
     }

@@ -1,6 +1,6 @@
 // Streams that are given up when the node ends.
 
-ghost use Rattle.std.specs.Prelude.{◌≡◌, ◌≢◌, IfOk, IfErr, OnErr, IsErr, Ok};
+ghost use Rattle.std.specs.Prelude.{◌≡◌, ◌≢◌, true, IfOk, IfErr, IfSome, OnOk, OnErr, IsErr, IsSome, Ok, Some};
 ghost use Rattle.std.specs.IoError.{error_kind};
 ghost use Rattle.std.specs.declared.io.ErrorKind.TheVariants.{Interrupted};
 
@@ -36,8 +36,10 @@ impl<'a, W: Wait + Clock, S: Drop> Until<'a, W, S> {
         }
     }
 
-    /// Whether the node ended at least this long ago.
+    /// Whether the node ended at least this long ago, from when that was first seen.
     fn is_over(&mut self, longest: Duration) -> io::Result<bool>
+        ensures seen { IfOk result (λ over. over ≡ true → IsSome self.new.ended) }
+        ensures first { IfSome self.old.ended (λ ended. self.new.ended ≡ Some ended) }
         ensures stream { self.new.stream ≡ self.old.stream }
     {
         if !self.ending.has_come(self.rt) {
@@ -55,6 +57,8 @@ impl<'a, W: Wait + Clock, S: Drop> Until<'a, W, S> {
         ensures kept { IfOk outcome (λ n. result ≡ Ok n) }
         ensures failed { OnErr outcome (IsErr result) }
         ensures fault { IfErr outcome (λ error. error_kind error ≢ Interrupted → result ≡ outcome) }
+        ensures unseen { OnOk outcome (self.new.ended ≡ self.old.ended) }
+        ensures first { IfSome self.old.ended (λ ended. self.new.ended ≡ Some ended) }
         ensures stream { self.new.stream ≡ self.old.stream }
     {
         if let Err(error) = &outcome
