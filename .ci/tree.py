@@ -111,8 +111,8 @@ def processors():
 def in_lanes(tasks, seconds, done=lambda key, left: None):
     """Runs tasks side by side, each after those that it waits for, the longest chain first.
 
-    A task is the keys that it waits for and a call, which gets how many jobs it may use: two if the
-    chain above it is the longest work that is left, and the lanes that nothing else is ready for.
+    A task is the keys that it waits for and a call, which gets how many jobs it may use: two or three
+    if the chain above it is the longest work that is left, and the lanes that nothing else is ready for.
     Gives what each call gave, and the seconds that it took."""
     lanes, behind = processors(), dict.fromkeys(tasks, 0)
     for key in reversed(list(tasks)):
@@ -132,7 +132,8 @@ def in_lanes(tasks, seconds, done=lambda key, left: None):
             todo = sum(seconds.get(it, 10) for it in [*waiting, *(key for key, _ in running.values())])
             for at, key in enumerate(ready[: max(idle, 0)]):
                 # a chain that would outlast all the rest is what everything waits for in the end
-                least = 2 if lanes > 3 and behind[key] * lanes > todo else 1
+                longer = behind[key] * lanes / max(todo, 1)
+                least = 1 if lanes <= 3 or longer <= 1 else 2 if longer <= 1.5 else 3
                 jobs = min(idle, max(least, min(3, idle // (len(ready) - at))))
                 idle -= jobs
                 waiting.remove(key)
