@@ -34,7 +34,7 @@ const MOST_PROBERS: u8 = Params::MOST_RINGS;
 /// is taken alone or under that of the service, and none is taken under it.
 #[derive(Drop)]
 pub struct Shared<R: Wait + Copy + Drop, P: Post + Drop> {
-    // in a box: who has the node of a service need not know how large a service is
+    /// In a box, since whoever has the node of a service is then proved without its fields.
     service: Mutex<Box<Service<R, P>>>,
     parts: Places,
     probers: u8,
