@@ -8,7 +8,6 @@ mod ending;
 mod fault;
 mod identity;
 mod journal;
-mod places;
 mod post;
 mod present;
 mod prober;

@@ -1,11 +1,11 @@
 // One node at its desk, with its probes.
 
-ghost use Rattle.std.specs.Prelude.{◌≡◌, ◌==◌, ℕ, ◌+◌, ◌%◌, ◌<◌, ◌≤◌, ◌++◌, [], ◌∷◌, ◌↔◌, map, true, false, Ok, Some, None, length, option_to_list, vec_len, IfOk, IfErr, IfSome, IsSome, IsSomeAnd, OnOk, OnErr};
+ghost use Rattle.std.specs.Prelude.{◌≡◌, ◌==◌, ℕ, ◌+◌, ◌%◌, ◌<◌, ◌≤◌, ◌++◌, [], ◌∷◌, ◌↔◌, map, false, Ok, Some, None, length, option_to_list, vec_len, IfOk, IfErr, IfSome, IsSome, IsSomeAnd, OnOk, OnErr};
 ghost use Rattle.std.specs.Option.{option_map};
 ghost use Rattle.std.proofs.Props.{props};
 ghost use Rattle.rapid_desk.specs.Desks.{NotSubscribed, seed_state, joiner_state, shown_height};
 ghost use Rattle.rapid_node.specs.Phases.{name_of};
-ghost use Rattle.rapid_model.specs.Configuration.{founding, is_member};
+ghost use Rattle.rapid_model.specs.Configuration.{founding};
 ghost use Rattle.rapid_model.specs.Message.{Probe};
 ghost use Rattle.rapid_model.specs.Node as model;
 ghost use Rattle.rapid_model.specs.Ring.{subjects_of};
@@ -83,20 +83,6 @@ fn probe_of(sender: Process, id: ConfigId) -> Message
     }
 }
 
-/// The configuration of a process that is alone in its cluster.
-fn alone(alloc: Global, params: Params, me: Process) -> Result<Configuration, RunningFault>
-    ensures founding { IfOk result (λ c. c ≡ founding params (me ∷ [])) }
-    ensures member { IfOk result (λ c. is_member c me ≡ true) }
-{
-    let Ok(configuration) = Configuration::seed(alloc, params, &[me]) else {
-        return Err(RunningFault::OutOfMemory);
-    };
-    if !configuration.is_member(&me) {
-        return Err(RunningFault::Halted);
-    }
-    Ok(configuration)
-}
-
 /// The frame of a message.
 fn frame_of(alloc: Global, message: &Message) -> Result<Bytes, AllocError> {
     Ok(Bytes::from_vec(encode(alloc, message)?)?)
@@ -131,18 +117,6 @@ fn probe_all<R: Wait, P: Post>(
         }
     }
     Ok(())
-}
-
-/// Sends the probes of a round.
-fn send_probes<R: Wait, P: Post>(
-    rt: &R,
-    alloc: Global,
-    post: &mut P,
-    sender: Process,
-    round: &PartRound,
-) -> Result<(), AllocError> {
-    let frame = frame_of(alloc, &probe_of(sender, round.id))?;
-    probe_all(rt, post, &round.probes, &frame)
 }
 
 impl<R: Wait + Copy + Drop, P: Post + Drop> Service<R, P> {
@@ -189,7 +163,12 @@ impl<R: Wait + Copy + Drop, P: Post + Drop> Service<R, P> {
         ensures line { IfOk result (λ s. s.lines.items ≡ view_text (founding params (me ∷ []))) }
         ensures own { IfOk result (λ s. (s.desk.subscriptions ≡ record { queue = s.changes.queue; since = shown_height s.desk.state.published; capacity = 4; put = []; known = [] } ∷ []) × (s.changes.taken ≡ [])) }
     {
-        let configuration = alone(alloc, params, me)?;
+        let Ok(configuration) = Configuration::seed(alloc, params, &[me]) else {
+            return Err(RunningFault::OutOfMemory);
+        };
+        if !configuration.is_member(&me) {
+            return Err(RunningFault::Halted);
+        }
         // The only reason why a first view is not published is that there is no memory for it.
         let Ok(desk) = Desk::seed(rt, alloc, &configuration, me, SEATS) else {
             return Err(RunningFault::OutOfMemory);
@@ -251,7 +230,8 @@ impl<R: Wait + Copy + Drop, P: Post + Drop> Service<R, P> {
         ensures views { OnOk result (EntersSome (views_of self.old.changes.taken self.old.lines.items self.old.present) (views_of self.new.changes.taken self.new.lines.items self.new.present)) }
     {
         self.hand_down(round.id, &round.downs)?;
-        send_probes(&self.rt, self.alloc, &mut self.post, self.me, round)?;
+        let frame = frame_of(self.alloc, &probe_of(self.me, round.id))?;
+        probe_all(&self.rt, &mut self.post, &round.probes, &frame)?;
         Ok(())
     }
 
@@ -408,12 +388,6 @@ impl<R: Wait + Copy + Drop, P: Post + Drop> Service<R, P> {
     {
         // nobody compares what was taken with what was put
         drop(self.desk.close());
-    }
-
-    /// Goes on as another service. The subscriptions made so far end.
-    pub(crate) fn replace(&mut self, next: Service<R, P>) {
-        self.close();
-        *self = next;
     }
 
     /// The lines of the views that were entered since this was last asked.

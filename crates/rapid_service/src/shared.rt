@@ -11,7 +11,6 @@ use crate::console::Console;
 use crate::dealer::Dealer;
 use crate::ending::Ending;
 use crate::fault::RunningFault;
-use crate::places::Places;
 use crate::post::Post;
 use crate::service::Service;
 use rapid_config::Params;
@@ -20,7 +19,7 @@ use rapid_endpoint::Process;
 use rapid_lines::{Note, write_edges};
 use rapid_message::{Body, Message};
 use rapid_node::Phase;
-use rapid_rounds::EdgeState;
+use rapid_rounds::{Part, PartRound};
 use rapid_view::{View, ViewSeat};
 use std::alloc::{AllocError, Global};
 use std::sync::{Mutex, Wait};
@@ -34,15 +33,15 @@ const MOST_PROBERS: u8 = Params::MOST_RINGS;
 /// is taken alone or under that of the service, and none is taken under it.
 #[derive(Drop)]
 pub struct Shared<R: Wait + Copy + Drop, P: Post + Drop> {
-    /// In a box, since whoever has the node of a service is then proved without its fields.
-    service: Mutex<Box<Service<R, P>>>,
-    parts: Places,
+    alloc: Global,
+    service: Mutex<Service<R, P>>,
+    parts: Vec<Mutex<Option<Part>>>,
     probers: u8,
     dealer: Dealer,
     console: Console,
     ending: Ending,
     bell: Bell,
-    ghost dealt: { (vec_len parts.all ≡ probers) × (dealer.parts ≡ probers) },
+    ghost dealt: { (vec_len parts ≡ probers) × (dealer.parts ≡ probers) },
 }
 
 impl<R: Wait + Copy + Drop, P: Post + Drop> Shared<R, P> {
@@ -57,35 +56,20 @@ impl<R: Wait + Copy + Drop, P: Post + Drop> Shared<R, P> {
         ensures { IfOk result (λ shared. shared.probers ≡ max 1 (min probers most_probers)) }
     {
         let probers = probers.clamp(1, MOST_PROBERS);
-        let parts = Places::new(alloc, probers)?;
-        let service = Box::new(alloc, service)?;
-        Ok(Shared::around(alloc, service, parts, probers))
-    }
-
-    /// The node of a service, with a place for each part.
-    fn around(
-        alloc: Global,
-        service: Box<Service<R, P>>,
-        parts: Places,
-        probers: u8,
-    ) -> Shared<R, P>
-        requires { vec_len parts.all ≡ probers }
-        ensures { result.probers ≡ probers }
-    {
-        let service = Mutex::new(service);
-        let dealer = Dealer::new(usize::from(probers));
-        let console = Console::new(alloc);
-        let ending = Ending::new();
-        let bell = Bell::new();
-        Shared {
-            service,
+        let mut parts = Vec::with_capacity(alloc, usize::from(probers))?;
+        for _ in 0..probers {
+            parts.push(Mutex::new(None))?;
+        }
+        Ok(Shared {
+            alloc,
+            service: Mutex::new(service),
             parts,
             probers,
-            dealer,
-            console,
-            ending,
-            bell,
-        }
+            dealer: Dealer::new(usize::from(probers)),
+            console: Console::new(alloc),
+            ending: Ending::new(),
+            bell: Bell::new(),
+        })
     }
 
     /// What is printed.
@@ -121,25 +105,33 @@ impl<R: Wait + Copy + Drop, P: Post + Drop> Shared<R, P> {
     /// the order in which they were entered. Those that wait for them are woken, and probes begin
     /// anew in the last of them.
     fn show<W: Wait>(&self, rt: &W, service: &mut Service<R, P>) -> Result<(), RunningFault> {
-        self.print(rt, service.take_lines())?;
+        let lines = service.take_lines();
+        if !lines.is_empty() {
+            self.bell.ring(rt);
+        }
+        self.console.add(rt, lines.as_slice())?;
         if let Some(parts) = service.take_parts(self.probers)? {
-            self.parts.fill(rt, parts);
+            self.begin_parts(rt, parts);
         }
         Ok(())
     }
 
-    /// Prints the lines of views, and wakes those who wait for them.
-    fn print<W: Wait>(&self, rt: &W, lines: Vec<u8>) -> Result<(), RunningFault> {
-        if !lines.is_empty() {
-            self.bell.ring(rt);
+    /// Puts each part of the probes of a new view in its place.
+    fn begin_parts<W: Wait>(&self, rt: &W, parts: Vec<Part>) {
+        let mut slots = self.parts.iter();
+        for part in parts {
+            if let Some(slot) = slots.next() {
+                let mut slot = slot.lock(rt);
+                *slot = Some(part);
+            }
         }
-        self.console.add(rt, lines.as_slice())
     }
 
     /// Prints the views that were entered so far.
     pub fn begin<W: Wait>(&self, rt: &W) -> Result<(), RunningFault> {
         let mut service = self.service.lock(rt);
-        self.show(rt, &mut service)
+        self.show(rt, &mut service)?;
+        Ok(())
     }
 
     /// A tick of the node. After every tenth the observed members are probed, and edges of which
@@ -159,22 +151,36 @@ impl<R: Wait + Copy + Drop, P: Post + Drop> Shared<R, P> {
     fn step<W: Wait>(&self, rt: &W) -> Result<bool, RunningFault> {
         let mut service = self.service.lock(rt);
         let done = service.tick();
-        self.show(rt, &mut service).and(done)
+        self.show(rt, &mut service)?;
+        done
+    }
+
+    /// A round of a part of the probes, if there is a view.
+    fn round_of<W: Wait>(&self, rt: &W, part: usize) -> Result<Option<PartRound>, RunningFault> {
+        let Some(slot) = self.parts.get(part) else {
+            return Ok(None);
+        };
+        let mut slot = slot.lock(rt);
+        match &mut *slot {
+            Some(part) => Ok(Some(part.round(self.alloc)?)),
+            None => Ok(None),
+        }
     }
 
     /// A round of a part of the probes. What it asks for is sent when its lock is free again.
     fn probe<W: Wait>(&self, rt: &W, part: usize) -> Result<(), RunningFault> {
-        let Some(round) = self.parts.round(rt, part)? else {
+        let Some(round) = self.round_of(rt, part)? else {
             return Ok(());
         };
         let mut service = self.service.lock(rt);
         let done = service.hand_on(&round);
-        self.show(rt, &mut service).and(done)
+        self.show(rt, &mut service)?;
+        done
     }
 
     /// Makes parts of the current round of probes while there is one that no thread has taken.
     pub fn probe_parts<W: Wait>(&self, rt: &W) {
-        for _ in 0..self.parts.count() {
+        for _ in 0..self.parts.len() {
             let Some(part) = self.dealer.take(rt) else {
                 return;
             };
@@ -189,20 +195,26 @@ impl<R: Wait + Copy + Drop, P: Post + Drop> Shared<R, P> {
         self.goes_on(rt, done);
     }
 
-    /// What a message tells of a probe.
-    fn hear<W: Wait>(&self, rt: &W, message: &Message) {
-        if let Body::ProbeAck(_) = message.body() {
-            self.parts.ack(rt, &message.sender());
+    /// A process has acknowledged a probe.
+    fn ack<W: Wait>(&self, rt: &W, process: &Process) {
+        for slot in &self.parts {
+            let mut slot = slot.lock(rt);
+            if let Some(part) = &mut *slot {
+                part.ack(process);
+            }
         }
     }
 
     /// A message has come.
     pub fn receive<W: Wait>(&self, rt: &W, message: Message) -> Result<(), RunningFault> {
-        // before the lock of the service, so that a long step does not make a peer seem silent
-        self.hear(rt, &message);
+        if let Body::ProbeAck(_) = message.body() {
+            // before the lock of the service, so that a long step does not make a peer seem silent
+            self.ack(rt, &message.sender());
+        }
         let mut service = self.service.lock(rt);
         let done = service.receive(message);
-        self.show(rt, &mut service).and(done)?;
+        self.show(rt, &mut service)?;
+        done?;
         Ok(())
     }
 
@@ -210,20 +222,17 @@ impl<R: Wait + Copy + Drop, P: Post + Drop> Shared<R, P> {
     pub fn leave<W: Wait>(&self, rt: &W) -> Result<(), RunningFault> {
         let mut service = self.service.lock(rt);
         let done = service.leave();
-        self.show(rt, &mut service).and(done)
-    }
-
-    /// The observed edges of one view, each up or down as it is now.
-    fn edges<W: Wait>(&self, rt: &W) -> Result<Vec<EdgeState>, AllocError> {
-        let mut service = self.service.lock(rt);
-        service.edges()
+        self.show(rt, &mut service)?;
+        done
     }
 
     /// Writes the lines of the observed edges: those of one view, each up or down as it is now.
     pub fn write_edges<W: Wait>(&self, rt: &W, output: &mut Vec<u8>) -> Result<(), RunningFault>
         ensures { OnOk result ((edges : List EdgeState) × (output.new.items ≡ output.old.items ++ edges_text edges)) }
     {
-        let edges = self.edges(rt)?;
+        let mut service = self.service.lock(rt);
+        let edges = service.edges()?;
+        drop(service);
         write_edges(edges.as_slice(), output)?;
         Ok(())
     }
@@ -277,8 +286,12 @@ impl<R: Wait + Copy + Drop, P: Post + Drop> Shared<R, P> {
     /// probed for it is forgotten.
     pub fn begin_anew<W: Wait>(&self, rt: &W, next: Service<R, P>) {
         let mut service = self.service.lock(rt);
-        service.replace(next);
-        self.parts.clear(rt);
+        service.close();
+        *service = next;
+        for slot in &self.parts {
+            let mut slot = slot.lock(rt);
+            *slot = None;
+        }
         drop(service);
         self.bell.ring(rt);
     }
