@@ -40,25 +40,13 @@ const MOST_CAPACITY: usize = 1_024;
 /// A node at a desk: the node, the journal of what happened since it entered its configuration, and
 /// the views that it has published. Contracts see what is held, and whether the seats at the
 /// published view are still to be taken.
+#[derive(Drop)]
 pub struct Desk<R: Wait + Copy + Drop> {
     rt: R,
     alloc: Global,
     held: Held,
     board: Board<R>,
     outlets: Vec<Outlet>,
-}
-
-// by hand: whoever drops a desk does not prove anew how each of its parts is dropped
-impl<R: Wait + Copy + Drop> Drop for Desk<R> {
-    fn drop(self) {
-        let Desk {
-            rt: _,
-            alloc: _,
-            held: _,
-            board: _,
-            outlets: _,
-        } = self;
-    }
 }
 
 impl<R: Wait + Copy + Drop> Model for Desk<R> {
