@@ -29,6 +29,7 @@ const MOST_PROBERS: u8 = Params::MOST_RINGS;
 
 /// A member of a cluster in one's own program: its node, its listener and what its threads share.
 /// Threads share it by reference. It does nothing by itself until `run` or `run_while`.
+#[derive(Drop)]
 pub struct Agent<'a, W: Wait> {
     rt: &'a W,
     alloc: Global,
@@ -39,22 +40,6 @@ pub struct Agent<'a, W: Wait> {
     /// The ends of the senders' queues, until it runs.
     ends: Mutex<Option<Vec<SenderEnd>>>,
     shared: Shared<&'a W, Posts>,
-}
-
-// by hand: whoever drops an agent does not prove anew how each of its parts is dropped
-impl<W: Wait> Drop for Agent<'_, W> {
-    fn drop(self) {
-        let Agent {
-            rt: _,
-            alloc: _,
-            endpoint: _,
-            period: _,
-            probers: _,
-            peers: _,
-            ends: _,
-            shared: _,
-        } = self;
-    }
 }
 
 /// Listens at an endpoint.
@@ -92,21 +77,6 @@ fn open_service<'a, W: Wait>(
         None => Service::found(rt, alloc, options.params, me, posts),
         Some(seed) => Service::join(rt, alloc, me, seed, posts),
     }
-}
-
-/// What the threads of that process share, in which it has begun.
-fn open_shared<'a, W: Wait>(
-    rt: &'a W,
-    alloc: Global,
-    options: &NodeOptions,
-    me: Process,
-    peers: &Arc<Peers>,
-    probers: u8,
-) -> Result<Shared<&'a W, Posts>, RunningFault> {
-    let service = open_service(rt, alloc, options, me, posts(peers)?)?;
-    let shared = Shared::new(alloc, service, probers)?;
-    shared.begin(rt)?;
-    Ok(shared)
 }
 
 impl<'a, W: Wait> Agent<'a, W> {
@@ -154,8 +124,10 @@ impl<'a, W: Wait> Agent<'a, W> {
         let id = identify(options.id, source)?;
         let me = Process::new(id, options.listen);
         let (peers, ends) = listen(rt, alloc, options.listen)?;
+        let service = open_service(rt, alloc, options, me, posts(&peers)?)?;
         let probers = options.probers.min(MOST_PROBERS);
-        let shared = open_shared(rt, alloc, options, me, &peers, probers)?;
+        let shared = Shared::new(alloc, service, probers)?;
+        shared.begin(rt)?;
         Ok(Agent {
             rt,
             alloc,
@@ -211,7 +183,7 @@ impl<'a, W: Wait> Agent<'a, W> {
     }
 
     /// The member is to leave: it asks those that observe it to have it removed. It goes on until a
-    /// view comes without it, and is in phase `Removed` then. Call this again if a view comes that
+    /// view comes without it, and is in phase `Removed` then. It is asked again if a view comes that
     /// still has it.
     ///
     /// # Errors
