@@ -1,7 +1,10 @@
 // The command `node`.
 
-ghost use Rattle.std.specs.Prelude.{◌≡◌, ◌≤◌, true};
-ghost use Rattle.rapid_commands.specs.NodeWords.{NamesNode};
+ghost use Rattle.std.specs.Prelude.{◌≡◌, ◌≤◌, true, false, codes, Some, IfSome, IfNone};
+ghost use Rattle.std.specs.Option.{option_map};
+ghost use Rattle.clap.specs.Words.{first_of, found_of, rows_of, subcommand_rows_of};
+ghost use Rattle.rapid_words.specs.Asked.{number_in};
+ghost use Rattle.rapid_commands.specs.NodeWords.{NamesNode, HasOptions, CannotBe, IsNoNode};
 
 use clap::ArgMatches;
 use rapid_options::NodeWords;
@@ -19,7 +22,8 @@ use std::time::Clock;
 
 /// Whether the words of the program name the command `node`.
 pub(crate) fn names_node<S: AsStr>(words: &[S]) -> bool
-    ensures { result ≡ true → NamesNode S.text words.now }
+    ensures named { result ≡ true → NamesNode S.text words.now }
+    ensures other { result ≡ false → ¬ NamesNode S.text words.now }
 {
     match words.get(1) {
         Some(command) => command.as_str() == "node",
@@ -27,8 +31,18 @@ pub(crate) fn names_node<S: AsStr>(words: &[S]) -> bool
     }
 }
 
-/// What the words after `node` say.
-fn words_of<'a>(words: &ArgMatches<'a>) -> Option<NodeWords<'a>> {
+/// What the words after `node` say; none if the endpoint is missing, or if a number does not fit.
+fn words_of<'a>(words: &ArgMatches<'a>) -> Option<NodeWords<'a>>
+    ensures listen { IfSome result (λ w. first_of (codes "listen") (rows_of (found_of words.now)) ≡ Some w.listen.now) }
+    ensures join { IfSome result (λ w. first_of (codes "join") (rows_of (found_of words.now)) ≡ option_map (λ t. t.now) w.join) }
+    ensures id { IfSome result (λ w. first_of (codes "id") (rows_of (found_of words.now)) ≡ option_map (λ t. t.now) w.id) }
+    ensures k { IfSome result (λ w. number_in (rows_of (found_of words.now)) (codes "k") ≡ Some w.k) }
+    ensures h { IfSome result (λ w. number_in (rows_of (found_of words.now)) (codes "h") ≡ Some w.h) }
+    ensures l { IfSome result (λ w. number_in (rows_of (found_of words.now)) (codes "l") ≡ Some w.l) }
+    ensures tick_ms { IfSome result (λ w. number_in (rows_of (found_of words.now)) (codes "tick-ms") ≡ Some w.tick_ms) }
+    ensures probers { IfSome result (λ w. number_in (rows_of (found_of words.now)) (codes "probers") ≡ Some w.probers) }
+    ensures none { IfNone result (¬ HasOptions (rows_of (found_of words.now))) }
+{
     Some(NodeWords {
         listen: words.get_str("listen")?,
         id: words.get_str("id"),
@@ -42,7 +56,10 @@ fn words_of<'a>(words: &ArgMatches<'a>) -> Option<NodeWords<'a>> {
 }
 
 /// The words after `node`, if the words of the program name that command.
-pub(crate) fn node_matches<'m, 'a>(matches: &'m ArgMatches<'a>) -> Option<&'m ArgMatches<'a>> {
+pub(crate) fn node_matches<'m, 'a>(matches: &'m ArgMatches<'a>) -> Option<&'m ArgMatches<'a>>
+    ensures named { IfSome result (λ m. subcommand_rows_of matches.now ≡ Some (codes "node", rows_of (found_of m.now))) }
+    ensures other { IfNone result (IsNoNode (subcommand_rows_of matches.now)) }
+{
     matches.subcommand_matches(NODE)
 }
 
@@ -67,6 +84,7 @@ where
     O: Write + Send,
     E: Write + Send,
     ensures refused { result ≡ 2 → out.new ≡ out.old }
+    ensures fault { result ≡ 2 → CannotBe (rows_of (found_of words.now)) }
     ensures status { result ≤ 3 }
 {
     let Some(asked) = words_of(words) else {

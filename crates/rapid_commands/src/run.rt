@@ -6,7 +6,7 @@ ghost use Rattle.std.specs.declared.io.ErrorKind.TheVariants.{OutOfMemory};
 ghost use Rattle.rapid_words.specs.Asked.{AsksForHelp, CanRun, IsAsked};
 ghost use Rattle.rapid_words.specs.Refused.{AreRefused};
 ghost use Rattle.rapid_commands.specs.Invocations.{Wrote, WroteFront};
-ghost use Rattle.rapid_commands.specs.NodeWords.{NamesNode};
+ghost use Rattle.rapid_commands.specs.NodeWords.{NamesNode, AreRefusedForNode};
 ghost use Rattle.rapid_commands.specs.Statuses.{run_status};
 
 use crate::node::{names_node, node_matches, run_as_node};
@@ -126,6 +126,7 @@ where
     O: Write + Send,
     E: Write + Send,
     ensures refused { result ≡ 2 → out.new ≡ out.old }
+    ensures fault { result ≡ 2 → AreRefusedForNode (map S.text words.now) }
     ensures status { result ≤ 3 }
 {
     match matches_of(alloc, words) {
@@ -171,6 +172,7 @@ where
         ((reader.new ≡ reader.old) × AsksForHelp (map S.text words.now)) }
     ensures refused { result ≡ 2 → out.new ≡ out.old }
     ensures fault { result ≡ 2 → NamesNode S.text words.now ⊎ AreRefused (map S.text words.now) }
+    ensures node { result ≡ 2 → NamesNode S.text words.now → AreRefusedForNode (map S.text words.now) }
     ensures memory { result ≡ 3 → NamesNode S.text words.now ⊎
         ((invocation : Invocation) × IsAsked (map S.text words.now) invocation × WroteFront invocation (R.remaining reader.old) (O.contents out.old) (O.contents out.new)) ⊎
         (out.new ≡ out.old) }
