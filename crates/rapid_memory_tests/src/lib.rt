@@ -3,7 +3,7 @@
 //! memory, and `./check all` once for each allocation, with that one refused. That needs a program
 //! built by LLVM, so they are proved then, and in a crate of their own. Those of a desk are in
 //! `rapid_slow_tests`, the other tests in `rapid_parts_tests`, `rapid_node_tests`,
-//! `rapid_world_tests` and `rapid_run_tests`.
+//! `rapid_world_tests`, `rapid_transport_tests` and `rapid_run_tests`.
 #![tactic(auto)]
 
 #[cfg(test)]

@@ -1,5 +1,5 @@
-//! Tests of running nodes, of frames on their way, and of the command line. There is nothing else here,
-//! so that nothing below is proved a second time for its tests.
+//! Tests of running nodes and of the command line. There is nothing else here, so that nothing below
+//! is proved a second time for its tests.
 #![tactic(auto)]
 
 #[cfg(test)]
@@ -8,5 +8,3 @@ mod command_line;
 mod commands;
 #[cfg(test)]
 mod running;
-#[cfg(test)]
-mod transport;

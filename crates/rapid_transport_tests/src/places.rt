@@ -1,7 +1,7 @@
 // The endpoints to which frames go, and by which connections.
 
-use crate::transport::peers::{Tally, none_asked, post_all, wait_for};
-use crate::transport::worked::PRE_JOIN;
+use crate::peers::{Tally, none_asked, post_all, wait_for};
+use crate::worked::PRE_JOIN;
 use rapid_endpoint::Endpoint;
 use rapid_transport::{Peers, is_local};
 use std::alloc::{AllocError, Global};

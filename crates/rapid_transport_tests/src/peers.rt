@@ -1,6 +1,6 @@
 // Peers over loopback TCP.
 
-use crate::transport::worked::{PRE_JOIN, asks_to_join};
+use crate::worked::{PRE_JOIN, asks_to_join};
 use bytes::Bytes;
 use rapid_endpoint::Endpoint;
 use rapid_message::Message;

@@ -1,6 +1,6 @@
 // A peer that reads nothing.
 
-use crate::transport::peers::{Tally, none_asked, post_all, wait_for};
+use crate::peers::{Tally, none_asked, post_all, wait_for};
 use bytes::Bytes;
 use rapid_endpoint::Endpoint;
 use rapid_transport::{Peers, TransportError};

@@ -1,7 +1,7 @@
 // Messages from readers that end, fail, or give one byte at a time.
 
-use crate::transport::devices::Faulty;
-use crate::transport::worked::{PRE_JOIN, asks_to_join};
+use crate::devices::Faulty;
+use crate::worked::{PRE_JOIN, asks_to_join};
 use rapid_transport::{Counted, Metered, TransportError, receive};
 use rapid_wire::{Feed, WireFault};
 use std::alloc::Global;

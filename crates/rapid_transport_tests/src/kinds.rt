@@ -1,6 +1,6 @@
 // Frames of every kind: cut after each byte, and from readers and to writers that fail at each call.
 
-use crate::transport::devices::{Ends, Faulty, Narrow};
+use crate::devices::{Ends, Faulty, Narrow};
 use bytes::Bytes;
 use rapid_transport::{Metered, TransportError, receive, send};
 use rapid_wire::Feed;

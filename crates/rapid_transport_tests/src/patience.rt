@@ -1,7 +1,7 @@
 // Incoming connections that are silent, stop within a frame, or are too many.
 
-use crate::transport::peers::{Tally, none_asked, wait_for};
-use crate::transport::worked::PRE_JOIN;
+use crate::peers::{Tally, none_asked, wait_for};
+use crate::worked::PRE_JOIN;
 use rapid_endpoint::Endpoint;
 use rapid_transport::{Counters, Peers};
 use std::alloc::{AllocError, Global};

@@ -1,7 +1,7 @@
 // Frames to writers that fail, take one byte at a time, or take none.
 
-use crate::transport::devices::{Ends, Narrow};
-use crate::transport::worked::PRE_JOIN;
+use crate::devices::{Ends, Narrow};
+use crate::worked::PRE_JOIN;
 use bytes::Bytes;
 use rapid_transport::{Counted, Metered, TransportError, send};
 use std::alloc::{AllocError, Global};
