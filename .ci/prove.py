@@ -1,4 +1,4 @@
-"""Proves crates side by side: over what earlier proofs left in their folders out/, or from nothing.
+"""Proves crates side by side, over what earlier proofs left in their folders out/.
 
 Each is proved in a tree of its own, since rt locks all crates below the one that it works on: the
 sources and the libraries below it are links to the same files."""
@@ -99,37 +99,19 @@ def prove(room, name, jobs):
     return ran.returncode == 0
 
 
-def prove_anew(room, name, jobs):
-    """Has rt ci prove a crate in a tree of no more crates than it needs: what it proved is kept for the run over all."""
-    tree.write_tree(room / name, [*tree.below(name), name], (*tree.SOURCES, *tree.FILES_OF_A_RUN), shutil.copy)
-    ran = tree.rt(["ci"], room / name, env={**os.environ, **({"RT_JOBS": "1"} if jobs == 1 else {})})
-    shutil.rmtree(room / name)
-    if ran.returncode:
-        print(f"== {name}\n{ran.stdout}", flush=True)
-    return ran.returncode == 0
-
-
-def tasks_of(names, room, prover):
-    """A task for each of these crates, after those below it."""
-    failed = set()
+def tasks_over_kept(names, room):
+    """A task for each of these crates that is not proved, after those below it."""
+    failed, names = set(), [it for it in names if not is_proved(it)]
 
     def task(name):
         def call(jobs):
-            well = not failed & {*tree.below(name)} and prover(room, name, jobs)
+            well = not failed & {*tree.below(name)} and prove(room, name, jobs)
             failed.update([] if well else [name])
             return well
 
         return [it for it in tree.below(name) if it in names], call
 
     return {it: task(it) for it in sorted(names, key=lambda it: len(tree.below(it)))}
-
-
-def tasks_from_nothing(names, room):
-    return tasks_of(names, room, prove_anew)
-
-
-def tasks_over_kept(names, room):
-    return tasks_of([it for it in names if not is_proved(it)], room, prove)
 
 
 def run(tasks):

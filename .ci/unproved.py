@@ -10,7 +10,8 @@ sys.dont_write_bytecode = True
 import tests  # noqa: E402
 import tree  # noqa: E402
 
-ADDED = re.compile(r"(checked: ended |checked: step |races: |run=ended )")  # what rt says besides
+ADDED = re.compile(r"(interpreter: |checked: ended |checked: step |races: |run=ended )")  # what rt says besides
+STEPS = ["--steps", "1"]  # no run by the interpreter, which takes seconds and seldom has what a program calls
 
 
 def main(words):
@@ -19,7 +20,7 @@ def main(words):
         if words in (["detect"], ["sim"]):
             folder, words = tests.program_of(Path(room) / "tree", words[0]), []
         how = {"stderr": subprocess.PIPE, "text": True, "errors": "replace"}
-        ran = subprocess.run(["rt", "try", *(["--", *words] if words else [])], cwd=folder, **how)
+        ran = subprocess.run(["rt", "try", *STEPS, *(["--", *words] if words else [])], cwd=folder, **how)
     said = [it for it in ran.stderr.splitlines() if not ADDED.match(it)]
     print("".join(f"{it}\n" for it in said), end="", file=sys.stderr)
     return ran.returncode
