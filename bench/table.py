@@ -1,5 +1,5 @@
 #!/usr/bin/env python3
-"""Prints the table of README.md: table.py FILE.., each what run.sh wrote; the best counts."""
+"""Prints figures as a table, as README.md has them: table.py FILE.., each what run.sh wrote; the best counts."""
 import sys
 
 

@@ -56,8 +56,8 @@ libraries (lists, numbers, sets, SHA-256) come on top.
 
 Definitions are not all that one has to trust. There is also what [README.md](../README.md#what-is-not-proved) names as \
 what it rests on. And there are premises. Those of the agreement stand with \
-[the headline](PROMISES.md#the-headline). For nodes in several processes there is one more: sockets deliver only what \
-was sent.
+[the headline](PROMISES.md#the-headline). For nodes in several processes there are three more: one founding, no \
+identifier used twice, and sockets that deliver only what was sent.
 
 How a type's value is read off its fields (`ghost view`) is left out too. A caller knows a value by what calls answer \
 of it.

@@ -5,7 +5,8 @@
 A link `[..](path#anchor)` counts from its page, and the anchor is a heading there. A path counts from
 the top of the repository, or from `crates` if it begins with a crate's name: in backquotes any below
 `crates`, `docs`, `examples`, `bench`, `.ci` or a folder of a crate, in a block of code a file of
-`docs`, `examples` or `bench`. A star stands for any name; built files are not looked for.
+`docs`, `examples` or `bench`. A star stands for any name; built files are not looked for. In a row of
+CHANGE.md that begins with a file, a later one may count from the folder or the crate of the one before.
 """
 import re
 import sys
@@ -17,7 +18,8 @@ sys.path.insert(0, str(TOP / ".ci"))
 import growths  # noqa: E402
 
 TOPS = ("crates", "docs", "examples", "bench", ".ci")
-FOLDERS = r"(?:crates|docs|examples|bench|\.ci|rapid\w*/(?:src|specs|proofs|must-fail))"
+PARTS = r"(?:src|specs|proofs|must-fail)"
+FOLDERS = rf"(?:crates|docs|examples|bench|\.ci|\w+/{PARTS})"
 QUOTED = re.compile(rf"`(?:\./)?({FOLDERS}/[\w./*-]+?)/?`")
 IN_CODE = re.compile(r"(?<![\w/$.>])((?:docs|examples|bench)/[\w./-]+\.(?:txt|sh|py|rs|service))\b")
 LINK = re.compile(r"\]\(([^()\s]+)\)")
@@ -25,6 +27,7 @@ NOT_THERE = re.compile(r"/out/|/my_|\bNAME\b")  # built files, and places for na
 TEST = re.compile(r"#\[test\]\s+fn (\w+)\(")
 SHOWN = re.compile(r"`([a-z]\w+)`")
 RUN = re.compile(r"`([a-z]+: [a-z ]+)`")
+ROW = re.compile(r"^\| (`.*?) \|", re.M)
 BLOCK = re.compile(r"^```.*?^```$", re.M | re.S)
 
 
@@ -48,6 +51,24 @@ def is_there(path):
     return bool(NOT_THERE.search(path)) or any(TOP.glob(below + path))
 
 
+def files_of(row):
+    """The paths of a row in CHANGE.md, as they count from the top or from `crates`."""
+    before = Path()
+    for name in re.findall(r"`([\w./-]+)`", row):
+        if re.match(rf"{PARTS}/", name):
+            name = f"{before.parts[0]}/{name}"
+        elif "/" not in name and name not in TOPS:
+            name = str(before.parent / name)
+        before = Path(name)
+        yield name
+
+
+def missing_files():
+    """What a row in CHANGE.md names as a file or a folder and is none."""
+    rows = ROW.findall((TOP / "docs/CHANGE.md").read_text())
+    return [name for row in rows for name in files_of(row) if not (TOP / name).is_file() and not is_there(name)]
+
+
 def missing_tests():
     """What LIMITS.md names as a test or a run and is none."""
     text = [it.read_text() for it in TOP.glob("crates/*_tests/src/**/*.rt")]
@@ -61,7 +82,8 @@ def missing_tests():
 def main():
     """Looks through all pages."""
     bad = [f"docs/LIMITS.md: {name} is not there" for name in missing_tests()]
-    tops = [TOP / "README.md", TOP / "bench/README.md", *TOP.glob(".ci/README.md")]
+    bad += [f"docs/CHANGE.md: {name} is not there" for name in missing_files()]
+    tops = [TOP / "README.md", *sorted(TOP.glob("bench/*.md")), *TOP.glob(".ci/README.md")]
     for page in [*tops, *sorted((TOP / "docs").rglob("*.md"))]:
         text, code = BLOCK.sub("", page.read_text()), "\n".join(BLOCK.findall(page.read_text()))
         names = [link for link in LINK.findall(text) if not leads(page, link)]
