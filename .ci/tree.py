@@ -111,9 +111,9 @@ def processors():
 def in_lanes(tasks, seconds, done=lambda key, left: None):
     """Runs tasks side by side, each after those that it waits for, the longest chain first.
 
-    A task is the keys that it waits for and a call, which gets how many jobs it may use: two or three
-    if the chain above it is the longest work that is left, and the lanes that nothing else is ready for.
-    Gives what each call gave, and the seconds that it took."""
+    A task is the keys that it waits for and a call, which gets how many jobs it may use. As long as
+    the longest chain would outlast all the rest, its tasks have three jobs each, also beyond the
+    lanes, and all others one. Gives what each call gave, and the seconds that it took."""
     lanes, behind = processors(), dict.fromkeys(tasks, 0)
     for key in reversed(list(tasks)):
         behind[key] += seconds.get(key, 10)
@@ -125,21 +125,20 @@ def in_lanes(tasks, seconds, done=lambda key, left: None):
         start = time.monotonic()
         return call(jobs), time.monotonic() - start
 
-    with ThreadPoolExecutor(lanes) as pool:
+    with ThreadPoolExecutor(lanes + 1) as pool:
         while waiting or running:
             ready = [it for it in waiting if all(low in given for low in tasks[it][0])]
-            idle = lanes - sum(jobs for _, jobs in running.values())
-            todo = sum(seconds.get(it, 10) for it in [*waiting, *(key for key, _ in running.values())])
-            for at, key in enumerate(ready[: max(idle, 0)]):
-                # a chain that would outlast all the rest is what everything waits for in the end
-                longer = behind[key] * lanes / max(todo, 1)
-                least = 1 if lanes <= 3 or longer <= 1 else 2 if longer <= 1.5 else 3
-                jobs = min(idle, max(least, min(3, idle // (len(ready) - at))))
-                idle -= jobs
+            left = [*waiting, *(key for key, _ in running.values())]
+            longest, work = max(behind[it] for it in left), sum(seconds.get(it, 10) for it in left)
+            is_chain_longer = lanes > 3 and longest * lanes > work
+            for at, key in enumerate(ready):
+                idle = lanes - sum(jobs for _, jobs in running.values())
+                is_first = is_chain_longer and behind[key] == longest
+                if idle <= 0 and not is_first:
+                    continue
+                jobs = 3 if is_first else 1 if is_chain_longer else max(1, min(3, idle // (len(ready) - at)))
                 waiting.remove(key)
                 running[pool.submit(timed, tasks[key][1], jobs)] = key, jobs
-                if idle <= 0:
-                    break
             for it in wait(running, return_when=FIRST_COMPLETED).done:
                 key, _ = running.pop(it)
                 given[key], took[key] = it.result()
