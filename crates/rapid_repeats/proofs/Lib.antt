@@ -1,3 +1,4 @@
-pub mod Sames
-pub mod Keeping
-pub mod Finding
+pub mod Tables
+pub mod Parts
+pub mod Judging
+pub mod Judged

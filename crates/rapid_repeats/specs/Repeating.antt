@@ -1,13 +1,10 @@
 -- Clauses of public calls cite this file.
 -- Messages that change nothing, since an equal one was let through before in the same configuration.
-use Rattle.std.specs.Prelude.{◌≡◌, ℕ, ◌+◌, ◌<◌, Bool, true, false, List, [], ◌∷◌, ◌++◌, All, Contains, Option, Some, None, if◌then◌else◌}
-use Rattle.std.specs.BTreeMap as tree
+use Rattle.std.specs.Prelude.{◌≡◌, ℕ, ◌+◌, ◌<◌, Bool, true, false, List, [], ◌∷◌, ◌++◌, Contains, Option, Some, None, if◌then◌else◌}
 use Rattle.rapid_model.specs.Bytes.{ConfigurationId}
 use Rattle.rapid_model.specs.Process.{same_bytes}
 use Rattle.rapid_model.specs.Message.{Message, Body, Batch, FastVote, Prepare, Promise, Accept, Accepted, Decision, PreJoin, Reply, JoinRequest, Confirm, Probe, ProbeAck, Leave}
 use Rattle.rapid_model.specs.Limits.{question_period}
-use Rattle.rapid_repeats.specs.declared.said.Kind.{Kind}
-use Rattle.rapid_repeats.specs.declared.said.Kind.TheVariants as kind
 
 -- A message that was let through, and how many ticks there had been then.
 pub record Passed : Type 0 where
@@ -49,33 +46,22 @@ abbrev pub passed_after : Bool → Message → ℕ → List Passed → List Pass
 passed_after true m now passed = passed ++ record { message = m; ticks = now } ∷ []
 passed_after false m now passed = passed
 
--- All that a table keeps was let through.
-abbrev pub HoldsOf : {K : Type 0} → List Passed → tree.BTreeMap K Passed → Type 0
-HoldsOf passed kept = All (Contains passed) (tree.values kept)
-
--- The kind of what says this in this configuration, if repeats of it are looked for.
-abbrev pub kind_in : ConfigurationId → Body → Option Kind
-kind_in here (Batch id xs) = if same_bytes id here then Some kind.Batch else None
-kind_in here (FastVote id v) = if same_bytes id here then Some kind.Vote else None
-kind_in here (JoinRequest id k) = if same_bytes id here then Some (kind.Request k) else None
-kind_in here PreJoin = Some kind.Question
-kind_in here (Prepare id b) = None
-kind_in here (Promise id b vote) = None
-kind_in here (Accept id b v) = None
-kind_in here (Accepted id b v) = None
-kind_in here (Decision id v) = None
-kind_in here (Reply j a) = None
-kind_in here (Confirm c) = None
-kind_in here (Probe id) = None
-kind_in here (ProbeAck id) = None
-kind_in here (Leave id k) = None
-
--- Members alone are to say it.
-abbrev pub is_of_members : Kind → Bool
-is_of_members kind.Batch = true
-is_of_members kind.Vote = true
-is_of_members kind.Question = false
-is_of_members (kind.Request k) = false
+-- Whether members alone are to say this in this configuration; none if repeats of it are not looked for.
+abbrev pub of_members_in : ConfigurationId → Body → Option Bool
+of_members_in here (Batch id xs) = if same_bytes id here then Some true else None
+of_members_in here (FastVote id v) = if same_bytes id here then Some true else None
+of_members_in here (JoinRequest id k) = if same_bytes id here then Some false else None
+of_members_in here PreJoin = Some false
+of_members_in here (Prepare id b) = None
+of_members_in here (Promise id b vote) = None
+of_members_in here (Accept id b v) = None
+of_members_in here (Accepted id b v) = None
+of_members_in here (Decision id v) = None
+of_members_in here (Reply j a) = None
+of_members_in here (Confirm c) = None
+of_members_in here (Probe id) = None
+of_members_in here (ProbeAck id) = None
+of_members_in here (Leave id k) = None
 
 -- If it asks to join, it is within this many ticks.
 abbrev pub IsTimely : Body → ℕ → ℕ → Type 0

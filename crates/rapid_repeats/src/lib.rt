@@ -1,6 +1,7 @@
 //! Messages that change nothing, since an equal one was let through before in the same configuration.
 #![tactic(auto)]
 
+mod kept;
 mod repeats;
 mod said;
 
