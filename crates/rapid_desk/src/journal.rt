@@ -1,15 +1,16 @@
 // The journal of a desk: the events since its node entered its configuration.
 
-ghost use Rattle.std.specs.Prelude.{◌≡◌, ◌≤◌, ◌++◌, [], ◌∷◌, true, Option, None, Some, length, vec_len, IsSome, IfOk, OnOk, OnErr};
+ghost use Rattle.std.specs.Prelude.{◌≡◌, ◌≤◌, ◌++◌, [], ◌∷◌, true, false, Option, None, Some, length, vec_len, is_none, IsSome, IfOk, OnOk, OnErr};
 ghost use Rattle.rapid_model.specs.Configuration.{Configuration};
 ghost use Rattle.rapid_model.specs.Journal as model;
 ghost use Rattle.rapid_model.specs.Node.{Receive, configuration_of};
 ghost use Rattle.rapid_message.specs.Bodies.{body_of};
 ghost use Rattle.rapid_node.specs.Steps.{event_of};
-ghost use Rattle.rapid_desk.specs.Records.{record_of, last_ticks, joins, added_by, about, place_in, id_in, said_by};
+ghost use Rattle.rapid_desk.specs.Records.{record_of, last_ticks, joins, added_by, about, which_of, place_of, place_about, place_in, is_question, ring_asked, edge_in, stays_whole, is_whole, id_in, said_by};
 
 use rapid_alerts::Batch;
 use rapid_config::{ConfigId, Cut};
+use rapid_endpoint::Process;
 use rapid_message::{Body, Message};
 use rapid_node::{Event, Node};
 use rapid_paxos::Ballot;
@@ -19,34 +20,57 @@ use std::marker::Model;
 /// How many records a journal has at most.
 pub(crate) const MOST_RECORDS: usize = 65_536;
 
+/// Which configuration a record is about.
+#[derive(Clone, Copy, Debug)]
+pub enum Which {
+    /// That at the journal's entry.
+    This,
+    /// The one before that.
+    Previous,
+}
+
 /// A record of a journal.
 ///
-/// Most messages come from members of the configuration at the journal's entry, and are about that
-/// configuration. Such a record has the sender's place there, and what else the message says. So it
-/// is small, however large a process is.
+/// Most events are about the configuration at the journal's entry; late ones are about the one before
+/// that. If a member of the first says such an event, or it concerns one, the record has the member's
+/// place there, and what else the event says. So it is small, however large a process is. What a
+/// joiner asks has a box, with the joiner alone.
 #[derive(Debug, Drop)]
 pub enum JournalRecord {
     /// This many successive ticks.
     Ticks(u32),
     /// Alerts of the member at this place.
-    Batch(u16, Batch),
+    Batch(Which, u16, Batch),
     /// The fast vote of the member at this place.
-    FastVote(u16, Cut),
+    FastVote(Which, u16, Cut),
     /// The member at this place asks for promises at its ballot.
-    Prepare(u16, Ballot),
+    Prepare(Which, u16, Ballot),
     /// The member at this place promises to vote at no lower ballot, and tells its last vote.
-    Promise(u16, Ballot, Option<(Ballot, Cut)>),
+    Promise(Which, u16, Ballot, Option<(Ballot, Cut)>),
     /// The member at this place asks for votes.
-    Accept(u16, Ballot, Cut),
+    Accept(Which, u16, Ballot, Cut),
     /// The member at this place has voted.
-    Accepted(u16, Ballot, Cut),
+    Accepted(Which, u16, Ballot, Cut),
     /// The member at this place tells what was decided.
-    Decision(u16, Cut),
+    Decision(Which, u16, Cut),
     /// The member at this place asks its observer on this ring to have it removed.
-    Leave(u16, u8),
+    Leave(Which, u16, u8),
+    /// This process asks whether it may join.
+    PreJoin(Box<Process>),
+    /// This process asks its observer on this ring to let it in.
+    JoinRequest(Box<Process>, Which, u8),
+    /// The edge to the member at this place on this ring went down.
+    EdgeDown(Which, u16, u8),
+    /// The node itself is to leave.
+    OwnLeave,
     /// Another event.
     Other(Box<Event>),
 }
+
+// a record takes at most a quarter of what an event takes, and with a joiner's box at most half
+const _: () = prove!(4 * size_of::<JournalRecord>() <= size_of::<Event>());
+
+const _: () = prove!(2 * (size_of::<JournalRecord>() + size_of::<Process>()) <= size_of::<Event>());
 
 /// A journal: the node where it begins, and what happened since.
 #[derive(Drop)]
@@ -97,18 +121,78 @@ fn about(body: &Body) -> Option<ConfigId>
     }
 }
 
-/// The sender's place, if the message is kept by its parts: the sender is a member of the node's
-/// configuration, and the message is about that.
-fn place_in(entry: &Node, message: &Message) -> Option<u16>
-    ensures { result ≡ place_in (configuration_of entry.now) message.now }
+/// Which configuration has this identifier: the node's, or the one before it.
+fn which_of(entry: &Node, id: &ConfigId) -> Option<Which>
+    ensures { result ≡ which_of (configuration_of entry.now) id.now }
 {
     let configuration = entry.configuration()?;
-    if about(message.body())? != configuration.id() {
-        return None;
+    if *id == configuration.id() {
+        return Some(Which::This);
     }
-    let place = configuration.position(&message.sender())?;
+    if *id == configuration.previous() {
+        return Some(Which::Previous);
+    }
+    None
+}
+
+/// The place of a member of the node's configuration.
+fn place_of(entry: &Node, process: &Process) -> Option<u16>
+    ensures { result ≡ place_of (configuration_of entry.now) process.now }
+{
+    let configuration = entry.configuration()?;
+    let place = configuration.position(process)?;
     configuration.tell();
     Some(place as u16)
+}
+
+/// The place of the process, if it is a member of the node's configuration, and the identifier is that
+/// of this one or the one before it.
+fn place_about(entry: &Node, id: Option<ConfigId>, process: &Process) -> Option<(Which, u16)>
+    ensures { result ≡ place_about (configuration_of entry.now) id process.now }
+{
+    let id = id?;
+    let which = which_of(entry, &id)?;
+    let place = place_of(entry, process)?;
+    Some((which, place))
+}
+
+/// The sender's place, if the message is kept by its parts.
+fn place_in(entry: &Node, message: &Message) -> Option<(Which, u16)>
+    ensures { result ≡ place_in (configuration_of entry.now) message.now }
+{
+    place_about(entry, about(message.body()), &message.sender())
+}
+
+/// Whether the message is a joiner's question.
+fn is_question(body: &Body) -> bool
+    ensures { result ≡ is_question (body_of body.now) }
+{
+    matches!(body, Body::PreJoin)
+}
+
+/// In which configuration, and on which ring, the sender asks to be let in, if it does.
+fn ring_asked(entry: &Node, body: &Body) -> Option<(Which, u8)>
+    ensures { result ≡ ring_asked (configuration_of entry.now) (body_of body.now) }
+{
+    match body {
+        Body::JoinRequest(id, ring) => {
+            let which = which_of(entry, id)?;
+            Some((which, *ring))
+        }
+        Body::Batch(..)
+        | Body::FastVote(..)
+        | Body::Prepare(..)
+        | Body::Promise(..)
+        | Body::Accept(..)
+        | Body::Accepted(..)
+        | Body::Decision(..)
+        | Body::PreJoin
+        | Body::Reply(..)
+        | Body::Confirm(_)
+        | Body::Probe(_)
+        | Body::ProbeAck(_)
+        | Body::Leave(..) => None,
+    }
 }
 
 /// How many ticks a record stands for, if it is one of ticks.
@@ -125,24 +209,29 @@ fn ticks_of(last: &JournalRecord) -> Option<u32>
         | JournalRecord::Accepted(..)
         | JournalRecord::Decision(..)
         | JournalRecord::Leave(..)
+        | JournalRecord::PreJoin(_)
+        | JournalRecord::JoinRequest(..)
+        | JournalRecord::EdgeDown(..)
+        | JournalRecord::OwnLeave
         | JournalRecord::Other(_) => None,
     }
 }
 
-/// The record of what the member at this place says of its configuration.
-fn record_by_parts(place: u16, body: Body) -> JournalRecord
+/// The record of what the member at this place says of this configuration.
+fn record_by_parts(which: Which, place: u16, body: Body) -> JournalRecord
     requires { IsSome (about (body_of body)) }
-    ensures { (c : Option Configuration) → about (body_of body) ≡ Some (id_in c) → record_of c result ≡ said_by c place (body_of body) }
+    ensures parts { is_whole result ≡ false }
+    ensures value { (c : Option Configuration) → about (body_of body) ≡ Some (id_in c which) → record_of c result ≡ said_by c place (body_of body) }
 {
     match body {
-        Body::Batch(_, batch) => JournalRecord::Batch(place, batch),
-        Body::FastVote(_, cut) => JournalRecord::FastVote(place, cut),
-        Body::Prepare(_, ballot) => JournalRecord::Prepare(place, ballot),
-        Body::Promise(_, ballot, vote) => JournalRecord::Promise(place, ballot, vote),
-        Body::Accept(_, ballot, cut) => JournalRecord::Accept(place, ballot, cut),
-        Body::Accepted(_, ballot, cut) => JournalRecord::Accepted(place, ballot, cut),
-        Body::Decision(_, cut) => JournalRecord::Decision(place, cut),
-        Body::Leave(_, ring) => JournalRecord::Leave(place, ring),
+        Body::Batch(_, batch) => JournalRecord::Batch(which, place, batch),
+        Body::FastVote(_, cut) => JournalRecord::FastVote(which, place, cut),
+        Body::Prepare(_, ballot) => JournalRecord::Prepare(which, place, ballot),
+        Body::Promise(_, ballot, vote) => JournalRecord::Promise(which, place, ballot, vote),
+        Body::Accept(_, ballot, cut) => JournalRecord::Accept(which, place, ballot, cut),
+        Body::Accepted(_, ballot, cut) => JournalRecord::Accepted(which, place, ballot, cut),
+        Body::Decision(_, cut) => JournalRecord::Decision(which, place, cut),
+        Body::Leave(_, ring) => JournalRecord::Leave(which, place, ring),
         Body::PreJoin
         | Body::Reply(..)
         | Body::JoinRequest(..)
@@ -152,15 +241,66 @@ fn record_by_parts(place: u16, body: Body) -> JournalRecord
     }
 }
 
-/// The record of a message in a journal with this entry. It takes memory only if the message cannot
-/// be kept by its parts.
+/// The record of a message whose sender has no place. What a joiner asks takes memory for the joiner
+/// alone, all else for the whole event.
+fn record_without_place(
+    alloc: Global,
+    entry: &Node,
+    message: Message,
+) -> Result<JournalRecord, AllocError>
+    requires { place_in (configuration_of entry.now) message ≡ None }
+    ensures value { IfOk result (λ r. record_of (configuration_of entry.now) r ≡ model.Other (Receive message)) }
+    ensures whole { IfOk result (λ r. is_whole r ≡ stays_whole (configuration_of entry.now) message) }
+{
+    let sender = message.sender();
+    match ring_asked(entry, message.body()) {
+        Some((which, ring)) => {
+            Ok(JournalRecord::JoinRequest(Box::new(alloc, sender)?, which, ring))
+        }
+        None if is_question(message.body()) => {
+            Ok(JournalRecord::PreJoin(Box::new(alloc, sender)?))
+        }
+        None => Ok(JournalRecord::Other(Box::new(alloc, Event::Receive(message))?)),
+    }
+}
+
+/// The record of a message in a journal with this entry. It takes memory only if the sender has no
+/// place.
 fn record_of(alloc: Global, entry: &Node, message: Message) -> Result<JournalRecord, AllocError>
     ensures value { IfOk result (λ r. record_of (configuration_of entry.now) r ≡ model.Other (Receive message)) }
+    ensures whole { IfOk result (λ r. is_whole r ≡ stays_whole (configuration_of entry.now) message) }
     ensures refused { OnErr result (place_in (configuration_of entry.now) message ≡ None) }
 {
     match place_in(entry, &message) {
-        Some(place) => Ok(record_by_parts(place, message.into_body())),
-        None => Ok(JournalRecord::Other(Box::new(alloc, Event::Receive(message))?)),
+        Some((which, place)) => Ok(record_by_parts(which, place, message.into_body())),
+        None => record_without_place(alloc, entry, message),
+    }
+}
+
+/// Which configuration, the place of the subject, and the ring, if the event is an edge that went down
+/// and has these.
+fn edge_in(entry: &Node, event: &Event) -> Option<(Which, u16, u8)>
+    ensures { result ≡ edge_in (configuration_of entry.now) (event_of event.now) }
+{
+    match event {
+        Event::EdgeDown(id, ring, subject) => {
+            let (which, place) = place_about(entry, Some(*id), subject)?;
+            Some((which, place, *ring))
+        }
+        Event::Tick | Event::Receive(_) | Event::Leave => None,
+    }
+}
+
+/// The record of an edge that went down, in a journal with this entry. It takes memory only if the
+/// subject has no place.
+fn record_of_edge(alloc: Global, entry: &Node, event: Event) -> Result<JournalRecord, AllocError>
+    ensures value { IfOk result (λ r. record_of (configuration_of entry.now) r ≡ model.Other (event_of event)) }
+    ensures whole { IfOk result (λ r. is_whole r ≡ is_none (edge_in (configuration_of entry.now) (event_of event))) }
+    ensures refused { OnErr result (edge_in (configuration_of entry.now) (event_of event) ≡ None) }
+{
+    match edge_in(entry, &event) {
+        Some((which, place, ring)) => Ok(JournalRecord::EdgeDown(which, place, ring)),
+        None => Ok(JournalRecord::Other(Box::new(alloc, event)?)),
     }
 }
 
@@ -272,10 +412,11 @@ impl Journal {
                 let record = record_of(alloc, &self.entry, message)?;
                 self.push(record)
             }
-            Event::EdgeDown(..) | Event::Leave => {
-                let event = Box::new(alloc, event)?;
-                self.push(JournalRecord::Other(event))
+            Event::EdgeDown(..) => {
+                let record = record_of_edge(alloc, &self.entry, event)?;
+                self.push(record)
             }
+            Event::Leave => self.push(JournalRecord::OwnLeave),
         }
     }
 }

@@ -2,7 +2,7 @@ use Rattle.std.proofs.Common.{◌≡◌, ◌∙◌, false, sym, subst}
 use Rattle.std.specs.Prelude.{OnOk}
 use Rattle.rapid_model.specs.Journal.{with_event}
 use Rattle.rapid_node.specs.Steps.{event_of}
-use Rattle.rapid_desk.specs.Records.{JournalValue, joins}
+use Rattle.rapid_desk.specs.Records.{joins}
 use Rattle.rapid_desk.proofs.Ticking.{apart_all, on_ok}
 use Rattle.rapid_desk.proofs.journal.Journal.add.Goals as goal
 
