@@ -1,5 +1,18 @@
--- What is said of observed edges.
-use Rattle.std.proofs.Common.{◌≡◌, ℕ, zero, suc, ◌+◌, add-one, ◌<◌, ◌≤◌, List, [], ◌∷◌, ◌++◌, length, map, take, get_or, arith, refl, ap, ap₂, sym, subst, ◌∙◌}
+-- What is said of observed edges, and who looks at them.
+use Rattle.std.proofs.Common.{◌≡◌, ℕ, zero, suc, ◌+◌, add-one, ◌<◌, ◌≤◌, List, [], ◌∷◌, ◌++◌, length, map, take, get_or, Option, Some, None, arith, refl, ap, ap₂, sym, subst, ◌∙◌}
+use Rattle.rapid_monitor.specs.Boards.{Watching}
+use Rattle.rapid_rounds.specs.Edges.{SameBoard}
+
+-- The same board is looked at as at the beginning.
+pub still_same : (a b c : Option Watching) → SameBoard a b → SameBoard b c → SameBoard a c
+still_same None b c p q = subst (λ x. SameBoard x c) p q
+still_same (Some x) None c p q = absurd p
+still_same (Some x) (Some y) None p q = absurd q
+still_same (Some x) (Some y) (Some z) p q = (q.0 ∙ p.0, q.1 ∙ p.1)
+
+pub same_itself : (a : Option Watching) → SameBoard a a
+same_itself None = refl
+same_itself (Some x) = (refl, refl)
 
 -- A list with one more behind.
 pub one_behind : {X A : Type 0} (f : X → A) (xs : List X) (x : X) → map f (xs ++ x ∷ []) ≡ map f xs ++ f x ∷ []

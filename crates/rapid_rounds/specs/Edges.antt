@@ -1,6 +1,6 @@
 -- Clauses of public calls cite this file.
 -- The edges that a node observes in a view, their board, and the parts into which their probes are cut.
-use Rattle.std.specs.Prelude.{◌≡◌, ℕ, false, List, [], map, Option, Some, None}
+use Rattle.std.specs.Prelude.{◌≡◌, ℕ, ◌%◌, ◌==◌, false, if◌then◌else◌, List, [], map, zip, flat_map, Option, Some, None, option_to_list}
 use Rattle.std.specs.List.{range_with_len}
 use Rattle.rapid_model.specs.Bytes.{Endpoint, ConfigurationId}
 use Rattle.rapid_model.specs.Configuration.{Configuration, configuration_id}
@@ -16,6 +16,12 @@ abbrev pub IsBoard : ℕ → Option Watching → List Owned → Type 0
 IsBoard edges None seats = (¬ IsSize edges 1) × (seats ≡ [])
 IsBoard edges (Some b) seats = (b ≡ fresh_watcher b.board edges) × (seats ≡ map (fresh_seat b.board) (range_with_len 0 edges))
 
+-- A watcher, if there is one, looks at the same board as before.
+abbrev pub SameBoard : Option Watching → Option Watching → Type 0
+SameBoard None new = new ≡ None
+SameBoard (Some b) None = ⊥
+SameBoard (Some b) (Some c) = (c.board ≡ b.board) × (c.edges ≡ b.edges)
+
 -- The configuration of a part, and its book.
 abbrev pub told_of : Part → ConfigurationId × BookValue
 told_of p = (p.id, p.book)
@@ -27,6 +33,22 @@ blank_part c edges parts part = (configuration_id c, book_when (part_of part par
 -- The same of the first parts, by number.
 abbrev pub all_blank : Configuration → List (ℕ × Process) → ℕ → ℕ → List (ConfigurationId × BookValue)
 all_blank c edges parts count = map (blank_part c edges parts) (range_with_len 0 count)
+
+-- The seats of a part.
+abbrev pub seats_of : Part → List Owned
+seats_of p = p.seats.items
+
+-- The seat that stands beside an edge, if the ring of the edge, divided by the number of parts, leaves this one.
+abbrev pub dealt_seat : ℕ → ℕ → (ℕ × Process) × Option Owned → List Owned
+dealt_seat parts part x = option_to_list (if x.0.0 % parts == part then x.1 else None)
+
+-- The seats that stand beside the edges of a part, by edge.
+abbrev pub dealt_seats : List (ℕ × Process) → List (Option Owned) → ℕ → ℕ → List Owned
+dealt_seats edges seats parts part = flat_map (dealt_seat parts part) (zip edges seats)
+
+-- The same of the first parts, by number.
+abbrev pub all_dealt : List (ℕ × Process) → List (Option Owned) → ℕ → ℕ → List (List Owned)
+all_dealt edges seats parts count = map (dealt_seats edges seats parts) (range_with_len 0 count)
 
 -- The ring of an edge, and the endpoint of who is observed on it.
 abbrev pub edge_of : ℕ × Process → ℕ × Endpoint

@@ -1,9 +1,9 @@
 // The members that a node observes in its current view.
 
-ghost use Rattle.std.specs.Prelude.{◌≡◌, ◌⊎◌, ◌<◌, List, map, vec_len, Some, true, false, IfSome, IfNone, IfOk};
+ghost use Rattle.std.specs.Prelude.{◌≡◌, ◌≢◌, ◌⊎◌, ◌<◌, ◌%◌, ◌==◌, ◌++◌, ℕ, List, map, vec_len, Some, None, true, false, if◌then◌else◌, option_to_list, IfSome, IfNone, IfOk, OnOk, OnErr};
 ghost use Rattle.rapid_model.specs.Ring.{subjects_of};
 ghost use Rattle.rapid_monitor.specs.Boards.{Owned};
-ghost use Rattle.rapid_rounds.specs.Edges.{IsBoard, all_blank, blank_part, told_of, edge_of, place_of};
+ghost use Rattle.rapid_rounds.specs.Edges.{IsBoard, SameBoard, all_blank, blank_part, told_of, seats_of, dealt_seats, all_dealt, edge_of, place_of};
 
 use crate::edge_state::EdgeState;
 use crate::part::Part;
@@ -59,6 +59,7 @@ impl ObservedEdges {
     ) -> Result<ObservedEdges, AllocError>
         ensures edges { IfOk result (λ w. w.edges.items ≡ subjects_of configuration.now me.now) }
         ensures made { IfOk result (λ w. (w.rings ≡ configuration.now) × (w.me ≡ me.now) × (w.parted ≡ false)) }
+        ensures seats { IfOk result (λ w. (seats : List Owned) × IsBoard (vec_len w.edges) w.board seats × (w.seats.items ≡ map Some seats)) }
     {
         let rings = Rings::new(alloc, configuration)?;
         ObservedEdges::over(alloc, rings, me)
@@ -69,6 +70,7 @@ impl ObservedEdges {
     pub fn next(&self, configuration: &Configuration) -> Result<ObservedEdges, AllocError>
         ensures edges { IfOk result (λ w. w.edges.items ≡ subjects_of configuration.now self.now.me) }
         ensures made { IfOk result (λ w. (w.rings ≡ configuration.now) × (w.me ≡ self.now.me) × (w.parted ≡ false)) }
+        ensures seats { IfOk result (λ w. (seats : List Owned) × IsBoard (vec_len w.edges) w.board seats × (w.seats.items ≡ map Some seats)) }
     {
         let rings = self.rings.next(self.alloc, configuration)?;
         ObservedEdges::over(self.alloc, rings, &self.me)
@@ -94,12 +96,17 @@ impl ObservedEdges {
     }
 
     /// The parts of the probes, as many as are asked for, each with the seats of its rings: once, at
-    /// least one.
+    /// least one. A call that gives none changes nothing. If out of memory the parts are lost.
     pub fn take_parts(&mut self, parts: u8) -> Result<Option<Vec<Part>>, AllocError>
         ensures none { IfOk result (λ r. IfNone r ((self.old.parted ≡ true) ⊎ (parts ≡ 0))) }
+        ensures kept { IfOk result (λ r. IfNone r (self.new.parted ≡ self.old.parted)) }
+        ensures spent { OnErr result (self.new.parted ≡ true) }
         ensures once { IfOk result (λ r. IfSome r (λ all. (self.old.parted ≡ false) × (0 < parts) × (self.new.parted ≡ true))) }
         ensures parts { IfOk result (λ r. IfSome r (λ all. map told_of all.items ≡ all_blank self.old.rings self.old.edges.items parts parts)) }
+        ensures seats { IfOk result (λ r. IfSome r (λ all. map seats_of all.items ≡ all_dealt self.old.edges.items self.old.seats.items parts parts)) }
+        ensures left { IfOk result (λ r. IfNone r (self.new.seats.items ≡ self.old.seats.items)) }
         ensures same { (self.new.rings ≡ self.old.rings) × (self.new.me ≡ self.old.me) × (self.new.edges.items ≡ self.old.edges.items) }
+        ensures board { self.new.board ≡ self.old.board }
     {
         if self.parted || parts == 0 {
             return Ok(None);
@@ -112,7 +119,9 @@ impl ObservedEdges {
     fn all_parts(&mut self, parts: u8) -> Result<Vec<Part>, AllocError>
         requires { 0 < parts }
         ensures parts { IfOk result (λ all. map told_of all.items ≡ all_blank self.old.rings self.old.edges.items parts parts) }
+        ensures seats { IfOk result (λ all. map seats_of all.items ≡ all_dealt self.old.edges.items self.old.seats.items parts parts) }
         ensures same { (self.new.rings ≡ self.old.rings) × (self.new.me ≡ self.old.me) × (self.new.edges.items ≡ self.old.edges.items) × (self.new.parted ≡ self.old.parted) }
+        ensures board { self.new.board ≡ self.old.board }
     {
         let mut all = Vec::with_capacity(self.alloc, usize::from(parts))?;
         for part in 0..parts {
@@ -125,7 +134,10 @@ impl ObservedEdges {
     fn part(&mut self, part: u8, parts: u8) -> Result<Part, AllocError>
         requires { 0 < parts }
         ensures part { IfOk result (λ p. told_of p ≡ blank_part self.old.rings self.old.edges.items parts part) }
+        ensures seats { IfOk result (λ p. seats_of p ≡ dealt_seats self.old.edges.items self.old.seats.items parts part) }
+        ensures others { (q : ℕ) → q ≢ part → dealt_seats self.old.edges.items self.new.seats.items parts q ≡ dealt_seats self.old.edges.items self.old.seats.items parts q }
         ensures same { (self.new.rings ≡ self.old.rings) × (self.new.me ≡ self.old.me) × (self.new.edges.items ≡ self.old.edges.items) × (self.new.parted ≡ self.old.parted) }
+        ensures board { self.new.board ≡ self.old.board }
     {
         let book = ProbeBook::part(self.alloc, &self.rings, &self.me, part, parts)?;
         let seats = seats_in(
@@ -146,9 +158,39 @@ impl ObservedEdges {
     pub fn states(&mut self) -> Result<Vec<EdgeState>, AllocError>
         ensures edges { IfOk result (λ states. map place_of states.items ≡ map edge_of self.old.edges.items) }
         ensures same { (self.new.rings ≡ self.old.rings) × (self.new.me ≡ self.old.me) × (self.new.edges.items ≡ self.old.edges.items) × (self.new.parted ≡ self.old.parted) }
+        ensures seats { self.new.seats.items ≡ self.old.seats.items }
+        ensures board { SameBoard self.old.board self.new.board }
     {
         states_of(self.alloc, self.edges.as_slice(), &mut self.board)
     }
+}
+
+/// Takes the seat that stands beside an edge, if the edge belongs to this part.
+fn seat_in(
+    edge: &(u8, Process),
+    seat: &mut Option<EdgeSeat>,
+    part: u8,
+    parts: u8,
+) -> Option<EdgeSeat>
+    requires { 0 < parts }
+    ensures taken { result ≡ (if edge.now.0 % parts == part then seat.old else None) }
+    ensures left { seat.new ≡ (if edge.now.0 % parts == part then None else seat.old) }
+{
+    if edge.0 % parts == part {
+        seat.take()
+    } else {
+        None
+    }
+}
+
+/// Adds a seat, if there is one.
+fn push_any(seats: &mut Vec<EdgeSeat>, seat: Option<EdgeSeat>) -> Result<(), AllocError>
+    ensures { OnOk result (seats.new.items ≡ seats.old.items ++ option_to_list seat) }
+{
+    if let Some(seat) = seat {
+        seats.push(seat)?;
+    }
+    Ok(())
 }
 
 /// Takes the seats of the rings whose number, divided by the number of parts, leaves this one.
@@ -160,25 +202,25 @@ fn seats_in(
     parts: u8,
 ) -> Result<Vec<EdgeSeat>, AllocError>
     requires { 0 < parts }
+    ensures own { IfOk result (λ own. own.items ≡ dealt_seats edges.now seats.old parts part) }
+    ensures others { (q : ℕ) → q ≢ part → dealt_seats edges.now seats.new parts q ≡ dealt_seats edges.now seats.old parts q }
 {
     let mut own = Vec::new(alloc);
     for i in 0..edges.len().min(seats.len()) {
-        if edges[i].0 % parts == part
-            && let Some(seat) = seats[i].take()
-        {
-            own.push(seat)?;
-        }
+        push_any(&mut own, seat_in(&edges[i], &mut seats[i], part, parts))?;
     }
     Ok(own)
 }
 
 /// Each of these edges, and whether a watcher, if there is one, answers that it is down.
+#[tactic(auto, using(crate::proofs::Observing::same_itself))]
 fn states_of(
     alloc: Global,
     edges: &[(u8, Process)],
     board: &mut Option<EdgeBoard>,
 ) -> Result<Vec<EdgeState>, AllocError>
-    ensures { IfOk result (λ states. map place_of states.items ≡ map edge_of edges.now) }
+    ensures edges { IfOk result (λ states. map place_of states.items ≡ map edge_of edges.now) }
+    ensures board { SameBoard board.old board.new }
 {
     let mut states = Vec::with_capacity(alloc, edges.len())?;
     for i in 0..edges.len() {
@@ -200,7 +242,10 @@ fn state_of(edge: &(u8, Process), is_down: bool) -> EdgeState
 }
 
 /// Whether a watcher, if there is one, answers that an edge is down.
-fn is_down(board: &mut Option<EdgeBoard>, edge: usize) -> bool {
+#[tactic(auto, using(crate::proofs::Observing::same_itself))]
+fn is_down(board: &mut Option<EdgeBoard>, edge: usize) -> bool
+    ensures { SameBoard board.old board.new }
+{
     match board {
         Some(board) if edge < board.edges() => board.is_down(edge),
         _ => false,

@@ -1,6 +1,6 @@
 // A part of the probes of a node, and what a round of it asks for.
 
-ghost use Rattle.std.specs.Prelude.{◌≡◌, ◌≢◌, ℕ, Bool, true, List, [], ◌∷◌, length, vec_len, slice_set, Some, IfSome, IfNone, IfOk, OnOk};
+ghost use Rattle.std.specs.Prelude.{◌≡◌, ◌≢◌, ℕ, Bool, true, List, [], ◌∷◌, length, vec_len, slice_set, Some, IfSome, IfNone, IfOk, OnOk, OnErr};
 ghost use Rattle.rapid_model.specs.Process.{Process as ModelProcess};
 ghost use Rattle.rapid_monitor.specs.Probes.{book_when, round_when, all_judged, all_told};
 ghost use Rattle.rapid_rounds.specs.PartRounds.{blank_round, with_probe, with_down};
@@ -80,12 +80,14 @@ impl Part {
         ensures book { (subjects : List (ℕ × ModelProcess)) (begun : Bool) (acks : List ModelProcess) → self.old.book ≡ book_when subjects begun acks →
             self.new.book ≡ book_when subjects begun (process.now ∷ acks) }
         ensures seats { self.new.seats ≡ self.old.seats }
+        ensures id { self.new.id ≡ self.old.id }
     {
         self.book.ack(process);
     }
 
     /// A round of the part: each seat takes whether its subject has acknowledged since the last. What
-    /// it asks for is a probe on each ring of the part, and each edge that went down by it.
+    /// it asks for is a probe on each ring of the part, and each edge that went down by it. If out of
+    /// memory the part is as it was.
     pub fn round(&mut self, alloc: Global) -> Result<PartRound, AllocError>
         ensures seats { (subjects : List (ℕ × ModelProcess)) (begun : Bool) (acks : List ModelProcess) → self.old.book ≡ book_when subjects begun acks →
             OnOk result (self.new.seats.items ≡ all_judged self.old.seats.items (round_when subjects begun acks)) }
@@ -93,6 +95,8 @@ impl Part {
             OnOk result (self.new.book ≡ book_when subjects true []) }
         ensures asked { (subjects : List (ℕ × ModelProcess)) (begun : Bool) (acks : List ModelProcess) → self.old.book ≡ book_when subjects begun acks →
             IfOk result (λ round. round ≡ all_told with_probe with_down (blank_round self.old.id) self.old.seats.items (round_when subjects begun acks)) }
+        ensures id { self.new.id ≡ self.old.id }
+        ensures unchanged { OnErr result ((self.new.book ≡ self.old.book) × (self.new.seats.items ≡ self.old.seats.items)) }
     {
         let mut round = PartRound {
             id: self.id,

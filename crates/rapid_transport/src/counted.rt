@@ -1,7 +1,7 @@
 // Readers and writers that count how many of their calls failed. Those of std do not say which of
 // their calls failed, so the engines stand on traits of their own, which promise it.
 
-ghost use Rattle.std.specs.Prelude.{◌≡◌, ◌≤◌, ℕ, List, Option, length, IfOk};
+ghost use Rattle.std.specs.Prelude.{◌≡◌, ◌<◌, ◌≤◌, ℕ, List, Option, length, Ok, IfOk};
 ghost use Rattle.std.specs.Io.KnownBytes.{ReadConsumes, WriteAppends};
 ghost use Rattle.rapid_transport.specs.Counting.{after_call};
 
@@ -38,10 +38,14 @@ pub trait CountedWrite: Counted {
     // The bytes that the writer holds, if they are known.
     ghost contents: { Self → Option (List ℕ) };
 
+    // A write of some bytes has taken none. A writer that always takes some gives what cannot hold.
+    ghost took_none: { Type 0 } = { Unit {0} };
+
     /// Writes some of the bytes from the first on, and says how many.
     fn write_some(&mut self, bytes: &[u8]) -> Result<usize, Failed>
         ensures bound { IfOk result (λ count. count ≤ length bytes.now) }
         ensures bytes { WriteAppends (contents self.old) (contents self.new) result bytes.now }
+        ensures none { result ≡ Ok 0 → 0 < length bytes.now → took_none }
         ensures counts { Self.faults self.new ≡ after_call result (Self.faults self.old) };
 }
 

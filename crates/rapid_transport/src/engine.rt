@@ -69,6 +69,7 @@ fn write_some<W: CountedWrite>(writer: &mut W, bytes: &[u8]) -> Result<usize, Tr
     ensures ok { IfOk result (λ count. Appends (W.contents writer.old) (W.contents writer.new) (take count bytes.now)) }
     ensures unchanged { OnErr result (Appends (W.contents writer.old) (W.contents writer.new) []) }
     ensures errors { IfErr result (λ e. (e ≡ PeerClosed) ⊎ (e ≡ Io)) }
+    ensures closed { IfErr result (λ e. e ≡ PeerClosed → 0 < length bytes.now → W.took_none) }
     ensures counts { W.faults writer.new ≡ after_io result (W.faults writer.old) }
 {
     let count = writer.write_some(bytes)?;
@@ -88,6 +89,7 @@ pub fn send<W: CountedWrite>(writer: &mut W, frame: &Bytes) -> Result<(), Transp
     ensures whole { OnOk result (Appends (W.contents writer.old) (W.contents writer.new) frame.now) }
     ensures part { OnErr result (WritesPart (W.contents writer.old) (W.contents writer.new) frame.now) }
     ensures errors { IfErr result (λ e. (e ≡ PeerClosed) ⊎ (e ≡ Io)) }
+    ensures closed { IfErr result (λ e. e ≡ PeerClosed → W.took_none) }
     ensures counts { W.faults writer.new ≡ after_io result (W.faults writer.old) }
 {
     let bytes = frame.as_slice();

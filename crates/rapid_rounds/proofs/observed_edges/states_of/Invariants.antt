@@ -1,6 +1,10 @@
 use Rattle.std.proofs.Common.{◌≡◌, map, take}
-use Rattle.rapid_rounds.specs.Edges.{edge_of, place_of}
+use Rattle.rapid_rounds.specs.Edges.{SameBoard, edge_of, place_of}
 use Rattle.rapid_rounds.proofs.observed_edges.states_of.Given as goal
 
 abbrev pub invariant-loop-i : goal.invariant-loop-i
-invariant-loop-i l = map place_of l.states.items ≡ map edge_of (take l.i l.edges)
+invariant-loop-i l =
+    record {
+      said : map place_of l.states.items ≡ map edge_of (take l.i l.edges);
+      board : SameBoard l.initial.board l.board;
+    }
