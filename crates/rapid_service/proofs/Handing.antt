@@ -1,11 +1,12 @@
 -- Steps of the desk of a service, one after another.
-use Rattle.std.proofs.Common.{◌≡◌, ℕ, zero, suc, ◌+◌, add-one, ◌<◌, List, [], ◌∷◌, ◌++◌, append-nil, append_assoc, length, take, get_or, Option, Result, Ok, Err, OnOk, refl, ap, ap₂, sym, subst, ◌∙◌, arith}
+use Rattle.std.proofs.Common.{◌≡◌, ℕ, zero, suc, ◌+◌, add-one, ◌<◌, List, [], ◌∷◌, ◌++◌, append-nil, append_assoc, length, take, get_or, Option, Result, Ok, Err, OnOk, IfErr, inl, inr, refl, ap, ap₂, sym, subst, ◌∙◌, arith}
 use Rattle.rapid_model.specs.Bytes.{ConfigurationId}
 use Rattle.rapid_model.specs.Process.{Process}
 use Rattle.rapid_model.specs.Node.{Event, Output, configuration_of, has_installed}
 use Rattle.rapid_desk.specs.Desks.{DeskValue, Announced}
 use Rattle.rapid_service.specs.HandingOn.{down_on, downs_from}
-use Rattle.rapid_service.specs.Stepping.{HasStepped, Steps, StepsAll, Tells}
+use Rattle.rapid_service.specs.Stepping.{HasStepped, Steps, StepsAll, Fails, FailsAmong, Tells}
+use Rattle.rapid_service.specs.declared.fault.RunningFault.{RunningFault}
 
 -- What was put is the same for a desk with the same node and the same subscriptions before.
 pub tells_since : (old before new : DeskValue) → before.state.node ≡ old.state.node → before.subscriptions ≡ old.subscriptions → Tells before new → Tells old new
@@ -38,6 +39,22 @@ pub steps_more : (old mid new : DeskValue) (before after : List Event) → Steps
 steps_more old mid new [] after same steps = subst (λ desk. StepsAll desk after new) same steps
 steps_more old mid new (event ∷ before) after first steps = (first.0, first.1, steps_more first.0 mid new before after first.2 steps)
 
+-- One event that failed is among itself.
+pub one_fails : (r : Result (Unit {0}) RunningFault) (old new : DeskValue) (event : Event) → IfErr r (Fails old event new) → IfErr r (FailsAmong old (event ∷ []) new)
+one_fails (Ok u) old new event fails = tt
+one_fails (Err e) old new event fails = inl fails
+
+-- After some steps an event failed.
+pub fails_later : (old mid new : DeskValue) (before after : List Event) (e : RunningFault) → StepsAll old before mid → FailsAmong mid after new e → FailsAmong old (before ++ after) new e
+fails_later old mid new [] after e same fails = subst (λ desk. FailsAmong desk after new e) same fails
+fails_later old mid new (event ∷ before) after e first fails = inr (first.0, first.1, fails_later first.0 mid new before after e first.2 fails)
+
+-- Events behind the one that failed were not tried.
+pub fails_early : (old new : DeskValue) (before after : List Event) (e : RunningFault) → FailsAmong old before new e → FailsAmong old (before ++ after) new e
+fails_early old new [] after e fails = absurd fails
+fails_early old new (event ∷ before) after e (inl here) = inl here
+fails_early old new (event ∷ before) after e (inr later) = inr (later.0, later.1, fails_early later.0 new before after e later.2)
+
 downs_suc : (id : ConfigurationId) (first n ring : ℕ) (downs : List (Option Process)) (down : Option Process) → n < length downs → ring ≡ first + n → down ≡ get_or downs n down →
     downs_from id first (take (suc n) downs) ≡ downs_from id first (take n downs) ++ down_on id ring down
 downs_suc id first n ring [] down l e is = absurd (omega arith)
@@ -53,3 +70,20 @@ pub downs_more : (id : ConfigurationId) (first n ring : ℕ) (downs : List (Opti
     downs_from id first (take (n + 1) downs) ≡ downs_from id first (take n downs) ++ down_on id ring down
 downs_more id first n ring downs down l e is =
     subst (λ m. downs_from id first (take m downs) ≡ downs_from id first (take n downs) ++ down_on id ring down) (sym (add-one n)) (downs_suc id first n ring downs down l e is)
+
+-- The events of the first rings, and those of the rest.
+downs_split : (id : ConfigurationId) (first n : ℕ) (downs : List (Option Process)) → (rest : List Event) × (downs_from id first downs ≡ downs_from id first (take n downs) ++ rest)
+downs_split id first zero downs = (downs_from id first downs, refl)
+downs_split id first (suc n) [] = ([], refl)
+downs_split id first (suc n) (d ∷ downs) =
+    let more = downs_split id (first + 1) n downs in
+    (more.0, ap (λ events. down_on id first d ++ events) more.1 ∙ sym (append_assoc (down_on id first d) (downs_from id (first + 1) (take n downs)) more.0))
+
+-- The edge of a ring failed, behind steps with those of the rings before it.
+pub downs_fail : (old mid new : DeskValue) (id : ConfigurationId) (ring : ℕ) (downs : List (Option Process)) (down : Option Process) (e : RunningFault) → ring < length downs → down ≡ get_or downs ring down →
+    StepsAll old (downs_from id 0 (take ring downs)) mid → FailsAmong mid (down_on id ring down) new e → FailsAmong old (downs_from id 0 downs) new e
+downs_fail old mid new id ring downs down e l is steps fails =
+    let rest = downs_split id 0 (ring + 1) downs in
+    let tried = fails_later old mid new (downs_from id 0 (take ring downs)) (down_on id ring down) e steps fails in
+    let first = subst (λ events. FailsAmong old events new e) (sym (downs_more id 0 ring ring downs down l (omega arith) is)) tried in
+    subst (λ events. FailsAmong old events new e) (sym rest.1) (fails_early old new (downs_from id 0 (take (ring + 1) downs)) rest.0 e first)

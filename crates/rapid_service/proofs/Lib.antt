@@ -1,2 +1,4 @@
 pub mod Entering
+pub mod Filtering
 pub mod Handing
+pub mod Seating

@@ -2,6 +2,8 @@ pub mod Statuses
 pub mod Stepping
 pub mod Endings
 pub mod Presents
+pub mod Filters
+pub mod Seats
 pub mod Entering
 pub mod Subscribing
 pub mod HandingOn

@@ -1,6 +1,6 @@
 -- Clauses of public calls cite this file.
 -- What a service does with an event.
-use Rattle.std.specs.Prelude.{◌≡◌, List, [], ◌∷◌}
+use Rattle.std.specs.Prelude.{◌≡◌, ◌⊎◌, List, [], ◌∷◌}
 use Rattle.rapid_model.specs.Node.{Event, Output, configuration_of, has_installed}
 use Rattle.rapid_model.specs.NodeStep.{node_step}
 use Rattle.rapid_node.specs.Steps.{HasOutcome}
@@ -9,6 +9,7 @@ use Rattle.rapid_desk.specs.Desks.{DeskValue, Advances, Announced, Refused}
 use Rattle.rapid_desk.specs.declared.error.DeskError.{DeskError}
 use Rattle.rapid_service.specs.Statuses.{fault_of}
 use Rattle.rapid_service.specs.declared.fault.RunningFault.{RunningFault}
+use Rattle.rapid_service.specs.declared.fault.RunningFault.TheVariants.{OutOfMemory}
 
 -- The journal may have been begun anew: the node and what is published stay.
 abbrev pub HasSameNode : DeskState → DeskState → Type 0
@@ -33,7 +34,21 @@ pub record Steps (old : DeskValue) (event : Event) (new : DeskValue) : Type 0 wh
   pub made : (sent : List Output) × HasStepped old.state event new.state sent
   pub told : Tells old new
 
+-- The event failed: the desk refused it, and serves nobody any more. Or the desk made the step, and there was no memory
+-- for what follows it.
+abbrev pub Fails : DeskValue → Event → DeskValue → RunningFault → Type 0
+Fails old event new fault = (HasRefused old.state event new.state fault × (new.subscriptions ≡ [])) ⊎ ((fault ≡ OutOfMemory) × Steps old event new)
+
 -- The desk made a step with each of these events, in order, and nothing else.
 abbrev pub StepsAll : DeskValue → List Event → DeskValue → Type 0
 StepsAll old [] new = new ≡ old
 StepsAll old (event ∷ events) new = (between : DeskValue) × Steps old event between × StepsAll between events new
+
+-- One of these events failed, behind a step with each of those before it. Those behind it were not tried.
+abbrev pub FailsAmong : DeskValue → List Event → DeskValue → RunningFault → Type 0
+FailsAmong old [] new fault = ⊥
+FailsAmong old (event ∷ events) new fault = Fails old event new fault ⊎ ((between : DeskValue) × Steps old event between × FailsAmong between events new fault)
+
+-- One of these events failed. Or the desk made a step with each, and there was no memory for what follows them.
+abbrev pub FailsIn : DeskValue → List Event → DeskValue → RunningFault → Type 0
+FailsIn old events new fault = FailsAmong old events new fault ⊎ ((fault ≡ OutOfMemory) × StepsAll old events new)

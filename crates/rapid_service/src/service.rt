@@ -1,6 +1,6 @@
 // One node at its desk, with its probes.
 
-ghost use Rattle.std.specs.Prelude.{◌≡◌, ◌==◌, ℕ, ◌+◌, ◌%◌, ◌<◌, ◌≤◌, ◌++◌, [], ◌∷◌, ◌↔◌, map, false, Ok, Some, None, length, option_to_list, vec_len, IfOk, IfErr, IfSome, IsSome, IsSomeAnd, OnOk, OnErr};
+ghost use Rattle.std.specs.Prelude.{◌≡◌, ◌==◌, ℕ, ◌+◌, ◌%◌, ◌<◌, ◌≤◌, ◌++◌, [], ◌∷◌, ◌↔◌, ◌⊎◌, map, true, false, Ok, Some, None, length, option_to_list, vec_len, IfOk, IfErr, IfSome, IsSome, IsSomeAnd, OnOk, OnErr};
 ghost use Rattle.std.specs.Option.{option_map};
 ghost use Rattle.std.proofs.Props.{props};
 ghost use Rattle.rapid_desk.specs.Desks.{NotSubscribed, seed_state, joiner_state, shown_height};
@@ -16,9 +16,12 @@ ghost use Rattle.rapid_lines.specs.declared.note.Answer.TheVariants.{Nothing};
 ghost use Rattle.rapid_repeats.specs.Remembering.{IsRepeatFor};
 ghost use Rattle.rapid_rounds.specs.Edges.{place_of};
 ghost use Rattle.rapid_service.specs.Entering.{EntersOne, EntersSome, views_of};
+ghost use Rattle.rapid_service.specs.Filters.{IsFresh, StaysOrFresh, TickedOrFresh, HeardOrFresh, TickedIn, HeardIn, filter_of};
 ghost use Rattle.rapid_service.specs.HandingOn.{down_on, downs_from};
 ghost use Rattle.rapid_service.specs.Presents.{edges_in};
-ghost use Rattle.rapid_service.specs.Stepping.{HasStepped, HasRefused, Steps, StepsAll, Tells};
+ghost use Rattle.rapid_service.specs.Seats.{had_seats};
+ghost use Rattle.rapid_service.specs.Stepping.{HasStepped, HasRefused, Steps, StepsAll, Fails, FailsAmong, FailsIn, Tells};
+ghost use Rattle.rapid_service.specs.declared.fault.RunningFault.TheVariants.{OutOfMemory};
 ghost use Rattle.rapid_service.specs.Subscribing.{StillServes};
 ghost use Rattle.rapid_service.specs.declared.received.Received.TheVariants as fate;
 
@@ -131,6 +134,8 @@ impl<R: Wait + Copy + Drop, P: Post + Drop> Service<R, P> {
         ensures desk { IfOk result (λ s. (s.desk.state ≡ desk.state) × (s.me ≡ me)) }
         ensures blank { IfOk result (λ s. (s.present ≡ None) × (s.asking ≡ None) × (s.lines.items ≡ []) × (s.notes.waiting.items ≡ []) × (s.rounds ≡ 0)) }
         ensures own { IfOk result (λ s. (s.desk.subscriptions ≡ desk.subscriptions ++ record { queue = s.changes.queue; since = shown_height desk.state.published; capacity = 4; put = []; known = [] } ∷ []) × (s.changes.taken ≡ [])) }
+        ensures seats { IfOk result (λ s. (s.desk.seats ≡ desk.seats) × (s.desk.count ≡ desk.count) × (vec_len s.seats ≡ 0)) }
+        ensures fault { IfErr result (λ e. desk.subscriptions ≡ [] → e ≡ OutOfMemory) }
     {
         let changes = desk.subscribe(CHANGES)?;
         Ok(Service {
@@ -162,6 +167,10 @@ impl<R: Wait + Copy + Drop, P: Post + Drop> Service<R, P> {
         ensures entered { IfOk result (λ s. IsSomeAnd s.present (λ present. present.view ≡ founding params (me ∷ []))) }
         ensures line { IfOk result (λ s. s.lines.items ≡ view_text (founding params (me ∷ []))) }
         ensures own { IfOk result (λ s. (s.desk.subscriptions ≡ record { queue = s.changes.queue; since = shown_height s.desk.state.published; capacity = 4; put = []; known = [] } ∷ []) × (s.changes.taken ≡ [])) }
+        ensures seats { IfOk result (λ s. (vec_len s.seats ≡ 8) × (s.desk.count ≡ 8)) }
+        ensures filter { IfOk result (λ s. IsSomeAnd s.present IsFresh) }
+        ensures rounds { IfOk result (λ s. s.rounds ≡ 0) }
+        ensures fault { IfErr result (λ e. e ≡ OutOfMemory) }
     {
         let Ok(configuration) = Configuration::seed(alloc, params, &[me]) else {
             return Err(RunningFault::OutOfMemory);
@@ -190,6 +199,9 @@ impl<R: Wait + Copy + Drop, P: Post + Drop> Service<R, P> {
         ensures asks { IfOk result (λ s. s.asking ≡ Some (record { seed = seed; ticks = 0; answer = Nothing })) }
         ensures blank { IfOk result (λ s. (s.present ≡ None) × (s.lines.items ≡ [])) }
         ensures own { IfOk result (λ s. (s.desk.subscriptions ≡ record { queue = s.changes.queue; since = shown_height s.desk.state.published; capacity = 4; put = []; known = [] } ∷ []) × (s.changes.taken ≡ [])) }
+        ensures seats { IfOk result (λ s. (vec_len s.seats ≡ 0) × (s.desk.count ≡ 8)) }
+        ensures rounds { IfOk result (λ s. s.rounds ≡ 0) }
+        ensures fault { IfErr result (λ e. e ≡ OutOfMemory) }
     {
         let desk = Desk::joiner(rt, alloc, me, seed, SEATS)?;
         let mut service = Service::at(rt, alloc, me, desk, post)?;
@@ -203,6 +215,12 @@ impl<R: Wait + Copy + Drop, P: Post + Drop> Service<R, P> {
         ensures due { (n : ℕ) → self.old.rounds ≡ n % probe_period → IfOk result (λ due. due ≡ ((n + 1) % probe_period == 0)) }
         ensures counted { (n : ℕ) → self.old.rounds ≡ n % probe_period → OnOk result (self.new.rounds ≡ (n + 1) % probe_period) }
         ensures views { OnOk result (EntersOne (views_of self.old.changes.taken self.old.lines.items self.old.present) (views_of self.new.changes.taken self.new.lines.items self.new.present)) }
+        ensures filter { OnOk result (TickedOrFresh self.old.changes.taken self.old.present self.new.changes.taken self.new.present) }
+        ensures fault { IfErr result (Fails self.old.desk model.Tick self.new.desk) }
+        ensures seats { OnOk result ((self.new.seats ≡ self.old.seats) ⊎ (vec_len self.new.seats ≡ self.old.desk.count)) }
+        ensures given { OnOk result ((self.new.changes.taken ≡ self.old.changes.taken) ⊎ (self.new.desk.seats ≡ false)) }
+        ensures all { OnOk result (had_seats self.old.desk self.new.desk ≡ true → self.new.desk.seats ≡ false → vec_len self.new.seats ≡ self.old.desk.count) }
+        ensures rest { (self.new.me ≡ self.old.me) × (self.new.desk.count ≡ self.old.desk.count) }
     {
         self.step(Event::Tick)?;
         self.count_tick();
@@ -216,6 +234,9 @@ impl<R: Wait + Copy + Drop, P: Post + Drop> Service<R, P> {
         ensures none { self.old.present ≡ None → IfOk result (λ r. r ≡ None) }
         ensures desk { self.new.desk ≡ self.old.desk }
         ensures views { views_of self.new.changes.taken self.new.lines.items self.new.present ≡ views_of self.old.changes.taken self.old.lines.items self.old.present }
+        ensures rest { (self.new.me ≡ self.old.me) × (self.new.rounds ≡ self.old.rounds) × (self.new.notes ≡ self.old.notes) × (self.new.seats ≡ self.old.seats) }
+        ensures filter { filter_of self.new.present ≡ filter_of self.old.present }
+        ensures fault { IfErr result (λ e. e ≡ OutOfMemory) }
     {
         match &mut self.present {
             Some(present) => Ok(present.watch.take_parts(parts)?),
@@ -228,6 +249,10 @@ impl<R: Wait + Copy + Drop, P: Post + Drop> Service<R, P> {
     pub fn hand_on(&mut self, round: &PartRound) -> Result<(), RunningFault>
         ensures steps { OnOk result (StepsAll self.old.desk (downs_from round.now.id 0 round.now.downs) self.new.desk) }
         ensures views { OnOk result (EntersSome (views_of self.old.changes.taken self.old.lines.items self.old.present) (views_of self.new.changes.taken self.new.lines.items self.new.present)) }
+        ensures filter { OnOk result (StaysOrFresh self.old.changes.taken self.old.present self.new.changes.taken self.new.present) }
+        ensures fault { IfErr result (FailsIn self.old.desk (downs_from round.now.id 0 round.now.downs) self.new.desk) }
+        ensures seats { OnOk result ((self.new.seats ≡ self.old.seats) ⊎ (vec_len self.new.seats ≡ self.old.desk.count)) }
+        ensures rest { (self.new.rounds ≡ self.old.rounds) × (self.new.me ≡ self.old.me) × (self.new.desk.count ≡ self.old.desk.count) }
     {
         self.hand_down(round.id, &round.downs)?;
         let frame = frame_of(self.alloc, &probe_of(self.me, round.id))?;
@@ -240,6 +265,8 @@ impl<R: Wait + Copy + Drop, P: Post + Drop> Service<R, P> {
         ensures edges { IfOk result (λ states. map place_of states.items ≡ edges_in self.old.me self.old.present) }
         ensures desk { self.new.desk ≡ self.old.desk }
         ensures views { views_of self.new.changes.taken self.new.lines.items self.new.present ≡ views_of self.old.changes.taken self.old.lines.items self.old.present }
+        ensures rest { (self.new.me ≡ self.old.me) × (self.new.rounds ≡ self.old.rounds) × (self.new.notes ≡ self.old.notes) × (self.new.seats ≡ self.old.seats) }
+        ensures filter { filter_of self.new.present ≡ filter_of self.old.present }
     {
         match &mut self.present {
             Some(present) => present.watch.states(),
@@ -257,6 +284,13 @@ impl<R: Wait + Copy + Drop, P: Post + Drop> Service<R, P> {
         ensures taken { IfOk result (λ received. received ≡ fate.Taken → Steps self.old.desk (model.Receive message) self.new.desk) }
         ensures views { OnOk result (EntersOne (views_of self.old.changes.taken self.old.lines.items self.old.present) (views_of self.new.changes.taken self.new.lines.items self.new.present)) }
         ensures undisturbed { IfOk result (λ received. received ≡ fate.Dropped → views_of self.new.changes.taken self.new.lines.items self.new.present ≡ views_of self.old.changes.taken self.old.lines.items self.old.present) }
+        ensures filter { IfOk result (λ received. received ≡ fate.Taken → HeardOrFresh message self.old.changes.taken self.old.present self.new.changes.taken self.new.present) }
+        ensures unheard { IfOk result (λ received. received ≡ fate.Dropped → HeardIn false message self.old.present self.new.present) }
+        ensures fault { IfErr result (Fails self.old.desk (model.Receive message) self.new.desk) }
+        ensures seats { OnOk result ((self.new.seats ≡ self.old.seats) ⊎ (vec_len self.new.seats ≡ self.old.desk.count)) }
+        ensures given { OnOk result ((self.new.changes.taken ≡ self.old.changes.taken) ⊎ (self.new.desk.seats ≡ false)) }
+        ensures all { IfOk result (λ received. received ≡ fate.Taken → had_seats self.old.desk self.new.desk ≡ true → self.new.desk.seats ≡ false → vec_len self.new.seats ≡ self.old.desk.count) }
+        ensures rest { (self.new.rounds ≡ self.old.rounds) × (self.new.me ≡ self.old.me) × (self.new.desk.count ≡ self.old.desk.count) }
     {
         if let Body::Reply(joiner, reply) = message.body() {
             self.hear(joiner, reply);
@@ -274,6 +308,12 @@ impl<R: Wait + Copy + Drop, P: Post + Drop> Service<R, P> {
     pub fn leave(&mut self) -> Result<(), RunningFault>
         ensures step { OnOk result (Steps self.old.desk model.Leave self.new.desk) }
         ensures views { OnOk result (EntersOne (views_of self.old.changes.taken self.old.lines.items self.old.present) (views_of self.new.changes.taken self.new.lines.items self.new.present)) }
+        ensures filter { OnOk result (StaysOrFresh self.old.changes.taken self.old.present self.new.changes.taken self.new.present) }
+        ensures fault { IfErr result (Fails self.old.desk model.Leave self.new.desk) }
+        ensures seats { OnOk result ((self.new.seats ≡ self.old.seats) ⊎ (vec_len self.new.seats ≡ self.old.desk.count)) }
+        ensures given { OnOk result ((self.new.changes.taken ≡ self.old.changes.taken) ⊎ (self.new.desk.seats ≡ false)) }
+        ensures all { OnOk result (had_seats self.old.desk self.new.desk ≡ true → self.new.desk.seats ≡ false → vec_len self.new.seats ≡ self.old.desk.count) }
+        ensures rest { (self.new.rounds ≡ self.old.rounds) × (self.new.me ≡ self.old.me) × (self.new.desk.count ≡ self.old.desk.count) }
     {
         self.step(Event::Leave)
     }
@@ -282,8 +322,10 @@ impl<R: Wait + Copy + Drop, P: Post + Drop> Service<R, P> {
     fn admits(&mut self, message: &Message) -> bool
         ensures repeats { result ≡ false → IsSomeAnd self.old.present (λ present. IsRepeatFor present.repeats message.now) }
         ensures drops { IsSomeAnd self.old.present (λ present. IsRepeatFor present.repeats message.now) → result ≡ false }
+        ensures heard { HeardIn result message.now self.old.present self.new.present }
         ensures desk { self.new.desk ≡ self.old.desk }
         ensures views { views_of self.new.changes.taken self.new.lines.items self.new.present ≡ views_of self.old.changes.taken self.old.lines.items self.old.present }
+        ensures rest { (self.new.rounds ≡ self.old.rounds) × (self.new.me ≡ self.old.me) × (self.new.seats ≡ self.old.seats) }
     {
         match &mut self.present {
             Some(present) => present.repeats.admits(message),
@@ -293,9 +335,10 @@ impl<R: Wait + Copy + Drop, P: Post + Drop> Service<R, P> {
 
     /// A tick was made in the current view.
     fn count_tick(&mut self)
+        ensures ticked { TickedIn self.old.present self.new.present }
         ensures desk { self.new.desk ≡ self.old.desk }
         ensures views { views_of self.new.changes.taken self.new.lines.items self.new.present ≡ views_of self.old.changes.taken self.old.lines.items self.old.present }
-        ensures rest { (self.new.rounds ≡ self.old.rounds) × (self.new.me ≡ self.old.me) }
+        ensures rest { (self.new.rounds ≡ self.old.rounds) × (self.new.me ≡ self.old.me) × (self.new.seats ≡ self.old.seats) }
     {
         if let Some(present) = &mut self.present {
             present.repeats.tick();
@@ -307,7 +350,7 @@ impl<R: Wait + Copy + Drop, P: Post + Drop> Service<R, P> {
     fn note_question(&mut self)
         ensures desk { self.new.desk ≡ self.old.desk }
         ensures views { views_of self.new.changes.taken self.new.lines.items self.new.present ≡ views_of self.old.changes.taken self.old.lines.items self.old.present }
-        ensures rest { (self.new.rounds ≡ self.old.rounds) × (self.new.me ≡ self.old.me) }
+        ensures rest { (self.new.rounds ≡ self.old.rounds) × (self.new.me ≡ self.old.me) × (self.new.seats ≡ self.old.seats) × (self.new.present ≡ self.old.present) }
     {
         if let Some(asking) = &mut self.asking
             && let Some(note) = asking.tick()
@@ -322,6 +365,7 @@ impl<R: Wait + Copy + Drop, P: Post + Drop> Service<R, P> {
         ensures present { self.new.present ≡ self.old.present }
         ensures desk { self.new.desk ≡ self.old.desk }
         ensures views { views_of self.new.changes.taken self.new.lines.items self.new.present ≡ views_of self.old.changes.taken self.old.lines.items self.old.present }
+        ensures rest { (self.new.rounds ≡ self.old.rounds) × (self.new.me ≡ self.old.me) × (self.new.seats ≡ self.old.seats) }
     {
         if let Some(asking) = &mut self.asking
             && *joiner == self.me
@@ -334,7 +378,7 @@ impl<R: Wait + Copy + Drop, P: Post + Drop> Service<R, P> {
     pub fn take_seat(&mut self) -> Option<ViewSeat>
         ensures seat { self.old.seats.items ≡ self.new.seats.items ++ option_to_list result }
         ensures some { IsSome result ↔ (0 < vec_len self.old.seats) }
-        ensures same { (self.new.desk ≡ self.old.desk) × (self.new.me ≡ self.old.me) }
+        ensures same { (self.new.desk ≡ self.old.desk) × (self.new.me ≡ self.old.me) × (self.new.rounds ≡ self.old.rounds) × (self.new.notes ≡ self.old.notes) × (self.new.present ≡ self.old.present) }
         ensures views { views_of self.new.changes.taken self.new.lines.items self.new.present ≡ views_of self.old.changes.taken self.old.lines.items self.old.present }
     {
         self.seats.pop()
@@ -370,6 +414,7 @@ impl<R: Wait + Copy + Drop, P: Post + Drop> Service<R, P> {
         ensures refused { IfErr result (NotSubscribed capacity (length self.old.desk.subscriptions)) }
         ensures unserved { IfErr result (λ e. StillServes self.old.desk capacity e self.new.desk.subscriptions) }
         ensures views { views_of self.new.changes.taken self.new.lines.items self.new.present ≡ views_of self.old.changes.taken self.old.lines.items self.old.present }
+        ensures rest { (self.new.desk.count ≡ self.old.desk.count) × (self.new.rounds ≡ self.old.rounds) × (self.new.notes ≡ self.old.notes) × (self.new.seats ≡ self.old.seats) × (self.new.present ≡ self.old.present) }
     {
         let subscription = self.desk.subscribe(capacity)?;
         match &self.present {
@@ -385,6 +430,7 @@ impl<R: Wait + Copy + Drop, P: Post + Drop> Service<R, P> {
     pub fn close(&mut self)
         ensures closed { self.new.desk ≡ record self.old.desk { subscriptions = [] } }
         ensures views { views_of self.new.changes.taken self.new.lines.items self.new.present ≡ views_of self.old.changes.taken self.old.lines.items self.old.present }
+        ensures rest { (self.new.me ≡ self.old.me) × (self.new.rounds ≡ self.old.rounds) × (self.new.notes ≡ self.old.notes) × (self.new.seats ≡ self.old.seats) × (self.new.present ≡ self.old.present) }
     {
         // nobody compares what was taken with what was put
         drop(self.desk.close());
@@ -395,6 +441,7 @@ impl<R: Wait + Copy + Drop, P: Post + Drop> Service<R, P> {
         ensures taken { result.items ≡ self.old.lines.items }
         ensures none { self.new.lines.items ≡ [] }
         ensures same { (self.new.desk ≡ self.old.desk) × (self.new.me ≡ self.old.me) × (self.new.changes ≡ self.old.changes) × (self.new.present ≡ self.old.present) }
+        ensures rest { (self.new.rounds ≡ self.old.rounds) × (self.new.notes ≡ self.old.notes) × (self.new.seats ≡ self.old.seats) }
     {
         mem::replace(&mut self.lines, Vec::new(self.alloc))
     }
@@ -404,7 +451,7 @@ impl<R: Wait + Copy + Drop, P: Post + Drop> Service<R, P> {
         ensures taken { result.items ≡ self.old.notes.waiting.items }
         ensures few { vec_len result ≤ most_notes }
         ensures none { self.new.notes.waiting.items ≡ [] }
-        ensures same { (self.new.desk ≡ self.old.desk) × (self.new.me ≡ self.old.me) }
+        ensures same { (self.new.desk ≡ self.old.desk) × (self.new.me ≡ self.old.me) × (self.new.rounds ≡ self.old.rounds) × (self.new.seats ≡ self.old.seats) × (self.new.present ≡ self.old.present) }
         ensures views { views_of self.new.changes.taken self.new.lines.items self.new.present ≡ views_of self.old.changes.taken self.old.lines.items self.old.present }
     {
         self.notes.take()
@@ -421,7 +468,12 @@ impl<R: Wait + Copy + Drop, P: Post + Drop> Service<R, P> {
     fn step(&mut self, event: Event) -> Result<(), RunningFault>
         ensures step { OnOk result (Steps self.old.desk (event_of event) self.new.desk) }
         ensures views { OnOk result (EntersOne (views_of self.old.changes.taken self.old.lines.items self.old.present) (views_of self.new.changes.taken self.new.lines.items self.new.present)) }
-        ensures rest { (self.new.rounds ≡ self.old.rounds) × (self.new.me ≡ self.old.me) }
+        ensures filter { OnOk result (StaysOrFresh self.old.changes.taken self.old.present self.new.changes.taken self.new.present) }
+        ensures fault { IfErr result (Fails self.old.desk (event_of event) self.new.desk) }
+        ensures seats { OnOk result ((self.new.seats ≡ self.old.seats) ⊎ (vec_len self.new.seats ≡ self.old.desk.count)) }
+        ensures given { OnOk result ((self.new.changes.taken ≡ self.old.changes.taken) ⊎ (self.new.desk.seats ≡ false)) }
+        ensures all { OnOk result (had_seats self.old.desk self.new.desk ≡ true → self.new.desk.seats ≡ false → vec_len self.new.seats ≡ self.old.desk.count) }
+        ensures rest { (self.new.rounds ≡ self.old.rounds) × (self.new.me ≡ self.old.me) × (self.new.desk.count ≡ self.old.desk.count) }
     {
         let sent = self.at_desk(event)?;
         // before a new view is entered: the other members are those of the view of the step
@@ -434,10 +486,11 @@ impl<R: Wait + Copy + Drop, P: Post + Drop> Service<R, P> {
     fn at_desk(&mut self, event: Event) -> Result<Outputs, RunningFault>
         ensures stepped { IfOk result (λ sent. HasStepped self.old.desk.state (event_of event) self.new.desk.state sent.items) }
         ensures told { OnOk result (Tells self.old.desk self.new.desk) }
+        ensures seats { OnOk result (self.new.desk.seats ≡ had_seats self.old.desk self.new.desk) }
         ensures refused { IfErr result (HasRefused self.old.desk.state (event_of event) self.new.desk.state) }
         ensures closed { OnErr result (self.new.desk.subscriptions ≡ []) }
         ensures views { views_of self.new.changes.taken self.new.lines.items self.new.present ≡ views_of self.old.changes.taken self.old.lines.items self.old.present }
-        ensures rest { (self.new.rounds ≡ self.old.rounds) × (self.new.me ≡ self.old.me) }
+        ensures rest { (self.new.rounds ≡ self.old.rounds) × (self.new.me ≡ self.old.me) × (self.new.seats ≡ self.old.seats) × (self.new.present ≡ self.old.present) × (self.new.desk.count ≡ self.old.desk.count) }
     {
         // a journal for which there is no memory now grows on, and the next step tries again
         let _ = shorten(&mut self.desk);
@@ -454,7 +507,7 @@ impl<R: Wait + Copy + Drop, P: Post + Drop> Service<R, P> {
     fn send_all(&mut self, sent: &[Output]) -> Result<(), AllocError>
         ensures desk { self.new.desk ≡ self.old.desk }
         ensures views { views_of self.new.changes.taken self.new.lines.items self.new.present ≡ views_of self.old.changes.taken self.old.lines.items self.old.present }
-        ensures rest { (self.new.rounds ≡ self.old.rounds) × (self.new.me ≡ self.old.me) }
+        ensures rest { (self.new.rounds ≡ self.old.rounds) × (self.new.me ≡ self.old.me) × (self.new.seats ≡ self.old.seats) × (self.new.present ≡ self.old.present) }
     {
         for output in sent {
             self.send(output)?;
@@ -466,7 +519,7 @@ impl<R: Wait + Copy + Drop, P: Post + Drop> Service<R, P> {
     fn send(&mut self, output: &Output) -> Result<(), AllocError>
         ensures desk { self.new.desk ≡ self.old.desk }
         ensures views { views_of self.new.changes.taken self.new.lines.items self.new.present ≡ views_of self.old.changes.taken self.old.lines.items self.old.present }
-        ensures rest { (self.new.rounds ≡ self.old.rounds) × (self.new.me ≡ self.old.me) }
+        ensures rest { (self.new.rounds ≡ self.old.rounds) × (self.new.me ≡ self.old.me) × (self.new.seats ≡ self.old.seats) × (self.new.present ≡ self.old.present) }
     {
         let frame = frame_of(self.alloc, output.message())?;
         match output.to() {
@@ -482,7 +535,7 @@ impl<R: Wait + Copy + Drop, P: Post + Drop> Service<R, P> {
     fn send_others(&mut self, frame: &Bytes) -> Result<(), AllocError>
         ensures desk { self.new.desk ≡ self.old.desk }
         ensures views { views_of self.new.changes.taken self.new.lines.items self.new.present ≡ views_of self.old.changes.taken self.old.lines.items self.old.present }
-        ensures rest { (self.new.rounds ≡ self.old.rounds) × (self.new.me ≡ self.old.me) }
+        ensures rest { (self.new.rounds ≡ self.old.rounds) × (self.new.me ≡ self.old.me) × (self.new.seats ≡ self.old.seats) × (self.new.present ≡ self.old.present) }
     {
         match &self.present {
             Some(present) => broadcast(
@@ -500,7 +553,12 @@ impl<R: Wait + Copy + Drop, P: Post + Drop> Service<R, P> {
     fn follow(&mut self) -> Result<(), RunningFault>
         ensures desk { (self.new.desk.state ≡ self.old.desk.state) × (self.new.desk.subscriptions ≡ self.old.desk.subscriptions) }
         ensures views { OnOk result (EntersOne (views_of self.old.changes.taken self.old.lines.items self.old.present) (views_of self.new.changes.taken self.new.lines.items self.new.present)) }
-        ensures rest { (self.new.rounds ≡ self.old.rounds) × (self.new.me ≡ self.old.me) }
+        ensures filter { OnOk result (StaysOrFresh self.old.changes.taken self.old.present self.new.changes.taken self.new.present) }
+        ensures fault { IfErr result (λ e. e ≡ OutOfMemory) }
+        ensures seats { OnOk result ((self.new.seats ≡ self.old.seats) ⊎ (vec_len self.new.seats ≡ self.old.desk.count)) }
+        ensures given { OnOk result ((self.new.changes.taken ≡ self.old.changes.taken) ⊎ (self.new.desk.seats ≡ false)) }
+        ensures all { OnOk result (self.old.desk.seats ≡ true → self.new.desk.seats ≡ false → vec_len self.new.seats ≡ self.old.desk.count) }
+        ensures rest { (self.new.rounds ≡ self.old.rounds) × (self.new.me ≡ self.old.me) × (self.new.desk.count ≡ self.old.desk.count) }
     {
         match self.changes.take(&self.rt) {
             Taken::Change(view) => self.enter(view),
@@ -516,9 +574,14 @@ impl<R: Wait + Copy + Drop, P: Post + Drop> Service<R, P> {
         ensures desk { (self.new.desk.state ≡ self.old.desk.state) × (self.new.desk.subscriptions ≡ self.old.desk.subscriptions) }
         ensures line { OnOk result (self.new.lines.items ≡ self.old.lines.items ++ view_text view) }
         ensures view { OnOk result (IsSomeAnd self.new.present (λ present. present.view ≡ view)) }
+        ensures fresh { OnOk result (IsSomeAnd self.new.present IsFresh) }
         ensures asks { OnOk result (self.new.asking ≡ None) }
         ensures changes { self.new.changes ≡ self.old.changes }
-        ensures rest { (self.new.rounds ≡ self.old.rounds) × (self.new.me ≡ self.old.me) }
+        ensures seats { OnOk result ((self.new.seats ≡ self.old.seats) ⊎ (vec_len self.new.seats ≡ self.old.desk.count)) }
+        ensures given { OnOk result (self.new.desk.seats ≡ false) }
+        ensures all { OnOk result (self.old.desk.seats ≡ true → vec_len self.new.seats ≡ self.old.desk.count) }
+        ensures fault { IfErr result (λ e. e ≡ OutOfMemory) }
+        ensures rest { (self.new.rounds ≡ self.old.rounds) × (self.new.me ≡ self.old.me) × (self.new.desk.count ≡ self.old.desk.count) }
     {
         write_view(view.configuration(), &mut self.lines)?;
         let watch = self.watch(view.configuration())?;
@@ -559,6 +622,10 @@ impl<R: Wait + Copy + Drop, P: Post + Drop> Service<R, P> {
     ) -> Result<(), RunningFault>
         ensures steps { OnOk result (StepsAll self.old.desk (downs_from id 0 downs.now) self.new.desk) }
         ensures views { OnOk result (EntersSome (views_of self.old.changes.taken self.old.lines.items self.old.present) (views_of self.new.changes.taken self.new.lines.items self.new.present)) }
+        ensures filter { OnOk result (StaysOrFresh self.old.changes.taken self.old.present self.new.changes.taken self.new.present) }
+        ensures fault { IfErr result (FailsAmong self.old.desk (downs_from id 0 downs.now) self.new.desk) }
+        ensures seats { OnOk result ((self.new.seats ≡ self.old.seats) ⊎ (vec_len self.new.seats ≡ self.old.desk.count)) }
+        ensures rest { (self.new.rounds ≡ self.old.rounds) × (self.new.me ≡ self.old.me) × (self.new.desk.count ≡ self.old.desk.count) }
     {
         for ring in 0..MOST_RINGS {
             self.hand_edge(id, ring as u8, downs[ring])?;
@@ -575,6 +642,10 @@ impl<R: Wait + Copy + Drop, P: Post + Drop> Service<R, P> {
     ) -> Result<(), RunningFault>
         ensures steps { OnOk result (StepsAll self.old.desk (down_on id ring down) self.new.desk) }
         ensures views { OnOk result (EntersOne (views_of self.old.changes.taken self.old.lines.items self.old.present) (views_of self.new.changes.taken self.new.lines.items self.new.present)) }
+        ensures filter { OnOk result (StaysOrFresh self.old.changes.taken self.old.present self.new.changes.taken self.new.present) }
+        ensures fault { IfErr result (FailsAmong self.old.desk (down_on id ring down) self.new.desk) }
+        ensures seats { OnOk result ((self.new.seats ≡ self.old.seats) ⊎ (vec_len self.new.seats ≡ self.old.desk.count)) }
+        ensures rest { (self.new.rounds ≡ self.old.rounds) × (self.new.me ≡ self.old.me) × (self.new.desk.count ≡ self.old.desk.count) }
     {
         match down {
             Some(subject) => self.step(Event::EdgeDown(id, ring, subject)),

@@ -1,31 +1,46 @@
-use Rattle.std.proofs.Common.{refl, [], sym, subst, take, ap, arith}
+use Rattle.std.proofs.Common.{refl, [], inl, sym, subst, take, ap, vec_len, ◌∙◌, arith}
 use Rattle.std.proofs.lemmas.List.{take_all}
 use Rattle.rapid_service.specs.HandingOn.{down_on, downs_from}
-use Rattle.rapid_service.specs.Stepping.{StepsAll}
+use Rattle.rapid_service.specs.Stepping.{StepsAll, FailsAmong}
+use Rattle.rapid_text.proofs.Streams.{handed_on}
 use Rattle.rapid_service.proofs.Entering.{enters_more}
-use Rattle.rapid_service.proofs.Handing.{steps_more, downs_more}
+use Rattle.rapid_service.proofs.Filtering.{stays_more}
+use Rattle.rapid_service.proofs.Handing.{steps_more, downs_more, downs_fail}
+use Rattle.rapid_service.proofs.Seating.{seats_more}
 use Rattle.rapid_service.proofs.service.Service.hand_down.Goals as goal
 
 pub loop-ring-init : goal.loop-ring-init
-loop-ring-init g c = record { steps = refl; views = ([], refl) }
+loop-ring-init g c = record { steps = refl; views = ([], refl); filter = inl (refl, refl); seats = inl refl; rounds = refl; me = refl; count = refl }
 
 -- The edge of a ring is a step, if it went down.
 pub loop-ring-preserved : goal.loop-ring-preserved
 loop-ring-preserved g c =
     let downs = c.args.downs.now in
     let ring = c.loop-ring.ring in
+    let before = c.loop-ring.invariant in
+    let after = c.hand_edge.ensures.rest in
     record {
       steps =
           subst (λ events. StepsAll c.args.self.now.desk events c.hand_edge.new.self.desk) (sym (downs_more c.args.id 0 ring ring downs c.index-downs-ring.result (omega arith) (omega arith) c.index-downs-ring.is))
           (steps_more _ _ _ (downs_from c.args.id 0 (take ring downs)) (down_on c.args.id ring c.index-downs-ring.result) c.loop-ring.invariant.steps
           (subst (λ down. StepsAll c.loop-ring.self.desk (down_on c.args.id ring down) c.hand_edge.new.self.desk) (sym c.index-downs-ring.is) c.in_ok-hand_edge.ensures.steps));
       views = enters_more _ _ _ c.loop-ring.invariant.views c.in_ok-hand_edge.ensures.views;
+      filter = stays_more _ _ _ _ _ _ before.filter c.in_ok-hand_edge.ensures.filter;
+      seats = seats_more vec_len c.args.self.now.desk.count c.loop-ring.self.desk.count _ _ _ before.count before.seats c.in_ok-hand_edge.ensures.seats;
+      rounds = after.0 ∙ before.rounds;
+      me = after.1 ∙ before.me;
+      count = after.2 ∙ before.count;
     }
 
-pub returns : goal.returns
-returns g c =
+-- The edge of a ring failed.
+pub returns-in_err-hand_edge-clause-fault : goal.returns-in_err-hand_edge-clause-fault
+returns-in_err-hand_edge-clause-fault g c =
     let downs = c.args.downs.now in
-    record {
-      steps = subst (λ events. StepsAll c.args.self.now.desk events c.loop-ring.self.desk) (ap (downs_from c.args.id 0) (take_all c.loop-ring.ring downs (omega arith))) c.loop-ring.invariant.steps;
-      views = c.loop-ring.invariant.views;
-    }
+    let ring = c.loop-ring.ring in
+    let fault = c.in_err-hand_edge.field-0.0 in
+    handed_on (FailsAmong c.args.self.now.desk (downs_from c.args.id 0 downs) c.hand_edge.new.self.desk) fault c.from_residual.result c.from_residual.ensures.1
+    (downs_fail _ _ _ c.args.id ring downs c.index-downs-ring.result fault (omega arith) c.index-downs-ring.is c.loop-ring.invariant.steps
+    (subst (λ down. FailsAmong c.loop-ring.self.desk (down_on c.args.id ring down) c.hand_edge.new.self.desk fault) (sym c.index-downs-ring.is) c.in_err-hand_edge.ensures.fault))
+
+pub returns-clause-steps : goal.returns-clause-steps
+returns-clause-steps g c = subst (λ events. StepsAll c.args.self.now.desk events c.loop-ring.self.desk) (ap (downs_from c.args.id 0) (take_all c.loop-ring.ring c.args.downs.now (omega arith))) c.loop-ring.invariant.steps

@@ -1,5 +1,6 @@
-use Rattle.std.proofs.Common.{take}
+use Rattle.std.proofs.Common.{◌≡◌, ◌⊎◌, take, vec_len}
 use Rattle.rapid_service.specs.Entering.{EntersSome, views_of}
+use Rattle.rapid_service.specs.Filters.{StaysOrFresh}
 use Rattle.rapid_service.specs.HandingOn.{downs_from}
 use Rattle.rapid_service.specs.Stepping.{StepsAll}
 use Rattle.rapid_service.proofs.service.Service.hand_down.Given as goal
@@ -9,4 +10,9 @@ invariant-loop-ring g l =
     record {
       steps : StepsAll l.fn.self.desk (downs_from l.id 0 (take l.ring l.downs)) l.self.desk;
       views : EntersSome (views_of l.fn.self.changes.taken l.fn.self.lines.items l.fn.self.present) (views_of l.self.changes.taken l.self.lines.items l.self.present);
+      filter : StaysOrFresh l.fn.self.changes.taken l.fn.self.present l.self.changes.taken l.self.present;
+      seats : (l.self.seats ≡ l.fn.self.seats) ⊎ (vec_len l.self.seats ≡ l.fn.self.desk.count);
+      rounds : l.self.rounds ≡ l.fn.self.rounds;
+      me : l.self.me ≡ l.fn.self.me;
+      count : l.self.desk.count ≡ l.fn.self.desk.count;
     }
