@@ -1,17 +1,19 @@
 // A member in one's own program.
 
-ghost use Rattle.std.specs.Prelude.{◌≡◌, ◌<◌, ◌≤◌, [], ℕ, None, IfOk, IfErr, OnOk};
+ghost use Rattle.std.specs.Prelude.{◌≡◌, ◌+◌, ◌<◌, ◌≤◌, ◌++◌, [], ℕ, None, Ok, IfOk, IfErr, IfSome, OnOk};
 ghost use Rattle.std.specs.Thread.{IsSync};
 ghost use Rattle.rapid_model.specs.Limits.{most_waiting_views};
-ghost use Rattle.rapid_desk.specs.Desks.{NotSubscribed};
-ghost use Rattle.rapid_agent.specs.Opening.{IsOpenedBy};
+ghost use Rattle.rapid_model.specs.Process.{endpoint};
+ghost use Rattle.rapid_desk.specs.Desks.{NotSubscribed, joiner_state};
+ghost use Rattle.rapid_service.specs.declared.fault.RunningFault.TheVariants.{NoIdentifier};
+ghost use Rattle.rapid_agent.specs.Opening.{IsOpenedBy, opening_state};
 
 use crate::arrivals::Arrivals;
 use crate::posts::Posts;
 use crate::subscriber::Subscriber;
 use rapid_config::Params;
 use rapid_desk::DeskError;
-use rapid_endpoint::{Endpoint, Process};
+use rapid_endpoint::{Endpoint, Process, ProcessId};
 use rapid_node::Phase;
 use rapid_options::NodeOptions;
 use rapid_service::{RunningFault, Service, Shared, identify, run_prober, run_ticker};
@@ -65,14 +67,34 @@ fn posts(peers: &Arc<Peers>) -> Result<Posts, AllocError> {
     })
 }
 
-/// The service of a process that founds a cluster or joins one.
+/// The process at this endpoint, with the identifier that is given, or else with one that is drawn.
+fn process_at<S: RandomSource>(
+    at: Endpoint,
+    given: Option<ProcessId>,
+    source: &S,
+) -> Result<Process, RunningFault>
+    ensures there { IfOk result (λ me. endpoint me ≡ at) }
+    ensures given { IfSome given (λ id. result ≡ Ok (id ++ at)) }
+    ensures fault { IfErr result (λ e. e ≡ NoIdentifier) }
+{
+    let id = identify(given, source)?;
+    let me = Process::new(id, at);
+    // how long both are tells where the endpoint begins
+    id.tell();
+    me.tell();
+    Ok(me)
+}
+
+/// The service of a process that founds a cluster or joins one, as the options say.
 fn open_service<'a, W: Wait>(
     rt: &'a W,
     alloc: Global,
     options: &NodeOptions,
     me: Process,
     posts: Posts,
-) -> Result<Service<&'a W, Posts>, RunningFault> {
+) -> Result<Service<&'a W, Posts>, RunningFault>
+    ensures { IfOk result (λ s. (s.desk.state ≡ opening_state options.now.params options.now.join me) × (s.me ≡ me)) }
+{
     match options.join {
         None => Service::found(rt, alloc, options.params, me, posts),
         Some(seed) => Service::join(rt, alloc, me, seed, posts),
@@ -96,7 +118,7 @@ impl<'a, W: Wait> Agent<'a, W> {
     where
         W: Net<Listener = TcpListener, Stream = TcpStream>,
         S: RandomSource,
-        ensures { IfOk result (λ agent. IsOpenedBy options.now agent.endpoint agent.period agent.probers) }
+        ensures { IfOk result (λ agent. IsOpenedBy options.now agent.endpoint agent.period agent.probers agent.shared.probers) }
     {
         let agent = Agent::open_printing(rt, alloc, options, source)?;
         // nobody prints its views
@@ -119,10 +141,9 @@ impl<'a, W: Wait> Agent<'a, W> {
     where
         W: Net<Listener = TcpListener, Stream = TcpStream>,
         S: RandomSource,
-        ensures { IfOk result (λ agent. IsOpenedBy options.now agent.endpoint agent.period agent.probers) }
+        ensures { IfOk result (λ agent. IsOpenedBy options.now agent.endpoint agent.period agent.probers agent.shared.probers) }
     {
-        let id = identify(options.id, source)?;
-        let me = Process::new(id, options.listen);
+        let me = process_at(options.listen, options.id, source)?;
         let (peers, ends) = listen(rt, alloc, options.listen)?;
         let service = open_service(rt, alloc, options, me, posts(&peers)?)?;
         let probers = options.probers.min(MOST_PROBERS);
@@ -141,7 +162,9 @@ impl<'a, W: Wait> Agent<'a, W> {
     }
 
     /// What the threads of the node share.
-    pub fn shared(&self) -> &Shared<&'a W, Posts> {
+    pub fn shared(&self) -> &Shared<&'a W, Posts>
+        ensures { result.now ≡ self.now.shared }
+    {
         &self.shared
     }
 
@@ -171,6 +194,7 @@ impl<'a, W: Wait> Agent<'a, W> {
     pub fn subscribe(&self, capacity: usize) -> Result<Subscriber<'_, W>, DeskError>
         ensures room { OnOk result ((0 < capacity) × (capacity ≤ most_waiting_views)) }
         ensures untold { IfOk result (λ subscriber. (subscriber.subscription.taken ≡ []) × (subscriber.come ≡ None)) }
+        ensures places { IfOk result (λ subscriber. subscriber.subscription.room ≡ capacity + 1) }
         ensures refused { IfErr result (λ e. (served : ℕ) × NotSubscribed capacity served e) }
     {
         let (subscription, current) = self.shared.subscribe(self.rt, capacity)?;
@@ -222,10 +246,21 @@ impl<'a, W: Wait> Agent<'a, W> {
         if self.phase() != Phase::Removed || self.shared.ending().has_come(self.rt) {
             return Ok(false);
         }
-        let me = Process::new(identify(None, source)?, self.endpoint);
-        let next = Service::join(self.rt, self.alloc, me, seed, posts(&self.peers)?)?;
+        let next = self.join_anew(seed, source)?;
         self.shared.begin_anew(self.rt, next);
         Ok(true)
+    }
+
+    /// The service of another process behind the same listener, which joins by the seed.
+    fn join_anew<S: RandomSource>(
+        &self,
+        seed: Endpoint,
+        source: &S,
+    ) -> Result<Service<&'a W, Posts>, RunningFault>
+        ensures { IfOk result (λ s. (s.desk.state ≡ joiner_state s.me seed) × (endpoint s.me ≡ self.now.endpoint)) }
+    {
+        let me = process_at(self.endpoint, None, source)?;
+        Service::join(self.rt, self.alloc, me, seed, posts(&self.peers)?)
     }
 
     /// The senders' ends: once.

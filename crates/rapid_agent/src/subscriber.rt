@@ -106,7 +106,7 @@ impl<'a, W: Wait> Subscriber<'a, W> {
         W: Clock,
         ensures told { IfOk result (λ told. Tells told (record { took = self.old.subscription.taken; present = self.old.present; come = self.old.come }) (record { took = self.new.subscription.taken; present = self.new.present; come = self.new.come })) }
         ensures kept { IfErr result (λ _. Keeps (record { took = self.old.subscription.taken; present = self.old.present; come = self.old.come }) (record { took = self.new.subscription.taken; present = self.new.present; come = self.new.come })) }
-        ensures queue { self.new.subscription.queue ≡ self.old.subscription.queue }
+        ensures queue { (self.new.subscription.queue ≡ self.old.subscription.queue) × (self.new.subscription.room ≡ self.old.subscription.room) }
     {
         if let Some(view) = self.come.take() {
             return self.tell(view);
@@ -124,7 +124,7 @@ impl<'a, W: Wait> Subscriber<'a, W> {
     where
         W: Clock,
         ensures taken { Told result self.old.subscription.taken self.new.subscription.taken }
-        ensures queue { self.new.subscription.queue ≡ self.old.subscription.queue }
+        ensures queue { (self.new.subscription.queue ≡ self.old.subscription.queue) × (self.new.subscription.room ≡ self.old.subscription.room) }
         ensures views { (self.new.present ≡ self.old.present) × (self.new.come ≡ self.old.come) }
     {
         let begun = Instant::now(self.rt).ok();

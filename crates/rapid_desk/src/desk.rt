@@ -1,6 +1,6 @@
 // A desk: a node, its journal and its published views.
 
-ghost use Rattle.std.specs.Prelude.{◌≡◌, ◌⊎◌, ◌<◌, ◌≤◌, true, ◌++◌, ◌∷◌, ◌||◌, ◌&&◌, not, [], false, All, length, vec_len, slice_get, slice_set, Some, None, is_some, IsSome, IsSomeAnd, IfOk, IfErr, IfSome, OnOk, OnErr};
+ghost use Rattle.std.specs.Prelude.{◌≡◌, ◌⊎◌, ◌+◌, ◌<◌, ◌≤◌, true, ◌++◌, ◌∷◌, ◌||◌, ◌&&◌, not, [], false, All, length, vec_len, slice_get, slice_set, Some, None, is_some, IsSome, IsSomeAnd, IfOk, IfErr, IfSome, OnOk, OnErr};
 ghost use Rattle.std.specs.List.{AllZip};
 ghost use Rattle.atomic_table.specs.Seated.{TableId};
 ghost use Rattle.rapid_line.specs.Line.{StartsWith};
@@ -351,6 +351,7 @@ impl<R: Wait + Copy + Drop> Desk<R> {
         ensures ok { OnOk result ((0 < capacity) × (capacity ≤ most_waiting_views) × (length self.old.subscriptions < most_subscriptions)) }
         ensures served { IfOk result (λ subscription. self.new.subscriptions ≡ self.old.subscriptions ++ record { queue = subscription.queue; since = shown_height self.old.state.published; capacity = capacity; put = []; known = [] } ∷ []) }
         ensures untaken { IfOk result (λ subscription. subscription.taken ≡ []) }
+        ensures room { IfOk result (λ subscription. subscription.room ≡ capacity + 1) }
         ensures refused { IfErr result (NotSubscribed capacity (length self.old.subscriptions)) }
         ensures unchanged { OnErr result (self.new.subscriptions ≡ self.old.subscriptions) }
     {

@@ -44,7 +44,7 @@ pub(crate) fn subscribe(
     since: Option<u64>,
 ) -> Result<(Outlet, Subscription), AllocError>
     requires { (0 < capacity) × (capacity ≤ most_waiting_views) }
-    ensures { IfOk result (λ r. (r.0 ≡ record { queue = r.1.queue; since = since; capacity = capacity; put = []; known = [] }) × (r.1.taken ≡ [])) }
+    ensures { IfOk result (λ r. (r.0 ≡ record { queue = r.1.queue; since = since; capacity = capacity; put = []; known = [] }) × (r.1.taken ≡ []) × (r.1.room ≡ capacity + 1)) }
 {
     // one more than the changes, for the mark
     let (sink, source) = rapid_line::line(alloc, capacity + 1)?;

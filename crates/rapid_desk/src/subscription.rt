@@ -23,7 +23,8 @@ pub enum Taken {
     Closed,
 }
 
-/// The subscriber's end of a subscription. Contracts see its queue and what was taken from it.
+/// The subscriber's end of a subscription. Contracts see its queue, what was taken from it, and for
+/// how many notices it has room: the changes that may wait, and one mark.
 #[derive(Drop)]
 pub struct Subscription {
     pub(crate) source: Source<Notice, Successive>,
@@ -47,7 +48,7 @@ impl Model for Subscription {
 impl Subscription {
     pub(crate) fn new(source: Source<Notice, Successive>) -> Subscription
         requires { source.taken ≡ [] }
-        ensures { (result.queue ≡ source.queue) × (result.taken ≡ []) }
+        ensures { (result.queue ≡ source.queue) × (result.taken ≡ []) × (result.room ≡ source.room) }
     {
         Subscription {
             source,
@@ -57,7 +58,7 @@ impl Subscription {
 
     /// The next change, or why there is none.
     pub fn take<R: Wait>(&mut self, rt: &R) -> Taken
-        ensures queue { self.new.queue ≡ self.old.queue }
+        ensures queue { (self.new.queue ≡ self.old.queue) × (self.new.room ≡ self.old.room) }
         ensures taken { Told result self.old.taken self.new.taken }
     {
         match self.state {
@@ -70,7 +71,7 @@ impl Subscription {
     /// What the queue has next.
     fn next<R: Wait>(&mut self, rt: &R) -> Taken
         requires { state_of self.old.taken ≡ State.Open }
-        ensures queue { self.new.queue ≡ self.old.queue }
+        ensures queue { (self.new.queue ≡ self.old.queue) × (self.new.room ≡ self.old.room) }
         ensures taken { Told result self.old.taken self.new.taken }
     {
         match self.source.take(rt) {

@@ -10,7 +10,8 @@ pub record SinkState (T : Type 0) : Type 0 where
   pub known : List T
   pub room : ℕ
 
--- The end that takes: the queue, and what was taken.
+-- The end that takes: the queue, what was taken, and for how many items there is room.
 pub record SourceState (T : Type 0) : Type 0 where
   pub queue : TableId
   pub taken : List T
+  pub room : ℕ

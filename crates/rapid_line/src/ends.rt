@@ -32,7 +32,8 @@ impl<T: Drop, P: Order<T>> Model for Sink<T, P> {
     ghost invariant = { λ s. IsPassOf (arc_value s.queue) s.pass × ((pass_view s.pass).puts ≡ true) × ((pass_view s.pass).takes ≡ false) };
 }
 
-/// The end that takes. Contracts see the queue and what was taken.
+/// The end that takes. Contracts see the queue, what was taken, and for how many items there is
+/// room.
 #[derive(Drop)]
 pub struct Source<T: Drop, P: Order<T>> {
     queue: Arc<Queue<T, P>>,
@@ -42,12 +43,12 @@ pub struct Source<T: Drop, P: Order<T>> {
 impl<T: Drop, P: Order<T>> Model for Source<T, P> {
     ghost use Rattle.std.specs.Prelude.{◌≡◌, true, false};
     ghost use Rattle.std.specs.Arc.{arc_value};
-    ghost use Rattle.crossbeam_queue.specs.Passes.{view as pass_view, IsPassOf};
+    ghost use Rattle.crossbeam_queue.specs.Passes.{view as pass_view, IsPassOf, ruled_capacity};
     ghost use Rattle.rapid_line.specs.Ends.{SourceState};
 
     ghost Value = { SourceState T };
 
-    ghost view = { λ s. record { queue = s.pass.table_id; taken = (pass_view s.pass).taken } };
+    ghost view = { λ s. record { queue = s.pass.table_id; taken = (pass_view s.pass).taken; room = ruled_capacity (arc_value s.queue) } };
 
     ghost invariant = { λ s. IsPassOf (arc_value s.queue) s.pass × ((pass_view s.pass).takes ≡ true) };
 }
@@ -59,7 +60,7 @@ pub fn line<T: Drop, P: Order<T>>(
 ) -> Result<(Sink<T, P>, Source<T, P>), AllocError>
     requires { 0 < capacity }
     ensures empty { IfOk result (λ r. (r.0.queue ≡ r.1.queue) × (r.0.put ≡ []) × (r.1.taken ≡ [])) }
-    ensures room { IfOk result (λ r. (r.0.known ≡ []) × (r.0.room ≡ capacity)) }
+    ensures room { IfOk result (λ r. (r.0.known ≡ []) × (r.0.room ≡ capacity) × (r.1.room ≡ capacity)) }
 {
     let (queue, mut writer) = RuledArrayQueue::ruled(alloc, capacity)?;
     let reader = queue.another::<Roles>(&mut writer);
@@ -126,7 +127,7 @@ impl<T: Drop, P: Order<T>> Sink<T, P> {
 impl<T: Drop, P: Order<T>> Source<T, P> {
     /// Takes the oldest item.
     pub fn take<R: Wait>(&mut self, rt: &R) -> Option<T>
-        ensures queue { self.new.queue ≡ self.old.queue }
+        ensures queue { (self.new.queue ≡ self.old.queue) × (self.new.room ≡ self.old.room) }
         ensures taken { MatchOption result (self.new.taken ≡ self.old.taken) (λ x. (self.new.taken ≡ self.old.taken ++ x ∷ []) × P.next self.old.taken x) }
     {
         pop(rt, &self.queue, &mut self.pass)

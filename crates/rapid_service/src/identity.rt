@@ -1,6 +1,10 @@
 // The identifier of a node.
 
-ghost use Rattle.std.specs.Prelude.{◌≡◌, Ok, IfSome};
+ghost use Rattle.std.specs.Prelude.{◌≡◌, None, Ok, IfOk, IfErr, IfSome, slice_index};
+ghost use Rattle.uuid.specs.Parts.{variant_of};
+ghost use Rattle.uuid.specs.Uuid.{version_num};
+ghost use Rattle.uuid.specs.declared.Variant.TheVariants.{RFC4122};
+ghost use Rattle.rapid_service.specs.declared.fault.RunningFault.TheVariants.{NoIdentifier};
 
 use crate::fault::RunningFault;
 use rapid_endpoint::ProcessId;
@@ -13,7 +17,9 @@ pub fn identify<S: RandomSource>(
     given: Option<ProcessId>,
     source: &S,
 ) -> Result<ProcessId, RunningFault>
-    ensures { IfSome given (λ id. result ≡ Ok id) }
+    ensures given { IfSome given (λ id. result ≡ Ok id) }
+    ensures drawn { given ≡ None → IfOk result (λ id. (version_num id ≡ 4) × (variant_of (slice_index id 8) ≡ RFC4122)) }
+    ensures fault { IfErr result (λ e. e ≡ NoIdentifier) }
 {
     match given {
         Some(id) => Ok(id),

@@ -409,6 +409,7 @@ impl<R: Wait + Copy + Drop, P: Post + Drop> Service<R, P> {
         ensures state { (self.new.desk.state ≡ self.old.desk.state) × (self.new.me ≡ self.old.me) }
         ensures ok { OnOk result ((0 < capacity) × (capacity ≤ most_waiting_views) × (length self.old.desk.subscriptions < most_subscriptions)) }
         ensures untaken { IfOk result (λ r. r.0.taken ≡ []) }
+        ensures room { IfOk result (λ r. r.0.room ≡ capacity + 1) }
         ensures served { IfOk result (λ r. self.new.desk.subscriptions ≡ self.old.desk.subscriptions ++ record { queue = r.0.queue; since = shown_height self.old.desk.state.published; capacity = capacity; put = []; known = [] } ∷ []) }
         ensures current { IfOk result (λ r. r.1 ≡ option_map (λ present. present.view) self.old.present) }
         ensures refused { IfErr result (NotSubscribed capacity (length self.old.desk.subscriptions)) }

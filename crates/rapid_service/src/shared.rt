@@ -1,6 +1,6 @@
 // What the threads of a node share.
 
-ghost use Rattle.std.specs.Prelude.{◌≡◌, ◌<◌, ◌≤◌, ◌++◌, [], ℕ, List, false, min, max, vec_len, IfOk, IfErr, OnOk, OnErr};
+ghost use Rattle.std.specs.Prelude.{◌≡◌, ◌+◌, ◌<◌, ◌≤◌, ◌++◌, [], ℕ, List, false, min, max, vec_len, IfOk, IfErr, OnOk, OnErr};
 ghost use Rattle.rapid_model.specs.Limits.{most_notes, most_probers, most_waiting_views};
 ghost use Rattle.rapid_desk.specs.Desks.{NotSubscribed};
 ghost use Rattle.rapid_lines.specs.EdgeText.{edges_text};
@@ -268,6 +268,7 @@ impl<R: Wait + Copy + Drop, P: Post + Drop> Shared<R, P> {
     ) -> Result<(Subscription, Option<View>), DeskError>
         ensures room { OnOk result ((0 < capacity) × (capacity ≤ most_waiting_views)) }
         ensures untaken { IfOk result (λ r. r.0.taken ≡ []) }
+        ensures places { IfOk result (λ r. r.0.room ≡ capacity + 1) }
         ensures refused { IfErr result (λ e. (served : ℕ) × NotSubscribed capacity served e) }
     {
         let mut service = self.service.lock(rt);

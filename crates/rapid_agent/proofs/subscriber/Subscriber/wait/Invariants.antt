@@ -3,4 +3,4 @@ use Rattle.rapid_agent.proofs.subscriber.Subscriber.wait.Given as goal
 
 abbrev pub invariant-loop : goal.invariant-loop
 invariant-loop g l =
-    (l.self.subscription.taken ≡ l.initial.self.subscription.taken) × (l.self.subscription.queue ≡ l.initial.self.subscription.queue) × (l.self.present ≡ l.initial.self.present) × (l.self.come ≡ l.initial.self.come)
+    (l.self.subscription.taken ≡ l.initial.self.subscription.taken) × (l.self.subscription.queue ≡ l.initial.self.subscription.queue) × (l.self.subscription.room ≡ l.initial.self.subscription.room) × (l.self.present ≡ l.initial.self.present) × (l.self.come ≡ l.initial.self.come)
