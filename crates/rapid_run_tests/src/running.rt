@@ -12,4 +12,5 @@ mod probing;
 mod repeats;
 mod rows;
 mod scarce;
+mod seats;
 mod strangers;

@@ -217,6 +217,45 @@ fn before_the_first_view_nothing_is_dropped(rt: HostRuntime) -> Result<(), Fail>
     Ok(())
 }
 
+/// The decision to remove process 3 from a configuration.
+fn removal(alloc: Global, id: ConfigId) -> Result<Message, Fail> {
+    let mut removed = Vec::new(alloc);
+    removed.push(process(3))?;
+    let decision = Body::Decision(id, Cut::new(removed)?);
+    Ok(Message::new(process(2), decision)?)
+}
+
+#[test]
+fn a_later_view_has_a_new_filter(rt: HostRuntime) -> Result<(), Fail> {
+    let alloc = rt.alloc();
+    let mut service = member(&rt, alloc)?;
+    assert_eq!(rt; service.receive(question(4)?), Ok(Received::Taken));
+    assert_eq!(rt; service.receive(question(4)?), Ok(Received::Dropped));
+    service.receive(removal(alloc, three(alloc)?.id())?)?;
+    assert_eq!(rt;
+        service.take_lines().as_slice(),
+        b"height 0 members 127.0.0.1:7601 127.0.0.1:7602 127.0.0.1:7603\nheight 1 members 127.0.0.1:7601 127.0.0.1:7602\n".as_slice()
+    );
+    assert_eq!(rt; service.receive(question(4)?), Ok(Received::Taken));
+    assert_eq!(rt; service.receive(question(4)?), Ok(Received::Dropped));
+    Ok(())
+}
+
+#[test]
+fn ticks_of_a_service_count_for_its_filter(rt: HostRuntime) -> Result<(), Fail> {
+    let mut service = member(&rt, rt.alloc())?;
+    for time in 0..3 {
+        let received = service.receive(question(4)?);
+        assert_eq!(rt; received, Ok(Received::Taken), "at {time}");
+        for ticks in 0..10 {
+            let received = service.receive(question(4)?);
+            assert_eq!(rt; received, Ok(Received::Dropped), "at {time}, {ticks}");
+            service.tick()?;
+        }
+    }
+    Ok(())
+}
+
 /// More events than a journal has room for.
 const EVENTS: u32 = 66_000;
 
