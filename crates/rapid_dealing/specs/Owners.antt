@@ -1,6 +1,6 @@
 -- Clauses of public calls cite this file.
 -- To which member of a configuration a key belongs.
-use Rattle.std.specs.Prelude.{◌≡◌, ℕ, ◌+◌, ◌*◌, ◌%◌, ◌^◌, List, [], ◌∷◌, Option, None, Some, nat_lt, if◌then◌else◌}
+use Rattle.std.specs.Prelude.{◌≡◌, ℕ, ◌*◌, ◌%◌, ◌^◌, List, [], ◌∷◌, Option, None, Some, take, nat_lt, if◌then◌else◌}
 use Rattle.std.specs.Int.Bits.{bit_xor}
 use Rattle.rapid_model.specs.Process.{Process}
 use Rattle.rapid_model.specs.Configuration.{Configuration}
@@ -10,9 +10,9 @@ abbrev pub hashed : ℕ → List ℕ → ℕ
 hashed h [] = h
 hashed h (b ∷ bs) = hashed ((bit_xor h b * 0x100000001b3) % 2 ^ 64) bs
 
--- How much a key weighs at a member.
+-- How much a key weighs at a member, whose identifier and endpoint are hashed first.
 abbrev pub weight : List ℕ → Process → ℕ
-weight key p = hashed (hashed 0xcbf29ce484222325 p) key
+weight key p = hashed (hashed 0xcbf29ce484222325 (take 22 p)) key
 
 -- The one of two at which the key weighs more; the first if it weighs the same.
 abbrev pub pick : List ℕ → Process → Process → Process

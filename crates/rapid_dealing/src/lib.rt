@@ -24,7 +24,7 @@ fn hash(before: u64, bytes: &[u8]) -> u64
 fn weight_at(member: &Process, key: &[u8]) -> u64
     ensures { result ≡ weight key.now member.now }
 {
-    hash(hash(0xcbf2_9ce4_8422_2325, &member.to_bytes()), key)
+    hash(hash(0xcbf2_9ce4_8422_2325, &member.key_bytes()), key)
 }
 
 /// The one of two members at which a key weighs more; the first if it weighs the same.

@@ -65,6 +65,15 @@ impl Process {
         ensures value { result ≡ self.now }
         ensures process { IsProcess self.now }
     {
+        self.key_bytes()
+    }
+
+    /// The bytes of the identifier and of the endpoint, over which processes are hashed.
+    pub fn key_bytes(&self) -> [u8; 22]
+        ensures value { result ≡ take 22 self.now }
+        ensures whole { result ≡ self.now }
+        ensures process { IsProcess self.now }
+    {
         let mut bytes = [0; 22];
         bytes[..16].copy_from_slice(&self.id.bytes());
         bytes[16..].copy_from_slice(&self.endpoint.to_bytes());

@@ -2,7 +2,6 @@ pub mod Arrivals
 pub mod Edits
 pub mod Following
 pub mod Kept
-pub mod Keys
 pub mod Lookups
 pub mod Numbers
 pub mod Orders

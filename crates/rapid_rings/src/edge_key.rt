@@ -1,6 +1,6 @@
 // The keys of edges.
 
-ghost use Rattle.std.specs.Prelude.{◌≡◌, ◌∷◌};
+ghost use Rattle.std.specs.Prelude.{◌≡◌, ◌∷◌, take};
 ghost use Rattle.std.specs.Ordering.{eq_by_cmp};
 ghost use Rattle.std.specs.Cmp.{partial_equiv_from_equiv, eq_by_cmp_equiv};
 ghost use Rattle.std.specs.Hash as fed;
@@ -12,7 +12,8 @@ use rapid_endpoint::Process;
 use std::hash::{Hash, Hasher};
 use std::marker::Model;
 
-/// A subject and a ring. It is hashed as the bytes of both.
+/// A subject and a ring. It is hashed as the bytes of the subject's identifier and endpoint, and the
+/// ring.
 #[derive(Debug, Drop)]
 pub(crate) struct EdgeKey {
     subject: Process,
@@ -51,12 +52,12 @@ impl Eq for EdgeKey {
 }
 
 impl Hash for EdgeKey {
-    ghost hash_input = { λ e. e.0 ∷ fed.u8 e.1 };
+    ghost hash_input = { λ e. take 22 e.0 ∷ fed.u8 e.1 };
 
     ghost respects_eq = { same_input };
 
     fn hash<H: Hasher>(&self, state: &mut H) {
-        state.write(&self.subject.to_bytes());
+        state.write(&self.subject.key_bytes());
         state.write_u8(self.ring);
     }
 }

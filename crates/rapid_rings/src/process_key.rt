@@ -1,6 +1,6 @@
 // Processes as keys of a set or a map.
 
-ghost use Rattle.std.specs.Prelude.{◌≡◌, [], ◌∷◌};
+ghost use Rattle.std.specs.Prelude.{◌≡◌, [], ◌∷◌, take};
 ghost use Rattle.std.specs.Cmp.{partial_equiv_from_equiv};
 ghost use Rattle.std.proofs.lemmas.Cmp.{nat_list_cmp_total, eq_by_cmp_equiv};
 ghost use Rattle.rapid_model.specs.Process.{same_bytes};
@@ -10,8 +10,8 @@ use rapid_endpoint::Process;
 use std::hash::{Hash, Hasher};
 use std::marker::Model;
 
-/// A process as the key of a set or a map, hashed as its bytes. Keys are equal if their processes
-/// are.
+/// A process as the key of a set or a map, hashed as the bytes of its identifier and its endpoint.
+/// Keys are equal if their processes are.
 #[derive(Clone, Copy, Debug)]
 pub struct ProcessKey {
     process: Process,
@@ -51,11 +51,11 @@ impl Eq for ProcessKey {
 }
 
 impl Hash for ProcessKey {
-    ghost hash_input = { λ p. p ∷ [] };
+    ghost hash_input = { λ p. take 22 p ∷ [] };
 
     ghost respects_eq = { same_input };
 
     fn hash<H: Hasher>(&self, state: &mut H) {
-        state.write(&self.process.to_bytes());
+        state.write(&self.process.key_bytes());
     }
 }

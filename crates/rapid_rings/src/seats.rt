@@ -26,8 +26,7 @@ pub(crate) fn ring_key(ring: u8, process: &Process) -> [u8; 32]
 {
     let mut hasher = Sha256::new();
     hasher.update(&[ring]);
-    hasher.update(&process.id().bytes());
-    hasher.update(&process.endpoint().to_bytes());
+    hasher.update(&process.key_bytes());
     hasher.finalize()
 }
 

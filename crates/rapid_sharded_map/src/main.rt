@@ -38,7 +38,7 @@ fn hash(before: u64, bytes: &[u8]) -> u64 {
 /// How much a key weighs at a member.
 fn weight(member: &Process, key: &str) -> u64 {
     hash(
-        hash(0xcbf2_9ce4_8422_2325, &member.to_bytes()),
+        hash(0xcbf2_9ce4_8422_2325, &member.key_bytes()),
         key.as_bytes(),
     )
 }

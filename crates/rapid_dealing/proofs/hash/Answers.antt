@@ -1,4 +1,4 @@
-use Rattle.std.proofs.Common.{ℕ, ◌<◌, length, rules, arith}
+use Rattle.std.proofs.Common.{◌<◌, length, rules, arith}
 use Rattle.rapid_dealing.proofs.Heaviest.{hashed_more}
 use Rattle.rapid_dealing.proofs.hash.Goals as goal
 

@@ -167,6 +167,7 @@ fn has_parts(made: &Process) -> bool {
 fn a_process_has_its_parts(rt: HostRuntime) {
     let made = ascending();
     assert!(rt; has_parts(&made));
+    assert!(rt; made.key_bytes() == BYTES);
     made.tell();
     made.id().tell();
     made.endpoint().tell();
