@@ -1,8 +1,8 @@
-//! Endpoints, identifiers and processes.
+//! Endpoints, identifiers, processes and tags.
 //!
 //! A process of the membership service (Rapid, USENIX ATC 2018) is an identifier of sixteen bytes
 //! and an IPv4 endpoint. Contracts see each of these as its bytes, and the order is that of the
-//! bytes.
+//! bytes. So it is with tags, which no process has yet.
 #![tactic(auto)]
 
 mod bytes;
@@ -13,9 +13,16 @@ mod number;
 mod parse_error;
 mod process;
 mod process_id;
+mod read_error;
+mod spelling;
+mod tag_list;
+mod tag_reading;
+mod tags;
 
 pub use endpoint::Endpoint;
 pub use endpoint_text::endpoints_have_one_spelling;
 pub use parse_error::ParseError;
 pub use process::Process;
 pub use process_id::ProcessId;
+pub use read_error::ReadError;
+pub use tags::{Tags, TagsIter, tags_have_one_spelling};

@@ -6,3 +6,4 @@ mod cuts;
 mod endpoints;
 mod hexadecimal;
 mod readings;
+mod tags;
