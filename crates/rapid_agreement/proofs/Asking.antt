@@ -9,7 +9,7 @@ use Rattle.std.specs.Cmp.{tied_itself}
 use Rattle.std.specs.FinSet as set
 use Rattle.std.specs.FinMap as finmap
 use Rattle.std.specs.FinMap.Entries as entry
-use Rattle.std.proofs.lemmas.Bool.{and_from, and_parts, or_cases, cases_Bool, cases_eq, leb-true, leb-false, true≢false}
+use Rattle.std.proofs.lemmas.Bool.{and_from, and_parts, or_cases, cases_Bool, cases_eq, leb-true, leb-false, true≢false, not-true}
 use Rattle.rapid_model.specs.Cut.{Cut, cut_cmp}
 use Rattle.rapid_model.specs.Quorum.{size, both, fast_size, classic_size, IsClassic}
 use Rattle.rapid_model.specs.Ballot.{Ballot, Vote, fast_ballot, same_ballot}
@@ -17,13 +17,14 @@ use Rattle.rapid_model.specs.FastRound.{Counts, count_of}
 use Rattle.rapid_model.specs.Coordinator.{Coordinator, value_of, value_by, is_forced, accept_cut, after_report, begun, counts_promise, completes_promises, is_ballot}
 use Rattle.rapid_model.specs.FastPaxos.{Said, IsProposed, IsReported, IsTop, Several, IsForced, IsSafe, no_vote, one_value, forced, free, MayAccept}
 use Rattle.rapid_model.proofs.Orders.{cuts_total, ballots_decided, same_cut_decides}
-use Rattle.rapid_model.proofs.Lists.{In, contains_from, in_left, in_right}
+use Rattle.rapid_model.proofs.Lists.{In, contains_from, in_left, in_right, in_any, in_range, found_in}
 use Rattle.rapid_agreement.specs.Positions.{positions, voters, VoteOnce}
 use Rattle.rapid_agreement.specs.Asking.{Report, after_promises, AreGiven}
 use Rattle.rapid_agreement.proofs.Sets.{size-cons}
 use Rattle.rapid_agreement.proofs.Positions.{size-voters}
 use Rattle.rapid_agreement.proofs.Coordinators.{forced_by_number, none_forced}
 use Rattle.rapid_agreement.proofs.Promises.{reports, count_at, IsHighest, Tops, Keeps, keeps_begun, keeps_new, keeps_after}
+use Rattle.rapid_model.proofs.Logic.{and_is}
 
 -- ---- lists
 
@@ -34,27 +35,6 @@ any_in f (x ∷ xs) h =
       | inl here ↦ (x, inl refl, here)
       | inr later ↦ let rest = any_in f xs later in (rest.0, inr rest.1, rest.2)
     ]
-
-in_any : {A : Type 0} (f : A → Bool) (xs : List A) (x : A) → In xs x → f x ≡ true → list_any f xs ≡ true
-in_any f [] x i h = absurd i
-in_any f (y ∷ ys) x (inl e) h = ap (λ b. b || list_any f ys) (ap f e ∙ h)
-in_any f (y ∷ ys) x (inr i) h = ap (λ b. f y || b) (in_any f ys x i h) ∙ or-true (f y)
-  where
-    or-true : (b : Bool) → (b || true) ≡ true
-    or-true true = refl
-    or-true false = refl
-
-in_range : (a n k : ℕ) → a ≤ k → k < a + n → In (range_with_len a n) k
-in_range a zero k l h = absurd (omega arith)
-in_range a (suc n) k l h = elim (cases_eq a k) [ inl e ↦ inl e | inr other ↦ inr (in_range (a + 1) n k (omega (arith, other)) (omega arith)) ]
-
-found : {A : Type 0} (f : A → Bool) (xs : List A) (x : A) → find f xs ≡ Some x → In xs x × (f x ≡ true)
-found f [] x e = cc
-found f (y ∷ ys) x e = by (λ h. found f ys x h) (f y) refl e
-  where
-    by : (find f ys ≡ Some x → In ys x × (f x ≡ true)) → (b : Bool) → f y ≡ b → cond b (Some y) (find f ys) ≡ Some x → In (y ∷ ys) x × (f x ≡ true)
-    by later true h e = let same : y ≡ x = cc in (inl same, ap f (sym same) ∙ h)
-    by later false h e = let rest = later e in (inr rest.0, rest.1)
 
 not_found : {A : Type 0} (f : A → Bool) (xs : List A) (x : A) → find f xs ≡ None → In xs x → f x ≡ false
 not_found f [] x e i = absurd i
@@ -184,11 +164,6 @@ with_true : (b : Bool) → b ≡ (b && true)
 with_true true = refl
 with_true false = refl
 
-absorbed : (a b : Bool) → (b ≡ true → a ≡ true) → (a && b) ≡ b
-absorbed a true h = ap (λ x. x && true) (h refl)
-absorbed true false h = refl
-absorbed false false h = refl
-
 all_counted : (ys : List Report) → count_by (λ y. true) ys ≡ length ys
 all_counted [] = refl
 all_counted (y ∷ ys) = size-cons y ys (λ z. true) ∙ (let rest = all_counted ys in omega (arith, rest))
@@ -224,7 +199,7 @@ module _ {X : Type 0} (members : List X) (place : X → ℕ) (places : map place
 
   size-says : (t : Ballot) (w : Cut) → size members (both quorum (says t w)) ≡ count_at t w ys
   size-says t w =
-      ap (λ (f : X → Bool). size members f) (λ i a. absorbed (list_any (λ o. nat_eq (place a) o.0) ys) (voters (reports t w) ys (place a)) (voter_heard (reports t w) ys (place a)) i)
+      ap (λ (f : X → Bool). size members f) (λ i a. and_is (list_any (λ o. nat_eq (place a) o.0) ys) (voters (reports t w) ys (place a)) (voter_heard (reports t w) ys (place a)) i)
       ∙ at_places (voters (reports t w) ys) ∙ size-voters (length members) (reports t w) ys once
 
   in_report : (a : X) → quorum a ≡ true → In ys (place a, reported a)
@@ -356,7 +331,7 @@ module _ {X : Type 0} (members : List X) (place : X → ℕ) (places : map place
               (free t is_top several (none_is_forced (x ∷ y ∷ zs) entries (λ z i. not_found (λ z. is_forced (length members) promised z.1) (x ∷ y ∷ zs) z f i)) least_proposed)
           choose (Some z) f e =
               let same : z.0 ≡ v = cc in
-              let at = found (λ z. is_forced (length members) promised z.1) (x ∷ y ∷ zs) z f in
+              let at = found_in (λ z. is_forced (length members) promised z.1) (x ∷ y ∷ zs) z f in
               subst (λ u. IsSafe members said quorum reported u) same (forced t is_top several (forced_entry (x ∷ y ∷ zs) entries z at.0 at.1))
 
     safe_asked : (o : Option Ballot) (m : Counts) → Tops o m ys → (promised : ℕ) → promised ≡ length ys → (v : Cut) → value_by (length members) promised (finmap.entries m) own ≡ Some v → IsSafe members said quorum reported v
@@ -385,10 +360,6 @@ completes c p b vote own v e = by (completes_promises c p b) refl e
     by true h e = let parts = and_parts _ _ h in (parts.0, eqb-true _ _ parts.1, e)
     by false h e = absurd (cc)
 
-not_is : (b : Bool) → not b ≡ true → b ≡ false
-not_is true h = cc
-not_is false h = refl
-
 pub asks_lawfully : {X : Type 0} (members : List X) (place : X → ℕ) (said : Said X Cut) (c : Coordinator) (b : Ballot) (earlier : List Report) (last : Report) (own : Option Cut) (v : Cut) →
     map place members ≡ positions (length members) → c.size ≡ length members → c.position < c.size → AreGiven members place said b (earlier ++ last ∷ []) →
     ((a : X) (u : Cut) → Contains members a → place a ≡ c.position → own ≡ Some u → said.proposed a u) →
@@ -399,7 +370,7 @@ asks_lawfully {X} members place said c b earlier last own v places of_size insid
     let k = keeps_after (length members) b earlier (begun c b) [] (keeps_begun (length members) c b of_size) (λ x i. within x (in_left earlier (last ∷ []) x i)) in
     let d : Coordinator = after_promises (begun c b) b earlier in
     let done = completes d last.0 b last.1 own v e in
-    let new : set.contains d.heard last.0 ≡ false = not_is _ (and_parts (is_ballot d.ballot b) (not (set.contains d.heard last.0)) done.0).1 in
+    let new : set.contains d.heard last.0 ≡ false = not-true _ (and_parts (is_ballot d.ballot b) (not (set.contains d.heard last.0)) done.0).1 in
     let now = keeps_new (length members) b d k.kept k.keeps last.0 last.1 (within last (in_right earlier (last ∷ []) last (inl refl))) new in
     let f : Coordinator = after_report d last.0 b last.1 in
     let among : (y : Report) → In (last ∷ k.kept) y → Contains all y = λ y i. contains_from all y (elim i [
@@ -422,7 +393,7 @@ asks_once n c b earlier more last next own other v of_size within within_more e 
     let k = keeps_after n b earlier (begun c b) [] (keeps_begun n c b of_size) (λ x i. within x (in_left earlier (last ∷ []) x i)) in
     let d : Coordinator = after_promises (begun c b) b earlier in
     let done = completes d last.0 b last.1 own v e in
-    let new : set.contains d.heard last.0 ≡ false = not_is _ (and_parts (is_ballot d.ballot b) (not (set.contains d.heard last.0)) done.0).1 in
+    let new : set.contains d.heard last.0 ≡ false = not-true _ (and_parts (is_ballot d.ballot b) (not (set.contains d.heard last.0)) done.0).1 in
     let now = keeps_new n b d k.kept k.keeps last.0 last.1 (within last (in_right earlier (last ∷ []) last (inl refl))) new in
     let then = keeps_after n b more (after_report d last.0 b last.1) (last ∷ k.kept) now within_more in
     let g : Coordinator = after_promises (after_report d last.0 b last.1) b more in

@@ -2,7 +2,7 @@
 use Rattle.std.proofs.Common.{◌≡◌, ℕ, zero, suc, ◌+◌, ◌-◌, ◌<◌, ◌≤◌, min, ◌⊎◌, inl, inr, Bool, true, false, cond, not, ◌&&◌, List, [], ◌∷◌, length, map, take, drop, refl, sym, ap, subst, ◌∙◌, arith, nat_lt, Option, Some, None}
 use Rattle.std.specs.Prelude.{All}
 use Rattle.std.specs.List.{list_all, slice_index_or}
-use Rattle.std.proofs.lemmas.Bool.{cases_lt}
+use Rattle.std.proofs.lemmas.Bool.{cases_lt, and_parts, and_from}
 use Rattle.std.proofs.lemmas.List.{length-take, length-drop, take_all}
 use Rattle.std.proofs.lemmas.List.Elements.{All-take, All-drop}
 use Rattle.rapid_model.specs.Process.{Process, same_bytes}
@@ -16,14 +16,6 @@ use Rattle.rapid_alerts.specs.Alerts.{ListedAlerts, alert_of, alerts_in}
 use Rattle.rapid_alerts.specs.declared.alert.Alert.{Alert}
 use Rattle.rapid_alerts.specs.Outboxes.{Index, is_sound, IsOutbox}
 use Rattle.rapid_alerts.proofs.Raisings.{parts_of}
-
-both : (a b : Bool) → (a && b) ≡ true → (a ≡ true) × (b ≡ true)
-both true b h = (refl, h)
-both false b h = cc
-
-and : (a b : Bool) → a ≡ true → b ≡ true → (a && b) ≡ true
-and true b h k = k
-and false b h k = cc
 
 -- ---- the fault of alerts
 
@@ -68,8 +60,8 @@ batch_few (x ∷ xs) h = let e : nat_lt 2048 (suc (length xs)) ≡ false = enoug
 own_alike : (from : Process) (id : List ℕ) (a : model.Alert) (xs : List AlertItem) → a.observer ≡ from → a.config ≡ id → list_all (is_alike a) (batch_alerts from id xs) ≡ true
 own_alike from id a [] o c = refl
 own_alike from id a (x ∷ xs) o c =
-    and (is_alike a (read_as from id x)) _
-    (and (same_bytes from a.observer) _ ((same_bytes_decides from a.observer).1 (sym o)) ((same_bytes_decides id a.config).1 (sym c)))
+    and_from (is_alike a (read_as from id x)) _
+    (and_from (same_bytes from a.observer) _ ((same_bytes_decides from a.observer).1 (sym o)) ((same_bytes_decides id a.config).1 (sym c)))
     (own_alike from id a xs o c)
 
 -- alerts of one observer and one configuration that are some and not too many are a batch
@@ -88,10 +80,10 @@ listed_fits l some few = fits_when l.observer l.config l.items some few
 alike_parts : (a : Alert) (xs : List Alert) → list_all (λ y. is_alike (alert_of a) (alert_of y)) xs ≡ true → All (λ y. (y.observer ≡ a.observer) × (y.config ≡ a.config)) xs
 alike_parts a [] h k d l = absurd (omega (arith, l))
 alike_parts a (x ∷ xs) h zero d l =
-    let p = both (is_alike (alert_of a) (alert_of x)) (list_all (λ y. is_alike (alert_of a) (alert_of y)) xs) h in
-    let q = both (same_bytes x.observer a.observer) (same_bytes x.config a.config) p.0 in
+    let p = and_parts (is_alike (alert_of a) (alert_of x)) (list_all (λ y. is_alike (alert_of a) (alert_of y)) xs) h in
+    let q = and_parts (same_bytes x.observer a.observer) (same_bytes x.config a.config) p.0 in
     ((same_bytes_decides x.observer a.observer).0 q.0, (same_bytes_decides x.config a.config).0 q.1)
-alike_parts a (x ∷ xs) h (suc k) d l = alike_parts a xs (both (is_alike (alert_of a) (alert_of x)) (list_all (λ y. is_alike (alert_of a) (alert_of y)) xs) h).1 k d (omega (arith, l))
+alike_parts a (x ∷ xs) h (suc k) d l = alike_parts a xs (and_parts (is_alike (alert_of a) (alert_of x)) (list_all (λ y. is_alike (alert_of a) (alert_of y)) xs) h).1 k d (omega (arith, l))
 
 -- the alerts of a batch have the observer and the configuration of the first
 pub alike_first : (xs : List Alert) (d : Alert) → batch_fault (map alert_of xs) ≡ None → All (λ y. (y.observer ≡ (slice_index_or xs 0 d).observer) × (y.config ≡ (slice_index_or xs 0 d).config)) xs
@@ -111,8 +103,8 @@ sound_alike t owner a [] s h = refl
 sound_alike t owner a (x ∷ xs) s h =
     let p = parts_of t owner a s in
     let q = parts_of t owner x (h 0 x (omega arith)) in
-    and (is_alike a x) _
-    (and (same_bytes x.observer a.observer) _ ((same_bytes_decides x.observer a.observer).1 (q.observer ∙ sym p.observer)) ((same_bytes_decides x.config a.config).1 (q.config ∙ sym p.config)))
+    and_from (is_alike a x) _
+    (and_from (same_bytes x.observer a.observer) _ ((same_bytes_decides x.observer a.observer).1 (q.observer ∙ sym p.observer)) ((same_bytes_decides x.config a.config).1 (q.config ∙ sym p.config)))
     (sound_alike t owner a xs s (λ k d l. h (suc k) d (omega (arith, l))))
 
 sound_batch : (t : Observers) (owner : Process) (xs : List model.Alert) → All (λ x. is_sound t owner x ≡ true) xs → length xs ≤ 2048 → 1 ≤ length xs → batch_fault xs ≡ None

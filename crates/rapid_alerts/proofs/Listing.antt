@@ -1,7 +1,7 @@
 -- Lists of alerts whose subjects stand at places.
 use Rattle.std.proofs.Common.{◌≡◌, ℕ, suc, zero, ◌+◌, ◌<◌, ◌≤◌, Bool, true, false, cond, not, ◌&&◌, List, [], ◌∷◌, ◌++◌, length, map, take, drop, get_or, refl, sym, ap, subst, ◌∙◌, arith, nat_eq, Some}
 use Rattle.std.specs.Prelude.{All, slice_get, Result, Ok, Err, OnErr}
-use Rattle.std.proofs.lemmas.Bool.{and_parts, eqb-true}
+use Rattle.std.proofs.lemmas.Bool.{and_parts, eqb-true, and_from}
 use Rattle.std.proofs.lemmas.Cmp.{nat_eq_equiv}
 use Rattle.std.proofs.lemmas.Option.{slice_get_within, get_or_from_slice_get}
 use Rattle.std.proofs.lemmas.List.{take_more, take_all, map_push, length-map, length-append, get_or_append_left, get_or-drop, length-drop}
@@ -118,10 +118,6 @@ kind_back E a b Remove Join e = cc
 kind_back E a b Join Remove e = cc
 kind_back E a b Join Join e = b
 
-and : (a b : Bool) → a ≡ true → b ≡ true → (a && b) ≡ true
-and true b p q = q
-and false b p q = cc
-
 -- alerts of which all parts are the same
 pub same_parts : (E : Kind → Kind → Bool) → E Remove Join ≡ false → E Join Remove ≡ false → (a b : Alert)
     → (same_bytes a.observer b.observer && (same_bytes a.subject b.subject && (nat_eq a.ring b.ring && (E a.kind b.kind && same_bytes a.config b.config)))) ≡ true → alert_of a ≡ alert_of b
@@ -146,17 +142,13 @@ number_back a b e = subst (λ n. nat_eq a n ≡ true) e (nat_eq_equiv.refl a)
 pub parts_back : (E : Kind → Kind → Bool) → E Remove Remove ≡ true → E Join Join ≡ true → (a b : Alert) → alert_of a ≡ alert_of b
     → (same_bytes a.observer b.observer && (same_bytes a.subject b.subject && (nat_eq a.ring b.ring && (E a.kind b.kind && same_bytes a.config b.config)))) ≡ true
 parts_back E p q a b e =
-    and _ _ (bytes_back _ _ (ap (λ x. x.observer) e))
-    (and _ _ (bytes_back _ _ (ap (λ x. x.subject) e))
-    (and _ _ (number_back _ _ (ap (λ x. x.ring) e)) (and _ _ (kind_back E p q a.kind b.kind (ap (λ x. x.kind) e)) (bytes_back _ _ (ap (λ x. x.config) e)))))
+    and_from _ _ (bytes_back _ _ (ap (λ x. x.observer) e))
+    (and_from _ _ (bytes_back _ _ (ap (λ x. x.subject) e))
+    (and_from _ _ (number_back _ _ (ap (λ x. x.ring) e)) (and_from _ _ (kind_back E p q a.kind b.kind (ap (λ x. x.kind) e)) (bytes_back _ _ (ap (λ x. x.config) e)))))
 
 -- if two lists are one, so are two alerts at the same place
 pub same_at : (xs ys : List model.Alert) (i : ℕ) (a b : model.Alert) → xs ≡ ys → slice_get xs i ≡ Some a → slice_get ys i ≡ Some b → a ≡ b
 same_at xs ys i a b e h k = let s : Some a ≡ Some b = sym h ∙ ap (λ l. slice_get l i) e ∙ k in cc
-
-pub held : (b : Bool) → not b ≡ false → b ≡ true
-held true e = refl
-held false e = let n : true ≡ false = e in cc
 
 -- ---- a stretch of a list
 

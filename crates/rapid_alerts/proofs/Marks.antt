@@ -16,7 +16,9 @@ use Rattle.rapid_alerts.specs.declared.mark.Marks.{Marks}
 use Rattle.rapid_alerts.specs.Outboxes.{Index, empty_index, indexed, has_room}
 use Rattle.rapid_alerts.specs.RingMasks.{has_ring, with_rings}
 use Rattle.rapid_alerts.specs.Marks.{no_marks, marks_of, is_reported, is_joiner, reports_in, joiners_of, index_in, IsOn}
-use Rattle.rapid_alerts.proofs.RingMasks.{both, and_true, and_is, no_both, no_ring, below, on_these, found_in}
+use Rattle.rapid_alerts.proofs.RingMasks.{no_both, no_ring, below, on_these, found_in}
+use Rattle.std.proofs.lemmas.Bool.{and_parts, and_from}
+use Rattle.rapid_model.proofs.Logic.{and_is}
 
 or_turn : (a b : Bool) → (a || b) ≡ (b || a)
 or_turn true true = refl
@@ -48,7 +50,7 @@ unfolding reports_in
 seen es x =
     set.contains-from_list reports_total (filter (is_reported es) (with_rings (keys_of es))) x
     ∙ is_member-filter (eq_by_cmp_equiv reports_total) (is_reported es) x (λ y e. ap (is_reported es) ((tie_decides reports_total reports_exact x y).0 e)) (with_rings (keys_of es))
-    ∙ and_is _ _ (λ h. on_these (keys_of es) x.0 x.1 (has_key es x.0 (λ m. has_ring m.rings x.1) (no_ring x.1) h) (below x.1 (both (nat_lt x.1 16) (bit_at (marks_of es x.0).rings x.1 == 1) h).0))
+    ∙ and_is _ _ (λ h. on_these (keys_of es) x.0 x.1 (has_key es x.0 (λ m. has_ring m.rings x.1) (no_ring x.1) h) (below x.1 (and_parts (nat_lt x.1 16) (bit_at (marks_of es x.0).rings x.1 == 1) h).0))
 
 joins_seen : (es : List (Process × Marks)) (s : Process) → set.contains (joiners_of es) s ≡ is_joiner es s
 unfolding joiners_of
@@ -103,8 +105,8 @@ report_is : (x : Report) (s : Process) (ring : ℕ) → eq_by_cmp report_cmp x (
 report_is x s ring =
     both_ways _ _
     (λ e. let same : x ≡ (s, ring) = (tie_decides reports_total reports_exact x (s, ring)).0 e in
-    and_true _ _ ((same_bytes_decides s x.0).1 (sym (ap (λ (y : Report). y.0) same))) (subst (λ n. (x.1 == n) ≡ true) (ap (λ (y : Report). y.1) same) (own_number x.1)))
-    (λ h. let p = both (same_bytes s x.0) (x.1 == ring) h in
+    and_from _ _ ((same_bytes_decides s x.0).1 (sym (ap (λ (y : Report). y.0) same))) (subst (λ n. (x.1 == n) ≡ true) (ap (λ (y : Report). y.1) same) (own_number x.1)))
+    (λ h. let p = and_parts (same_bytes s x.0) (x.1 == ring) h in
     let subject : x.0 ≡ s = sym ((same_bytes_decides s x.0).0 p.0) in
     let number : x.1 ≡ ring = same_number x.1 ring p.1 in
     (tie_decides reports_total reports_exact x (s, ring)).1 (λ i. (subject i, number i)))

@@ -18,18 +18,7 @@ use Rattle.rapid_alerts.specs.Outboxes.{OwnedOutbox, Index, indexed, has_room as
 use Rattle.rapid_alerts.specs.Refusals.{Refuses, RefusesIfAny}
 use Rattle.rapid_alerts.specs.declared.errors.RaiseError.{RaiseError}
 use Rattle.rapid_alerts.proofs.Indexes.{index_more, room_is}
-
-both : (a b : Bool) → (a && b) ≡ true → (a ≡ true) × (b ≡ true)
-both true b h = (refl, h)
-both false b h = cc
-
-and : (a b : Bool) → a ≡ true → b ≡ true → (a && b) ≡ true
-and true b h k = k
-and false b h k = cc
-
-or_split : (a b : Bool) → (a || b) ≡ true → (a ≡ true) ⊎ (b ≡ true)
-or_split true b h = inl refl
-or_split false b h = inr h
+use Rattle.std.proofs.lemmas.Bool.{and_parts, and_from, or_cases}
 
 -- ---- two alerts that are the same
 
@@ -54,10 +43,10 @@ same_bytes_own p = (same_bytes_decides p p).1 refl
 
 pub same_are_one : (a b : Alert) → same_alert a b ≡ true → a ≡ b
 same_are_one a b h =
-    let p = both (same_bytes a.observer b.observer && same_bytes a.subject b.subject && (a.ring == b.ring) && same_kind a.kind b.kind) (same_bytes a.config b.config) h in
-    let q = both (same_bytes a.observer b.observer && same_bytes a.subject b.subject && (a.ring == b.ring)) (same_kind a.kind b.kind) p.0 in
-    let r = both (same_bytes a.observer b.observer && same_bytes a.subject b.subject) (a.ring == b.ring) q.0 in
-    let s = both (same_bytes a.observer b.observer) (same_bytes a.subject b.subject) r.0 in
+    let p = and_parts (same_bytes a.observer b.observer && same_bytes a.subject b.subject && (a.ring == b.ring) && same_kind a.kind b.kind) (same_bytes a.config b.config) h in
+    let q = and_parts (same_bytes a.observer b.observer && same_bytes a.subject b.subject && (a.ring == b.ring)) (same_kind a.kind b.kind) p.0 in
+    let r = and_parts (same_bytes a.observer b.observer && same_bytes a.subject b.subject) (a.ring == b.ring) q.0 in
+    let s = and_parts (same_bytes a.observer b.observer) (same_bytes a.subject b.subject) r.0 in
     let observer : a.observer ≡ b.observer = (same_bytes_decides a.observer b.observer).0 s.0 in
     let subject : a.subject ≡ b.subject = (same_bytes_decides a.subject b.subject).0 s.1 in
     let ring : a.ring ≡ b.ring = same_number a.ring b.ring r.1 in
@@ -68,9 +57,9 @@ same_are_one a b h =
 pub one_is_same : (a b : Alert) → a ≡ b → same_alert a b ≡ true
 one_is_same a b e =
     subst (λ x. same_alert a x ≡ true) e
-    (and (same_bytes a.observer a.observer && same_bytes a.subject a.subject && (a.ring == a.ring) && same_kind a.kind a.kind) _
-    (and (same_bytes a.observer a.observer && same_bytes a.subject a.subject && (a.ring == a.ring)) _
-    (and (same_bytes a.observer a.observer && same_bytes a.subject a.subject) _ (and (same_bytes a.observer a.observer) _ (same_bytes_own a.observer) (same_bytes_own a.subject)) (own_number a.ring))
+    (and_from (same_bytes a.observer a.observer && same_bytes a.subject a.subject && (a.ring == a.ring) && same_kind a.kind a.kind) _
+    (and_from (same_bytes a.observer a.observer && same_bytes a.subject a.subject && (a.ring == a.ring)) _
+    (and_from (same_bytes a.observer a.observer && same_bytes a.subject a.subject) _ (and_from (same_bytes a.observer a.observer) _ (same_bytes_own a.observer) (same_bytes_own a.subject)) (own_number a.ring))
     (own_kind a.kind))
     (same_bytes_own a.config))
 
@@ -89,10 +78,10 @@ pub record Parts (t : Observers) (owner : Process) (a : Alert) : Type 0 where
 
 pub parts_of : (t : Observers) (owner : Process) (a : Alert) → is_sound t owner a ≡ true → Parts t owner a
 parts_of t owner a h =
-    let p = both (same_bytes a.observer owner) (is_well_formed t a) h in
-    let q = both (nat_lt a.ring t.params.k && observes t a.observer a.ring a.subject && same_bytes a.config t.id) (kind_fits t a) p.1 in
-    let r = both (nat_lt a.ring t.params.k && observes t a.observer a.ring a.subject) (same_bytes a.config t.id) q.0 in
-    let s = both (nat_lt a.ring t.params.k) (observes t a.observer a.ring a.subject) r.0 in
+    let p = and_parts (same_bytes a.observer owner) (is_well_formed t a) h in
+    let q = and_parts (nat_lt a.ring t.params.k && observes t a.observer a.ring a.subject && same_bytes a.config t.id) (kind_fits t a) p.1 in
+    let r = and_parts (nat_lt a.ring t.params.k && observes t a.observer a.ring a.subject) (same_bytes a.config t.id) q.0 in
+    let s = and_parts (nat_lt a.ring t.params.k) (observes t a.observer a.ring a.subject) r.0 in
     let observer = (same_bytes_decides a.observer owner).0 p.0 in
     record {
       observer = observer;
@@ -107,7 +96,7 @@ pub sound_passes : (t : Observers) (owner : Process) (a : Alert) → is_sound t 
 sound_passes t owner a h =
     let p = parts_of t owner a h in
     let config : same_bytes a.config t.id ≡ true = (same_bytes_decides a.config t.id).1 p.config in
-    let own : is_own t owner a ≡ true = and (same_bytes a.observer owner && nat_lt a.ring t.params.k) _ (and (same_bytes a.observer owner) _ ((same_bytes_decides a.observer owner).1 p.observer) p.ring) p.edge in
+    let own : is_own t owner a ≡ true = and_from (same_bytes a.observer owner && nat_lt a.ring t.params.k) _ (and_from (same_bytes a.observer owner) _ ((same_bytes_decides a.observer owner).1 p.observer) p.ring) p.edge in
     let kind : kind_fits t a ≡ true = subst (λ k. same_kind k (kind_for t a.subject) ≡ true) (sym p.kind) (own_kind (kind_for t a.subject)) in
     rw (config, own, kind) refl
 
@@ -129,13 +118,13 @@ passed_is_sound t owner a h =
   where
     all_hold : same_bytes a.config t.id ≡ true → is_own t owner a ≡ true → kind_fits t a ≡ true → is_sound t owner a ≡ true
     all_hold config own kind =
-        let p = both (same_bytes a.observer owner && nat_lt a.ring t.params.k) (observes t owner a.ring a.subject) own in
-        let q = both (same_bytes a.observer owner) (nat_lt a.ring t.params.k) p.0 in
+        let p = and_parts (same_bytes a.observer owner && nat_lt a.ring t.params.k) (observes t owner a.ring a.subject) own in
+        let q = and_parts (same_bytes a.observer owner) (nat_lt a.ring t.params.k) p.0 in
         let observer = (same_bytes_decides a.observer owner).0 q.0 in
         let edge : observes t a.observer a.ring a.subject ≡ true = subst (λ o. observes t o a.ring a.subject ≡ true) (sym observer) p.1 in
-        and (same_bytes a.observer owner) _ q.0
-        (and (nat_lt a.ring t.params.k && observes t a.observer a.ring a.subject && same_bytes a.config t.id) _
-        (and (nat_lt a.ring t.params.k && observes t a.observer a.ring a.subject) _ (and (nat_lt a.ring t.params.k) _ q.1 edge) config) kind)
+        and_from (same_bytes a.observer owner) _ q.0
+        (and_from (nat_lt a.ring t.params.k && observes t a.observer a.ring a.subject && same_bytes a.config t.id) _
+        (and_from (nat_lt a.ring t.params.k && observes t a.observer a.ring a.subject) _ (and_from (nat_lt a.ring t.params.k) _ q.1 edge) config) kind)
 
 -- two sound alerts are the same exactly if they report the same
 sound_alike : (t : Observers) (owner : Process) (a b : Alert) → is_sound t owner a ≡ true → is_sound t owner b ≡ true → same_alert a b ≡ eq_by_cmp report_cmp (report_of a) (report_of b)
@@ -162,7 +151,7 @@ tail_of P x xs h k d l = h (suc k) d (omega (arith, l))
 among : (t : Observers) (owner : Process) (a : Alert) (xs : List Alert) → All (λ x. is_sound t owner x ≡ true) xs → list_any (same_alert a) xs ≡ true → is_sound t owner a ≡ true
 among t owner a [] h k = cc
 among t owner a (x ∷ xs) h k =
-    elim (or_split (same_alert a x) (list_any (same_alert a) xs) k) [
+    elim (or_cases (same_alert a x) (list_any (same_alert a) xs) k) [
       | inl e ↦ subst (λ y. is_sound t owner y ≡ true) (sym (same_are_one a x e)) (h 0 x (omega arith))
       | inr later ↦ among t owner a xs (tail_of (λ y. is_sound t owner y ≡ true) x xs h) later
     ]
@@ -250,9 +239,9 @@ raised_parts t owner o i a h e =
 once_more : (xs : List Alert) (a : Alert) → are_once xs ≡ true → list_any (same_alert a) xs ≡ false → are_once (xs ++ a ∷ []) ≡ true
 once_more [] a h k = refl
 once_more (x ∷ xs) a h k =
-    let p = both (not (list_any (same_alert x) xs)) (are_once xs) h in
+    let p = and_parts (not (list_any (same_alert x) xs)) (are_once xs) h in
     let q = neither (same_alert a x) (list_any (same_alert a) xs) k in
-    and (not (list_any (same_alert x) (xs ++ a ∷ []))) _
+    and_from (not (list_any (same_alert x) (xs ++ a ∷ []))) _
     (ap not (list_any-append (same_alert x) xs (a ∷ [])) ∙ still (list_any (same_alert x) xs) (same_alert x a) p.0 (same_turned x a ∙ q.0))
     (once_more xs a p.1 q.1)
   where

@@ -5,37 +5,13 @@ use Rattle.std.specs.Int.{bit_at}
 use Rattle.std.specs.Ordering.{eq_by_cmp}
 use Rattle.std.specs.Map.{keys_of, lookup}
 use Rattle.std.specs.BTreeMap.{is_at}
-use Rattle.std.proofs.lemmas.Bool.{cases_eq}
+use Rattle.std.proofs.lemmas.Bool.{cases_eq, and_from, or_cases, or_left, or_right}
 use Rattle.std.proofs.lemmas.Nat.Bits.{bit_at_or, bit_at-lt, bit_at_set_same, bit_at_set_other, bit_at-zero, same_from_bits}
 use Rattle.rapid_model.specs.Process.{Process, process_cmp, is_in, same_bytes}
 use Rattle.rapid_model.specs.Reports.{Report, report_cmp}
 use Rattle.rapid_model.proofs.Orders.{reports_total, reports_exact, tie_decides, same_bytes_decides}
 use Rattle.rapid_alerts.specs.RingMasks.{has_ring, with_rings}
-
-pub both : (a b : Bool) → (a && b) ≡ true → (a ≡ true) × (b ≡ true)
-both true b h = (refl, h)
-both false b h = cc
-
-pub and_true : (a b : Bool) → a ≡ true → b ≡ true → (a && b) ≡ true
-and_true true b h k = k
-and_true false b h k = h
-
-pub and_is : (a b : Bool) → (b ≡ true → a ≡ true) → (a && b) ≡ b
-and_is true b h = refl
-and_is false true h = h refl
-and_is false false h = refl
-
-pub or_split : (a b : Bool) → (a || b) ≡ true → (a ≡ true) ⊎ (b ≡ true)
-or_split true b h = inl refl
-or_split false b h = inr h
-
-pub or_left : (a b : Bool) → a ≡ true → (a || b) ≡ true
-or_left true b h = refl
-or_left false b h = cc
-
-pub or_right : (a b : Bool) → b ≡ true → (a || b) ≡ true
-or_right true b h = refl
-or_right false b h = h
+use Rattle.rapid_model.proofs.Among.{own_report}
 
 pub no_both : (b : Bool) → b ≡ true → b ≡ false → ⊥
 no_both b h k = cc
@@ -81,7 +57,7 @@ ring_one ring k h =
     ap (λ n. has_ring n k) (sym (or_zero (1 * 2 ^ ring % 65536)))
     ∙ elim (cases_eq k ring) [
       | inl same ↦ subst (λ i. has_ring (bit_or 0 (1 * 2 ^ ring % 65536)) i ≡ (i == ring)) (sym same)
-          (and_true _ _ (less ring h) (ap (λ n. n == 1) (bit_at_set_same w16 0 ring h)) ∙ sym (eq-eqb ring ring refl))
+          (and_from _ _ (less ring h) (ap (λ n. n == 1) (bit_at_set_same w16 0 ring h)) ∙ sym (eq-eqb ring ring refl))
       | inr other ↦ ap (λ n. nat_lt k 16 && n == 1) (bit_at_set_other w16 0 ring h k other ∙ bit_at-zero k) ∙ and_false (nat_lt k 16) ∙ sym (ne_eqb k ring other)
     ]
   where
@@ -100,14 +76,11 @@ ring_one ring k h =
 
 -- ---- processes with each ring
 
-own_report : (x : Report) → eq_by_cmp report_cmp x x ≡ true
-own_report x = (tie_decides reports_total reports_exact x x).1 refl
-
 any_append : (x : Report) (xs ys : List Report) → (list_any (eq_by_cmp report_cmp x) xs ≡ true) ⊎ (list_any (eq_by_cmp report_cmp x) ys ≡ true) → list_any (eq_by_cmp report_cmp x) (xs ++ ys) ≡ true
 any_append x [] ys (inl h) = cc
 any_append x [] ys (inr h) = h
 any_append x (y ∷ xs) ys (inr h) = or_right _ _ (any_append x xs ys (inr h))
-any_append x (y ∷ xs) ys (inl h) = elim (or_split (eq_by_cmp report_cmp x y) _ h) [ inl e ↦ or_left _ _ e | inr later ↦ or_right _ _ (any_append x xs ys (inl later)) ]
+any_append x (y ∷ xs) ys (inl h) = elim (or_cases (eq_by_cmp report_cmp x y) _ h) [ inl e ↦ or_left _ _ e | inr later ↦ or_right _ _ (any_append x xs ys (inl later)) ]
 
 on_rings : (s : Process) (k n a : ℕ) → a ≤ k → k < a + n → list_any (eq_by_cmp report_cmp (s, k)) (map (λ j. (s, j)) (range_with_len a n)) ≡ true
 on_rings s k zero a low high = absurd (omega arith)
@@ -122,7 +95,7 @@ pub on_these : (ss : List Process) (s : Process) (k : ℕ) → is_in ss s ≡ tr
 on_these [] s k h l = h
 on_these (q ∷ ss) s k h l =
     any_append (s, k) (map (λ j. (q, j)) (range_with_len 0 16)) (with_rings ss)
-    (elim (or_split (same_bytes s q) (is_in ss s) h) [
+    (elim (or_cases (same_bytes s q) (is_in ss s) h) [
       | inl e ↦ inl (subst (λ p. list_any (eq_by_cmp report_cmp (s, k)) (map (λ j. (p, j)) (range_with_len 0 16)) ≡ true) ((same_bytes_decides s q).0 e) (on_rings s k 16 0 (omega arith) (omega (arith, l))))
       | inr later ↦ inr (on_these ss s k later l)
     ])

@@ -1,7 +1,7 @@
 -- A cluster that is driven.
 use Rattle.std.proofs.Common.{◌≡◌, ◌≤◌, ℕ, zero, suc, ◌+◌, ◌-◌, ◌*◌, List, [], ◌∷◌, ◌++◌, append_assoc, append-nil, length, length-append, map, replicate, All, sum, refl, sym, ap, subst, ◌∙◌, Result, Ok, Err, IfOk, OnErr, arith}
 use Rattle.std.specs.List.{range_with_len}
-use Rattle.std.proofs.lemmas.List.{map_push}
+use Rattle.std.proofs.lemmas.List.{map_push, length_push}
 use Rattle.std.proofs.lemmas.List.Sums.{sum_by-le}
 use Rattle.rapid_model.specs.Configuration.{Params}
 use Rattle.rapid_model.specs.Numbered.{numbered}
@@ -12,20 +12,15 @@ use Rattle.rapid_clerks.specs.Jobs.{DoesJobs, none, one_more}
 use Rattle.rapid_clerks.specs.declared.job.Job.{Job}
 use Rattle.rapid_clerks.specs.declared.job.Job.TheVariants.{Turn}
 use Rattle.rapid_cluster.specs.Driven.{start_of, starts_of, all_jobs, HasTaken, IsUnderway, IsDriven}
+use Rattle.rapid_model.proofs.Lists.{range_push}
+use Rattle.std.proofs.lemmas.List.FromFn.{length-range_with_len}
 
 -- ---- starts
-
-range_end : (a n : ℕ) → range_with_len a (n + 1) ≡ range_with_len a n ++ (a + n) ∷ []
-range_end a zero = let e : a + 0 ≡ a = omega arith in rw e refl
-range_end a (suc n) =
-    let d : suc n + 1 ≡ suc (n + 1) = omega arith in
-    let e : (a + 1) + n ≡ a + suc n = omega arith in
-    rw d (ap (λ l. a ∷ l) (range_end (a + 1) n ∙ ap (λ k. range_with_len (a + 1) n ++ k ∷ []) e))
 
 starts_more : (count : ℕ) → starts_of (count + 1) ≡ starts_of count ++ start_of (count + 2) ∷ []
 starts_more count =
     let e : 2 + count ≡ count + 2 = omega arith in
-    ap (map start_of) (range_end 2 count) ∙ map_push start_of (range_with_len 2 count) (2 + count) ∙ ap (λ k. starts_of count ++ start_of k ∷ []) e
+    ap (map start_of) (range_push 2 count) ∙ map_push start_of (range_with_len 2 count) (2 + count) ∙ ap (λ k. starts_of count ++ start_of k ∷ []) e
 
 -- nothing was done yet
 pub none_started : (c : ClusterState) → DoesJobs c (starts_of 0) c
@@ -56,9 +51,6 @@ goes_on params n c d (Err e) reports u done same = subst (IsUnderway params n) (
 
 -- ---- counts
 
-length_push : {A : Type 0} (xs : List A) (x : A) → length (xs ++ x ∷ []) ≡ length xs + 1
-length_push xs x = length-append xs (x ∷ [])
-
 -- each job that was done stored an event
 jobs_stored : (c d : ClusterState) (js : List Job) → DoesJobs c js d → accepted d.world ≡ accepted c.world + length js
 jobs_stored _ _ _ (none c) = omega arith
@@ -67,10 +59,6 @@ jobs_stored _ _ _ (one_more c d e js j reports all done) =
     let now : accepted e.world ≡ accepted d.world + 1 = ap accepted done.stores.stored ∙ length_push d.world.events (record { event = done.turn.event; halts = done.stores.halts }) in
     let len = length_push js j in
     omega (arith, before, now, len)
-
-range_length : (a n : ℕ) → length (range_with_len a n) ≡ n
-range_length a zero = refl
-range_length a (suc n) = ap suc (range_length (a + 1) n)
 
 map_length : {A B : Type 0} (f : A → B) (xs : List A) → length (map f xs) ≡ length xs
 map_length f [] = refl
@@ -83,7 +71,7 @@ replicate_length (suc n) x = ap suc (replicate_length n x)
 jobs_length : (n turns : ℕ) → length (all_jobs n turns) ≡ (n - 1) + turns
 jobs_length n turns =
     let a = length-append (starts_of (n - 1)) (replicate turns Turn) in
-    let b : length (starts_of (n - 1)) ≡ n - 1 = map_length start_of (range_with_len 2 (n - 1)) ∙ range_length 2 (n - 1) in
+    let b : length (starts_of (n - 1)) ≡ n - 1 = map_length start_of (range_with_len 2 (n - 1)) ∙ length-range_with_len 2 (n - 1) in
     let c : length (replicate turns Turn) ≡ turns = replicate_length turns Turn in
     omega (arith, a, b, c)
 

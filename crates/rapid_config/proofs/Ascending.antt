@@ -11,14 +11,10 @@ use Rattle.rapid_model.specs.Cut.{is_ascending}
 use Rattle.rapid_model.specs.Configuration.{identifiers_ascend}
 use Rattle.std.specs.List.{IsAllAdjacentAnswer, list_all, filter}
 use Rattle.std.proofs.lemmas.Bool.{and_parts, and_from, and_left, and_right}
+use Rattle.rapid_model.proofs.Logic.{less_is}
 
 pub bytes_total : IsTotalOrder bytes_cmp
 bytes_total = nat_list_cmp_total
-
-less_is : (o : Ordering) → is_lt o ≡ true → o ≡ Less
-less_is Less e = refl
-less_is Equal e = cc
-less_is Greater e = cc
 
 -- the test of a total order passes on
 pub is_lt_trans : {K : Type 0} {R : K → K → Ordering} → IsTotalOrder R → (x y z : K) → is_lt (R x y) ≡ true → is_lt (R y z) ≡ true → is_lt (R x z) ≡ true

@@ -6,7 +6,7 @@ use Rattle.std.specs.List.Sorted.{IsBinarySearchResult}
 use Rattle.std.specs.declared.cmp.Ordering.{Ordering}
 use Rattle.std.specs.declared.cmp.Ordering.TheVariants.{Less, Equal, Greater}
 use Rattle.std.specs.Ordering.{is_lt, is_eq}
-use Rattle.std.proofs.lemmas.Bool.{and_parts, and_from, lt-ltb, le-ltb, cases_lt}
+use Rattle.std.proofs.lemmas.Bool.{and_parts, and_from, lt-ltb, le-ltb, cases_lt, or_parts}
 use Rattle.std.proofs.lemmas.List.Elements.{All-cons}
 use Rattle.rapid_model.specs.Process.{Process, IsProcess, identifier, endpoint, bytes_cmp, process_cmp, same_bytes, same_identifier, same_endpoint}
 use Rattle.rapid_model.specs.Configuration.{AreMembers, identifiers_ascend, endpoints_differ}
@@ -15,6 +15,7 @@ use Rattle.rapid_config.specs.Endpoints.{AreEndpointsOf}
 use Rattle.rapid_config.proofs.Ascending.{bytes_total, is_lt_trans, all_later, below_by_identifier, flipped}
 use Rattle.rapid_config.proofs.Differing.{Gains, gained, same_flips}
 use Rattle.rapid_config.proofs.Places.{by_identifier, rising, any_at, any_none}
+use Rattle.rapid_model.proofs.Logic.{or_swap}
 
 -- a process stands where a search for its identifier ends
 pub insert_is : (j : Process) (ps : List Process) (i : ℕ) → i ≤ length ps → ((k : ℕ) (d : Process) → k < i → process_cmp (get_or ps k d) j ≡ Less) → ((k : ℕ) (d : Process) → i ≤ k → k < length ps → process_cmp j (get_or ps k d) ≡ Less) → insert ps i j ≡ insert_process j ps
@@ -30,11 +31,6 @@ and_swap true true c = refl
 and_swap true false c = refl
 and_swap false true c = refl
 and_swap false false c = refl
-
-or_swap : (a b c : Bool) → (a || (b || c)) ≡ (b || (a || c))
-or_swap true true c = refl
-or_swap true false c = refl
-or_swap false b c = refl
 
 all_insert : (t : Process → Bool) (j : Process) (ps : List Process) → list_all t (insert_process j ps) ≡ (t j && list_all t ps)
 all_insert t j [] = refl
@@ -68,19 +64,15 @@ All_insert P j (q ∷ qs) x h =
       | false ↦ All-cons P q (insert_process j qs) (h 0 q (omega arith)) (All_insert P j qs x (λ k d l. h (suc k) d (omega (arith, l))))
     ]
 
-or_false : (a b : Bool) → (a || b) ≡ false → (a ≡ false) × (b ≡ false)
-or_false true b e = cc
-or_false false b e = (refl, e)
-
 none_all : (t : Process → Bool) (ps : List Process) → list_any t ps ≡ false → list_all (λ p. not (t p)) ps ≡ true
 none_all t [] h = refl
-none_all t (p ∷ ps) h = let r = or_false (t p) (list_any t ps) h in and_from (not (t p)) (list_all (λ p. not (t p)) ps) (ap not r.0) (none_all t ps r.1)
+none_all t (p ∷ ps) h = let r = or_parts (t p) (list_any t ps) h in and_from (not (t p)) (list_all (λ p. not (t p)) ps) (ap not r.0) (none_all t ps r.1)
 
 -- one with an endpoint that none has
 differ_insert : (j : Process) (ps : List Process) → list_any (λ p. same_bytes (endpoint j) (endpoint p)) ps ≡ false → endpoints_differ ps ≡ true → endpoints_differ (insert_process j ps) ≡ true
 differ_insert j [] n h = refl
 differ_insert j (q ∷ qs) n h =
-    let r = or_false (same_bytes (endpoint j) (endpoint q)) (list_any (λ p. same_bytes (endpoint j) (endpoint p)) qs) n in
+    let r = or_parts (same_bytes (endpoint j) (endpoint q)) (list_any (λ p. same_bytes (endpoint j) (endpoint p)) qs) n in
     let s = and_parts (list_all (λ p. not (same_endpoint q p)) qs) (endpoints_differ qs) h in
     elim (is_lt (process_cmp j q)) as (λ b. endpoints_differ (cond b (j ∷ q ∷ qs) (q ∷ insert_process j qs)) ≡ true) [
       | true ↦ and_from (list_all (λ p. not (same_endpoint j p)) (q ∷ qs)) (endpoints_differ (q ∷ qs)) (none_all (λ p. same_bytes (endpoint j) (endpoint p)) (q ∷ qs) n) h
@@ -107,7 +99,7 @@ above_is Greater a b = refl
 ascend_insert : (j : Process) (ps : List Process) → list_any (same_identifier j) ps ≡ false → identifiers_ascend ps ≡ true → identifiers_ascend (insert_process j ps) ≡ true
 ascend_insert j [] n h = refl
 ascend_insert j (q ∷ qs) n h =
-    let r = or_false (same_identifier j q) (list_any (same_identifier j) qs) n in
+    let r = or_parts (same_identifier j q) (list_any (same_identifier j) qs) n in
     let s = and_parts (list_all (λ p. is_lt (bytes_cmp (identifier q) (identifier p))) qs) (identifiers_ascend qs) h in
     let same = below_or j q (bytes_cmp (identifier j) (identifier q)) refl r.0 in
     elim (is_lt (process_cmp j q)) as (λ b. is_lt (process_cmp j q) ≡ b → identifiers_ascend (cond b (j ∷ q ∷ qs) (q ∷ insert_process j qs)) ≡ true) [

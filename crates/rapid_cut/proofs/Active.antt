@@ -17,18 +17,15 @@ use Rattle.rapid_cut.specs.Closing.{IsBetween, HaveCome, is_one_of, active}
 use Rattle.rapid_cut.specs.Growing.{HaveGrown}
 use Rattle.rapid_cut.proofs.InTurn.{ordered_subjects}
 use Rattle.rapid_cut.proofs.Sets.{subject_of}
-use Rattle.rapid_cut.proofs.Closing.{both, and_true}
-use Rattle.rapid_cut.proofs.Joiners.{in_filter, sorted_subjects}
+use Rattle.rapid_cut.proofs.Joiners.{sorted_subjects}
 use Rattle.rapid_cut.proofs.OnePass.{one_pass}
-
-and_is : (a b : Bool) → (b ≡ true → a ≡ true) → (a && b) ≡ b
-and_is true b h = refl
-and_is false true h = h refl
-and_is false false h = refl
+use Rattle.rapid_model.proofs.Logic.{and_is}
+use Rattle.std.proofs.lemmas.Bool.{or_cases, or_left, or_right, and_parts, and_from}
+use Rattle.rapid_model.proofs.Among.{filter_among}
 
 pub low_active : (t : Observers) (r : Reports) (s : Process) → AreObservers t → reaches_low t r (Some s) ≡ is_in (active t r) s
 low_active t r s obs =
-    sym (in_filter (λ q. reaches_low t r (Some q)) (subjects r) s ∙ and_is (is_in (subjects r) s) (reaches_low t r (Some s)) (λ h.
+    sym (filter_among (λ q. reaches_low t r (Some q)) (subjects r) s ∙ and_is (is_in (subjects r) s) (reaches_low t r (Some s)) (λ h.
     let enough : t.params.l ≤ tally t r s = at_most t.params.l (tally t r s) h in
     some_counted t (subjects r) r s (rings t) (λ y k. subject_of r y k) (omega (arith, enough, obs.params.some))))
   where
@@ -81,7 +78,7 @@ pub active_among : (t : Observers) (new : Reports) (before grown found : List Pr
 active_among t new before grown found obs h e =
     ordered_subjects new (λ s. reaches_low t new (Some s)) found (λ q.
     ap (λ l. is_in l q) e ∙ list_any-append (same_bytes q) before grown ∙ sym (h q) ∙ low_active t new q obs
-    ∙ in_filter (λ s. reaches_low t new (Some s)) (subjects new) q)
+    ∙ filter_among (λ s. reaches_low t new (Some s)) (subjects new) q)
 
 or_swap : (a b c : Bool) → ((a || b) || c) ≡ ((a || c) || b)
 or_swap true b c = refl
@@ -101,18 +98,6 @@ known_still t old all new known xs obs a k w same =
     ∙ ap (λ c. set.contains new x || c) (sym (implied_same t new old x same))
     ∙ sym (one_pass t new x obs))
 
-or_split : (a b : Bool) → (a || b) ≡ true → (a ≡ true) ⊎ (b ≡ true)
-or_split true b h = inl refl
-or_split false b h = inr h
-
-or_left : (a b : Bool) → a ≡ true → (a || b) ≡ true
-or_left true b h = refl
-or_left false b h = cc
-
-or_right : (a b : Bool) → b ≡ true → (a || b) ≡ true
-or_right true b h = refl
-or_right false b h = h
-
 -- what was implied before is implied with more direct reports
 pub known_between : (t : Observers) (old all new known : Reports) (xs : List Alert) → AreObservers t → all ≡ reports t old → known ≡ with_alerts all xs → new ≡ with_alerts old xs → IsBetween t new known
 known_between t old all new known xs obs a k w =
@@ -122,14 +107,14 @@ known_between t old all new known xs obs a k w =
     let new_has : (x : Report) → set.contains new x ≡ (set.contains old x || set.contains more x) = λ x. ap (λ r. set.contains r x) w ∙ set.contains-union reports_total old more x in
     record {
       includes = λ x h.
-          elim (or_split (set.contains old x) (set.contains more x) (sym (new_has x) ∙ h)) [
+          elim (or_cases (set.contains old x) (set.contains more x) (sym (new_has x) ∙ h)) [
             | inl was ↦ known_has x ∙ or_left _ _ (or_left _ _ was)
             | inr came ↦ known_has x ∙ or_right _ _ came
           ];
       implied = λ x h.
-          elim (or_split (set.contains old x || is_implied t old x) (set.contains more x) (sym (known_has x) ∙ h)) [
+          elim (or_cases (set.contains old x || is_implied t old x) (set.contains more x) (sym (known_has x) ∙ h)) [
             | inl was ↦
-                elim (or_split (set.contains old x) (is_implied t old x) was) [
+                elim (or_cases (set.contains old x) (is_implied t old x) was) [
                   | inl there ↦ inl (new_has x ∙ or_left _ _ there)
                   | inr so ↦ inr (implied_mono t old new x (λ y i. new_has y ∙ or_left _ _ i) so)
                 ]
@@ -144,7 +129,7 @@ closure_includes t direct all obs e x h = ap (λ r. set.contains r x) e ∙ one_
 -- L direct reports now: as before, or it came to them
 low_since : (t : Observers) (old new : Reports) (grown : List Process) (o : Option Process) → HaveGrown t old new grown → reaches_low t new o ≡ true → (reaches_low t old o ≡ true) ⊎ (is_one_of grown o ≡ true)
 low_since t old new grown None g h = inl h
-low_since t old new grown (Some p) g h = or_split (reaches_low t old (Some p)) (is_in grown p) (sym (g.low p) ∙ h)
+low_since t old new grown (Some p) g h = or_cases (reaches_low t old (Some p)) (is_in grown p) (sym (g.low p) ∙ h)
 
 -- what was implied before is known
 pub come_since : (t : Observers) (old all new known : Reports) (grown : List Process) (xs : List Alert) → AreObservers t → all ≡ reports t old → known ≡ with_alerts all xs → HaveGrown t old new grown → HaveCome t new known grown
@@ -152,13 +137,13 @@ come_since t old all new known grown xs obs a k g =
     record {
       low = λ s h. g.low s ∙ or_right (reaches_low t old (Some s)) (is_in grown s) h;
       rest = λ x h.
-          let parts = both (nat_lt x.1 t.params.k && reaches_low t new (Some x.0)) (reaches_low t new (t.observer x.1 x.0)) h in
-          let first = both (nat_lt x.1 t.params.k) (reaches_low t new (Some x.0)) parts.0 in
+          let parts = and_parts (nat_lt x.1 t.params.k && reaches_low t new (Some x.0)) (reaches_low t new (t.observer x.1 x.0)) h in
+          let first = and_parts (nat_lt x.1 t.params.k) (reaches_low t new (Some x.0)) parts.0 in
           elim (low_since t old new grown (Some x.0) g first.1) [
             | inr on ↦ inr (inl on)
             | inl subject ↦ elim (low_since t old new grown (t.observer x.1 x.0) g parts.1) [
               | inr by ↦ inr (inr by)
-              | inl observer ↦ inl (known_has x (and_true _ _ (and_true _ _ first.0 subject) observer))
+              | inl observer ↦ inl (known_has x (and_from _ _ (and_from _ _ first.0 subject) observer))
             ]
           ];
     }

@@ -7,30 +7,7 @@ use Rattle.rapid_model.specs.Ring.{Observers, rings}
 use Rattle.rapid_model.specs.Reports.{Report, Reports, tally, reaches_low, is_implied, IsLeastClosed}
 use Rattle.rapid_model.proofs.Orders.{reports_total, reports_exact}
 use Rattle.rapid_model.proofs.Closure.{some_counted}
-
-pub both : (a b : Bool) → (a && b) ≡ true → (a ≡ true) × (b ≡ true)
-both true b h = (refl, h)
-both false b h = cc
-
-pub and_true : (a b : Bool) → a ≡ true → b ≡ true → (a && b) ≡ true
-and_true true b h k = k
-and_true false b h k = h
-
-pub or_split : (a b : Bool) → (a || b) ≡ true → (a ≡ true) ⊎ (b ≡ true)
-or_split true b h = inl refl
-or_split false b h = inr h
-
-pub or_left : (a b : Bool) → a ≡ true → (a || b) ≡ true
-or_left true b h = refl
-or_left false b h = cc
-
-pub or_right : (a b : Bool) → b ≡ true → (a || b) ≡ true
-or_right true b h = refl
-or_right false b h = h
-
-not_false : (b : Bool) → not b ≡ true → b ≡ false
-not_false true h = cc
-not_false false h = refl
+use Rattle.std.proofs.lemmas.Bool.{and_parts}
 
 -- two least closed sets are one
 pub least_is_one : (t : Observers) (direct r q : Reports) → IsLeastClosed t direct r → IsLeastClosed t direct q → r ≡ q
@@ -39,8 +16,8 @@ least_is_one t direct r q a b =
 
 pub ring_below : (t : Observers) (r : Reports) (x : Report) → is_implied t r x ≡ true → x.1 < t.params.k
 ring_below t r x h =
-    let a = both (nat_lt x.1 t.params.k && nat_le t.params.l (tally t r x.0)) (reaches_low t r (t.observer x.1 x.0)) h in
-    let b = both (nat_lt x.1 t.params.k) (nat_le t.params.l (tally t r x.0)) a.0 in
+    let a = and_parts (nat_lt x.1 t.params.k && nat_le t.params.l (tally t r x.0)) (reaches_low t r (t.observer x.1 x.0)) h in
+    let b = and_parts (nat_lt x.1 t.params.k) (nat_le t.params.l (tally t r x.0)) a.0 in
     below x.1 t.params.k b.0
   where
     below : (m n : ℕ) → nat_lt m n ≡ true → m < n
@@ -48,8 +25,8 @@ ring_below t r x h =
 
 pub on_low : (t : Observers) (ss : List Process) (r : Reports) (x : Report) → 1 ≤ t.params.l → ((y : Report) → set.contains r y ≡ true → is_in ss y.0 ≡ true) → is_implied t r x ≡ true → is_in ss x.0 ≡ true
 on_low t ss r x low within h =
-    let a = both (nat_lt x.1 t.params.k && nat_le t.params.l (tally t r x.0)) (reaches_low t r (t.observer x.1 x.0)) h in
-    let b = both (nat_lt x.1 t.params.k) (nat_le t.params.l (tally t r x.0)) a.0 in
+    let a = and_parts (nat_lt x.1 t.params.k && nat_le t.params.l (tally t r x.0)) (reaches_low t r (t.observer x.1 x.0)) h in
+    let b = and_parts (nat_lt x.1 t.params.k) (nat_le t.params.l (tally t r x.0)) a.0 in
     let enough : t.params.l ≤ tally t r x.0 = at_most t.params.l (tally t r x.0) b.1 in
     some_counted t ss r x.0 (rings t) within (omega (arith, enough, low))
   where

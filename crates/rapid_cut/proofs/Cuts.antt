@@ -15,9 +15,9 @@ use Rattle.rapid_config.specs.declared.error.ConfigError.{ConfigError}
 use Rattle.rapid_config.specs.declared.error.ConfigError.TheVariants.{BadParams, Truncated, Trailing, BadMagic, NotSorted as Unsorted, EndpointTwice, TooMany as Many, EmptyCut as Empty, HeightFull, OutOfMemory}
 use Rattle.rapid_cut.specs.Closing.{active}
 use Rattle.rapid_cut.specs.Limits.{IsWithinLimits, IsDetecting}
-use Rattle.rapid_cut.proofs.Closing.{both}
 use Rattle.rapid_cut.proofs.OnePass.{low_before}
 use Rattle.rapid_cut.proofs.Joiners.{sorted_subjects}
+use Rattle.std.proofs.lemmas.Bool.{and_parts}
 
 only_memory : (e : ConfigError) → Refuses None e → e ≡ OutOfMemory
 only_memory BadParams h = cc
@@ -116,7 +116,7 @@ pub unstable_of : (t : Observers) (direct all : Reports) (ss : List Process) →
 unstable_of t direct all ss d e =
     ap (filter (is_unstable t all)) e
     ∙ filter_within (is_unstable t all) (λ s. reaches_low t direct (Some s)) (subjects direct) (λ s h.
-    low_before t direct (Some s) d.rules (subst (λ r. reaches_low t r (Some s) ≡ true) d.closure (both (nat_le t.params.l (tally t all s)) (nat_lt (tally t all s) t.params.h) h).0))
+    low_before t direct (Some s) d.rules (subst (λ r. reaches_low t r (Some s) ≡ true) d.closure (and_parts (nat_le t.params.l (tally t all s)) (nat_lt (tally t all s) t.params.h) h).0))
     ∙ ap (λ r. filter (is_unstable t r) (subjects direct)) d.closure
 
 -- ---- whether there is a cut

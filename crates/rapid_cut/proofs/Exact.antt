@@ -16,33 +16,25 @@ use Rattle.rapid_model.proofs.Lists.{In, in_from, contains_from}
 use Rattle.rapid_model.proofs.InOrder.{ascends, same_sorted}
 use Rattle.rapid_model.proofs.Orders.{processes_total, processes_exact, same_bytes_decides}
 use Rattle.rapid_cut.specs.Laws.{reports_on, HasHigh, IsBetweenMarks, AreListed, AreAllStable, NoneIsReady}
-use Rattle.rapid_cut.proofs.Closing.{both, and_true, or_split, or_left, or_right}
 use Rattle.rapid_cut.proofs.OnePass.{low_before}
-use Rattle.rapid_cut.proofs.Joiners.{in_filter, sorted_subjects}
+use Rattle.rapid_cut.proofs.Joiners.{sorted_subjects}
 use Rattle.rapid_cut.proofs.Active.{low_active}
+use Rattle.rapid_model.proofs.Among.{among_is, is_among, cut_parts, filter_among}
+use Rattle.std.proofs.lemmas.Bool.{leb-true, le-leb, ltb-true, lt-ltb, and_parts, and_from, or_cases, or_left, or_right}
 
 -- ---- who stands in a list
 
-is_among : (xs : List Process) (s : Process) → In xs s → is_in xs s ≡ true
-is_among [] s h = absurd h
-is_among (x ∷ xs) s (inl e) = or_left _ _ ((same_bytes_decides s x).1 (sym e))
-is_among (x ∷ xs) s (inr h) = or_right _ _ (is_among xs s h)
-
-among : (xs : List Process) (s : Process) → is_in xs s ≡ true → In xs s
-among [] s h = cc
-among (x ∷ xs) s h = elim (or_split (same_bytes s x) (is_in xs s) h) [ inl e ↦ inl (sym ((same_bytes_decides s x).0 e)) | inr later ↦ inr (among xs s later) ]
-
 found : (xs : List Process) (s : Process) → Contains xs s → is_in xs s ≡ true
-found xs s h = is_among xs s (in_from xs s h)
+found xs s h = among_is xs s (in_from xs s h)
 
 stands : (xs : List Process) (s : Process) → is_in xs s ≡ true → Contains xs s
-stands xs s h = contains_from xs s (among xs s h)
+stands xs s h = contains_from xs s (is_among xs s h)
 
 -- lists that ascend and have the same are one
 sorted : (ps : List Process) → is_ascending ps ≡ true → IsStrictlySortedBy process_cmp ps
 unfolding IsStrictlySortedBy
 sorted [] h = tt
-sorted (p ∷ ps) h = let b = both (list_all (λ q. is_lt (process_cmp p q)) ps) (is_ascending ps) h in (above ps b.0, sorted ps b.1)
+sorted (p ∷ ps) h = let b = and_parts (list_all (λ q. is_lt (process_cmp p q)) ps) (is_ascending ps) h in (above ps b.0, sorted ps b.1)
   where
     less : (o : Ordering) → is_lt o ≡ true → o ≡ Less
     less Less e = refl
@@ -51,7 +43,7 @@ sorted (p ∷ ps) h = let b = both (list_all (λ q. is_lt (process_cmp p q)) ps)
 
     above : (qs : List Process) → list_all (λ q. is_lt (process_cmp p q)) qs ≡ true → AllByRecursion (λ q. process_cmp p q ≡ Less) qs
     above [] e = tt
-    above (q ∷ qs) e = let b = both (is_lt (process_cmp p q)) (list_all (λ r. is_lt (process_cmp p r)) qs) e in (less (process_cmp p q) b.0, above qs b.1)
+    above (q ∷ qs) e = let b = and_parts (is_lt (process_cmp p q)) (list_all (λ r. is_lt (process_cmp p r)) qs) e in (less (process_cmp p q) b.0, above qs b.1)
 
 one_list : (v w : List Process) → is_ascending v ≡ true → is_ascending w ≡ true → ((s : Process) → Contains v s → Contains w s) → ((s : Process) → Contains w s → Contains v s) → v ≡ w
 one_list v w a b there back =
@@ -60,50 +52,38 @@ one_list v w a b there back =
 
 -- ---- who is listed
 
-yes : (a b : ℕ) → nat_le a b ≡ true → a ≤ b
-yes a b h = grind arith
-
-holds_le : (a b : ℕ) → a ≤ b → nat_le a b ≡ true
-holds_le a b h = grind arith
-
-below : (a b : ℕ) → nat_lt a b ≡ true → a < b
-below a b h = grind arith
-
-holds_lt : (a b : ℕ) → a < b → nat_lt a b ≡ true
-holds_lt a b h = grind arith
-
 module _ (t : Observers) (direct : Reports) (obs : AreObservers t) where
   -- who has L reports is a subject
   subject : (s : Process) → t.params.l ≤ reports_on t direct s → is_in (subjects direct) s ≡ true
   subject s enough =
-      let low : reaches_low t direct (Some s) ≡ true = low_before t direct (Some s) obs (holds_le t.params.l (tally t (reports t direct) s) enough) in
+      let low : reaches_low t direct (Some s) ≡ true = low_before t direct (Some s) obs (le-leb t.params.l (tally t (reports t direct) s) enough) in
       let active : is_in (filter (λ q. reaches_low t direct (Some q)) (subjects direct)) s ≡ true = sym (low_active t direct s obs) ∙ low in
-      (both (is_in (subjects direct) s) (reaches_low t direct (Some s)) (sym (in_filter (λ q. reaches_low t direct (Some q)) (subjects direct) s) ∙ active)).0
+      (and_parts (is_in (subjects direct) s) (reaches_low t direct (Some s)) (sym (filter_among (λ q. reaches_low t direct (Some q)) (subjects direct) s) ∙ active)).0
 
   passes : (p : Process → Bool) (s : Process) → Contains (filter p (subjects direct)) s → p s ≡ true
-  passes p s h = (both (is_in (subjects direct) s) (p s) (sym (in_filter p (subjects direct) s) ∙ found (filter p (subjects direct)) s h)).1
+  passes p s h = (and_parts (is_in (subjects direct) s) (p s) (sym (filter_among p (subjects direct) s) ∙ found (filter p (subjects direct)) s h)).1
 
   listed : (p : Process → Bool) (s : Process) → t.params.l ≤ reports_on t direct s → p s ≡ true → Contains (filter p (subjects direct)) s
-  listed p s enough h = stands (filter p (subjects direct)) s (in_filter p (subjects direct) s ∙ and_true _ _ (subject s enough) h)
+  listed p s enough h = stands (filter p (subjects direct)) s (filter_among p (subjects direct) s ∙ and_from _ _ (subject s enough) h)
 
   rises : (p : Process → Bool) → is_ascending (filter p (subjects direct)) ≡ true
   rises p = ascends (filter p (subjects direct)) (IsStrictlySortedBy-filter process_cmp p (subjects direct) (sorted_subjects direct))
 
   high : (s : Process) → Contains (stable t direct) s → HasHigh t direct s
-  high s h = yes t.params.h (reports_on t direct s) (passes (is_stable t (reports t direct)) s h)
+  high s h = leb-true t.params.h (reports_on t direct s) (passes (is_stable t (reports t direct)) s h)
 
   is_high : (s : Process) → HasHigh t direct s → Contains (stable t direct) s
-  is_high s h = listed (is_stable t (reports t direct)) s (omega (arith, obs.params.below, h)) (holds_le t.params.h (reports_on t direct s) h)
+  is_high s h = listed (is_stable t (reports t direct)) s (omega (arith, obs.params.below, h)) (le-leb t.params.h (reports_on t direct s) h)
 
   between : (s : Process) → Contains (unstable t direct) s → IsBetweenMarks t direct s
   between s h =
-      let b = both (nat_le t.params.l (reports_on t direct s)) (nat_lt (reports_on t direct s) t.params.h) (passes (is_unstable t (reports t direct)) s h) in
-      (yes t.params.l (reports_on t direct s) b.0, below (reports_on t direct s) t.params.h b.1)
+      let b = and_parts (nat_le t.params.l (reports_on t direct s)) (nat_lt (reports_on t direct s) t.params.h) (passes (is_unstable t (reports t direct)) s h) in
+      (leb-true t.params.l (reports_on t direct s) b.0, ltb-true (reports_on t direct s) t.params.h b.1)
 
   is_between : (s : Process) → IsBetweenMarks t direct s → Contains (unstable t direct) s
   is_between s h =
       listed (is_unstable t (reports t direct)) s h.0
-      (and_true (nat_le t.params.l (reports_on t direct s)) (nat_lt (reports_on t direct s) t.params.h) (holds_le t.params.l (reports_on t direct s) h.0) (holds_lt (reports_on t direct s) t.params.h h.1))
+      (and_from (nat_le t.params.l (reports_on t direct s)) (nat_lt (reports_on t direct s) t.params.h) (le-leb t.params.l (reports_on t direct s) h.0) (lt-ltb (reports_on t direct s) t.params.h h.1))
 
   pub lists_are_exact : AreListed t direct
   lists_are_exact =
@@ -121,11 +101,6 @@ first x xs = contains_from (x ∷ xs) x (inl refl)
 
 nobody : (xs : List Process) (s : Process) → xs ≡ [] → Contains xs s → ⊥
 nobody xs s e h = in_from [] s (subst (λ l. Contains l s) e h)
-
-cut_parts : (ss us : List Process) (v : Cut) → cut_if ss us ≡ Some v → (ss ≡ v) × (us ≡ []) × (v ≡ [] → ⊥)
-cut_parts [] us v e = cc
-cut_parts (x ∷ xs) [] v e = let same : x ∷ xs ≡ v = cc in (same, refl, λ none. let wrong : x ∷ xs ≡ [] = same ∙ none in cc)
-cut_parts (x ∷ xs) (u ∷ us) v e = cc
 
 is_cut : (ss us : List Process) (v : Cut) → ss ≡ v → us ≡ [] → (v ≡ [] → ⊥) → cut_if ss us ≡ Some v
 is_cut [] us v e n some = absurd (some (sym e))

@@ -16,7 +16,7 @@ use Rattle.rapid_cut.specs.Growing.{is_for, PutsMask, AddsRings, TakesOut, is_ad
 use Rattle.rapid_alerts.specs.RingMasks.{has_ring}
 use Rattle.rapid_alerts.proofs.RingMasks.{no_ring}
 use Rattle.rapid_cut.proofs.Masks.{count_same}
-use Rattle.rapid_cut.proofs.Closing.{both, and_true, or_left, or_right}
+use Rattle.std.proofs.lemmas.Bool.{and_parts, and_from, or_left, or_right}
 
 or_false : (b : Bool) → (b || false) ≡ b
 or_false true = refl
@@ -27,11 +27,11 @@ contains_before part r xs q =
     set.contains-retain r (λ x. not (is_added part xs x)) q (λ x e. ap (λ y. not (is_added part xs y)) (sym (reports_exact q x e)))
 
 without_none : (part : Masks → ℕ) (r : Reports) → without_added part r [] ≡ r
-without_none part r = set.same_set reports_total reports_exact _ _ (λ q. contains_before part r [] q ∙ and_true (set.contains r q))
+without_none part r = set.same_set reports_total reports_exact _ _ (λ q. contains_before part r [] q ∙ and_from (set.contains r q))
   where
-    and_true : (b : Bool) → (b && true) ≡ b
-    and_true true = refl
-    and_true false = refl
+    and_from : (b : Bool) → (b && true) ≡ b
+    and_from true = refl
+    and_from false = refl
 
 pub all_none : (r : Known) (xs : List Added) → xs ≡ [] → without_all r xs ≡ r
 all_none r xs e = ap (without_all r) e ∙ (λ i. record { direct = without_none (λ m. m.direct) r.direct i; all = without_none (λ m. m.all) r.all i })
@@ -161,9 +161,9 @@ is_this x s k =
     both_ways _ _
     (λ h.
     let e = (tie_decides reports_total reports_exact x (s, k)).0 h in
-    and_true _ _ ((same_bytes_decides s x.0).1 (sym (ap (λ (y : Report). y.0) e))) (eq-eqb x.1 k (ap (λ (y : Report). y.1) e)))
+    and_from _ _ ((same_bytes_decides s x.0).1 (sym (ap (λ (y : Report). y.0) e))) (eq-eqb x.1 k (ap (λ (y : Report). y.1) e)))
     (λ h.
-    let p = both (same_bytes s x.0) (x.1 == k) h in
+    let p = and_parts (same_bytes s x.0) (x.1 == k) h in
     let a : s ≡ x.0 = (same_bytes_decides s x.0).0 p.0 in
     let b : x.1 ≡ k = (let q = p.1 in grind (arith, q)) in
     (tie_decides reports_total reports_exact x (s, k)).1 (λ i. (sym a i, b i)))

@@ -9,11 +9,9 @@ use Rattle.rapid_model.specs.Reports.{Reports, subjects}
 use Rattle.rapid_model.specs.InOrder.{in_order}
 use Rattle.rapid_model.proofs.Orders.{processes_total, processes_exact, same_bytes_decides}
 use Rattle.rapid_model.proofs.InOrder.{any_in_order, sorted_in_order, same_sorted}
-use Rattle.rapid_cut.proofs.Joiners.{in_filter, sorted_subjects}
-
-or_twice : (a r : Bool) → (a || r) ≡ (a || (a || r))
-or_twice true r = refl
-or_twice false r = refl
+use Rattle.rapid_cut.proofs.Joiners.{sorted_subjects}
+use Rattle.rapid_model.proofs.Logic.{or_twice}
+use Rattle.rapid_model.proofs.Among.{filter_among}
 
 any_dedup_from : (k : Process) (xs : List Process) (q : Process) → is_in (dedup_from same_bytes k xs) q ≡ (same_bytes q k || is_in xs q)
 any_dedup_from k [] q = refl
@@ -37,4 +35,4 @@ put_in_order xs sorted found moved up e =
 pub ordered_subjects : (r : Reports) (p : Process → Bool) (found : List Process) → ((q : Process) → is_in found q ≡ (is_in (subjects r) q && p q)) → in_order process_cmp found ≡ filter p (subjects r)
 ordered_subjects r p found h =
     same_sorted process_cmp processes_total processes_exact _ _ (sorted_in_order process_cmp processes_total found) (IsStrictlySortedBy-filter process_cmp p (subjects r) (sorted_subjects r))
-    (λ q. any_in_order process_cmp processes_total found q ∙ h q ∙ sym (in_filter p (subjects r) q))
+    (λ q. any_in_order process_cmp processes_total found q ∙ h q ∙ sym (filter_among p (subjects r) q))

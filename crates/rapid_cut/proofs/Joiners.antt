@@ -16,18 +16,8 @@ use Rattle.rapid_model.specs.Detector.{joiners, is_taken}
 use Rattle.rapid_model.proofs.Orders.{reports_total, reports_exact, processes_total, processes_exact, tie_decides, same_bytes_decides}
 use Rattle.rapid_model.proofs.InOrder.{any_insert, sorted_in_order, same_sorted, sorted_insert}
 use Rattle.rapid_cut.proofs.Sets.{subject_of, report_on}
-
-or_split : (a b : Bool) → (a || b) ≡ true → (a ≡ true) ⊎ (b ≡ true)
-or_split true b h = inl refl
-or_split false b h = inr h
-
-or_left : (a b : Bool) → a ≡ true → (a || b) ≡ true
-or_left true b h = refl
-or_left false b h = cc
-
-or_right : (a b : Bool) → b ≡ true → (a || b) ≡ true
-or_right true b h = refl
-or_right false b h = h
+use Rattle.rapid_model.proofs.Among.{filter_among}
+use Rattle.std.proofs.lemmas.Bool.{or_cases, or_left, or_right}
 
 pub sorted_subjects : (r : Reports) → IsStrictlySortedBy process_cmp (subjects r)
 unfolding subjects
@@ -39,11 +29,11 @@ in_subjects_more r x q =
     both_ways _ _
     (λ h.
     let k = report_on (set.insert r x) q h in
-    elim (or_split (eq_by_cmp report_cmp (q, k.0) x) (set.contains r (q, k.0)) (sym (set.contains-insert reports_total r x (q, k.0)) ∙ k.1)) [
+    elim (or_cases (eq_by_cmp report_cmp (q, k.0) x) (set.contains r (q, k.0)) (sym (set.contains-insert reports_total r x (q, k.0)) ∙ k.1)) [
       | inl e ↦ or_left _ _ ((same_bytes_decides q x.0).1 (ap (λ (z : Report). z.0) ((tie_decides reports_total reports_exact (q, k.0) x).0 e)))
       | inr old ↦ or_right _ _ (subject_of r (q, k.0) old)
     ])
-    (λ h. elim (or_split (same_bytes q x.0) (is_in (subjects r) q) h) [
+    (λ h. elim (or_cases (same_bytes q x.0) (is_in (subjects r) q) h) [
       | inl e ↦ subst (λ p. is_in (subjects (set.insert r x)) p ≡ true) (sym ((same_bytes_decides q x.0).0 e)) (subject_of (set.insert r x) x (set.contains-insert reports_total r x x ∙ or_left _ _ ((tie_decides reports_total reports_exact x x).1 refl)))
       | inr old ↦ (
           let k = report_on r q old in
@@ -57,9 +47,6 @@ subjects_more r x =
     (λ q. in_subjects_more r x q ∙ sym (any_insert process_cmp processes_total (subjects r) x.0 q))
 
 -- ---- a filter of a sorted list
-
-pub in_filter : (p : Process → Bool) (xs : List Process) (q : Process) → is_in (filter p xs) q ≡ (is_in xs q && p q)
-in_filter p xs q = is_member-filter (eq_by_cmp_equiv processes_total) p q (λ x e. ap p ((same_bytes_decides q x).0 e)) xs
 
 and_or : (a b c : Bool) → ((a || b) && c) ≡ ((a && c) || (b && c))
 and_or true true true = refl
@@ -85,9 +72,9 @@ and_false false = refl
 
 in_filter_insert : (p : Process → Bool) (xs : List Process) (k q : Process) → is_in (filter p (insert_key process_cmp xs k)) q ≡ ((same_bytes q k && p k) || is_in (filter p xs) q)
 in_filter_insert p xs k q =
-    in_filter p (insert_key process_cmp xs k) q ∙ ap (λ b. b && p q) (any_insert process_cmp processes_total xs k q)
+    filter_among p (insert_key process_cmp xs k) q ∙ ap (λ b. b && p q) (any_insert process_cmp processes_total xs k q)
     ∙ and_or (same_bytes q k) (is_in xs q) (p q) ∙ ap (λ b. b || (is_in xs q && p q)) (at_key p q k)
-    ∙ ap (λ b. (same_bytes q k && p k) || b) (sym (in_filter p xs q))
+    ∙ ap (λ b. (same_bytes q k && p k) || b) (sym (filter_among p xs q))
 
 pub filter_insert : (p : Process → Bool) (xs : List Process) (k : Process) → p k ≡ true → IsStrictlySortedBy process_cmp xs → filter p (insert_key process_cmp xs k) ≡ insert_key process_cmp (filter p xs) k
 filter_insert p xs k h s =
@@ -142,7 +129,7 @@ sorted_joiners t r = IsStrictlySortedBy-filter process_cmp (is_joiner t) (subjec
 -- ---- how many joiners there are
 
 pub on_joiner : (t : Observers) (r : Reports) (s : Process) → t.is_member s ≡ false → is_in (joiners t r) s ≡ is_in (subjects r) s
-on_joiner t r s h = in_filter (is_joiner t) (subjects r) s ∙ ap (λ b. is_in (subjects r) s && not b) h ∙ and_true (is_in (subjects r) s)
+on_joiner t r s h = filter_among (is_joiner t) (subjects r) s ∙ ap (λ b. is_in (subjects r) s && not b) h ∙ and_true (is_in (subjects r) s)
 
 -- whether it is a member or reported on is whether it is a member or a joiner that is
 pub known_alike : (t : Observers) (r : Reports) (s : Process) (b : Bool) → (t.is_member s || is_in (subjects r) s || b) ≡ (t.is_member s || is_in (joiners t r) s || b)

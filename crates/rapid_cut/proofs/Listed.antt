@@ -7,10 +7,7 @@ use Rattle.rapid_model.specs.Process.{Process, same_bytes}
 use Rattle.rapid_model.proofs.Orders.{same_bytes_decides}
 use Rattle.rapid_cut.specs.declared.mask.Masks.{Masks}
 use Rattle.rapid_cut.specs.Listed.{masks_at, StandsAt}
-
--- either way round
-turned : (p q : Process) → same_bytes p q ≡ same_bytes q p
-turned p q = (eq_by_cmp_equiv nat_list_cmp_total).symm p q
+use Rattle.rapid_model.proofs.Among.{same_turned}
 
 -- the masks of the first list, or those of the second
 abbrev pub first_of : Option Masks → Option Masks → Option Masks
@@ -57,7 +54,7 @@ set_from : (es : List (Process × Masks)) (s : Process) (place : ℕ) (d : Proce
     → (q : Process) → masks_at (set es place ((get_or es place d).0, m)) q ≡ cond (same_bytes s q) (Some m) (masks_at es q)
 set_from [] s place d m l k f q = absurd (omega (arith, l))
 set_from (e ∷ es) s zero d m l k f q =
-    here (same_bytes q e.0) (same_bytes s q) (turned q e.0 ∙ ap (λ p. same_bytes p q) k)
+    here (same_bytes q e.0) (same_bytes s q) (same_turned q e.0 ∙ ap (λ p. same_bytes p q) k)
   where
     here : (a b : Bool) → a ≡ b → cond a (Some m) (masks_at es q) ≡ cond b (Some m) (cond a (Some e.1) (masks_at es q))
     here true true h = refl
@@ -105,7 +102,7 @@ module _ (es : List (Process × Masks)) (s : Process) where
       inside (Some n) true h = (let no : Some n ≡ None = h refl in cc)
 
   one_more : (m : Masks) (ys : List (Process × Masks)) (q : Process) → masks_at ((s, m) ∷ ys) q ≡ cond (same_bytes s q) (Some m) (masks_at ys q)
-  one_more m ys q = ap (λ b. cond b (Some m) (masks_at ys q)) (turned q s)
+  one_more m ys q = ap (λ b. cond b (Some m) (masks_at ys q)) (same_turned q s)
 
   pub pushed : (m : Masks) (ys : List (Process × Masks)) → masks_at es s ≡ None → (q : Process) → masks_at (es ++ (s, m) ∷ ys) q ≡ cond (same_bytes s q) (Some m) (masks_at (es ++ ys) q)
   pushed m ys none = behind m ys ((s, m) ∷ ys) none (one_more m ys)

@@ -7,7 +7,7 @@ use Rattle.std.specs.Cmp.{both_ways, eq_by_cmp_equiv}
 use Rattle.std.specs.FinSet as set
 use Rattle.std.specs.Map.{keys_of, lookup}
 use Rattle.std.specs.BTreeMap.{is_at}
-use Rattle.std.proofs.lemmas.Bool.{cases_eq}
+use Rattle.std.proofs.lemmas.Bool.{cases_eq, and_parts, or_cases, or_left, or_right}
 use Rattle.std.proofs.lemmas.Map.Made.{is_member-filter, lookup-map_values}
 use Rattle.std.proofs.lemmas.Nat.Bits.{bit_at_and, bit_at_not, bit_at-lt}
 use Rattle.rapid_model.specs.Process.{Process, process_cmp, is_in, same_bytes}
@@ -15,11 +15,11 @@ use Rattle.rapid_model.specs.Reports.{Report, report_cmp, Reports, subjects}
 use Rattle.rapid_model.proofs.Orders.{reports_total, reports_exact, tie_decides, same_bytes_decides}
 use Rattle.rapid_cut.specs.declared.mask.Masks.{Masks}
 use Rattle.rapid_alerts.specs.RingMasks.{has_ring, with_rings}
-use Rattle.rapid_alerts.proofs.RingMasks.{and_is, no_both, no_ring, below, one_bit, on_these, found_in}
+use Rattle.rapid_alerts.proofs.RingMasks.{no_both, no_ring, below, one_bit, on_these, found_in}
 use Rattle.rapid_cut.specs.Masks.{mask_of, is_reported, reports_in}
 use Rattle.rapid_cut.specs.Growing.{PutsMask, TakesOut}
 use Rattle.rapid_cut.proofs.Sets.{subject_of, report_on}
-use Rattle.rapid_cut.proofs.Closing.{both, or_split, or_left, or_right}
+use Rattle.rapid_model.proofs.Logic.{and_is}
 
 -- ---- which reports there are
 
@@ -36,7 +36,7 @@ unfolding reports_in
 seen es x =
     set.contains-from_list reports_total (filter (is_reported es) (with_rings (keys_of es))) x
     ∙ is_member-filter (eq_by_cmp_equiv reports_total) (is_reported es) x (λ y e. ap (is_reported es) ((tie_decides reports_total reports_exact x y).0 e)) (with_rings (keys_of es))
-    ∙ and_is _ _ (λ h. on_these (keys_of es) x.0 x.1 (key_of es x h) (below x.1 (both (nat_lt x.1 16) (bit_at (mask_of es x.0) x.1 == 1) h).0))
+    ∙ and_is _ _ (λ h. on_these (keys_of es) x.0 x.1 (key_of es x h) (below x.1 (and_parts (nat_lt x.1 16) (bit_at (mask_of es x.0) x.1 == 1) h).0))
 
 pub none_in : reports_in [] ≡ set.empty
 none_in = set.same_set reports_total reports_exact _ _ (λ x. seen [] x ∙ no_ring x.1 ∙ sym (set.contains-empty report_cmp x))
@@ -54,11 +54,11 @@ pub on_any : (r : Reports) (q : Process) (mask : ℕ) → ((k : ℕ) → set.con
 on_any r q mask at =
     both_ways _ _
     (λ h. let o = one_of (range_with_len 0 16) h in subject_of r (q, o.0) (at o.0 ∙ o.1))
-    (λ h. let o = report_on r q h in let b = sym (at o.0) ∙ o.1 in among mask o.0 16 0 (omega arith) (let l = below o.0 (both (nat_lt o.0 16) (bit_at mask o.0 == 1) b).0 in omega (arith, l)) b)
+    (λ h. let o = report_on r q h in let b = sym (at o.0) ∙ o.1 in among mask o.0 16 0 (omega arith) (let l = below o.0 (and_parts (nat_lt o.0 16) (bit_at mask o.0 == 1) b).0 in omega (arith, l)) b)
   where
     one_of : (ks : List ℕ) → list_any (has_ring mask) ks ≡ true → (k : ℕ) × (has_ring mask k ≡ true)
     one_of [] h = cc
-    one_of (k ∷ ks) h = elim (or_split (has_ring mask k) (list_any (has_ring mask) ks) h) [ inl here ↦ (k, here) | inr later ↦ one_of ks later ]
+    one_of (k ∷ ks) h = elim (or_cases (has_ring mask k) (list_any (has_ring mask) ks) h) [ inl here ↦ (k, here) | inr later ↦ one_of ks later ]
 
 -- ---- the rings of a mask without those of another
 

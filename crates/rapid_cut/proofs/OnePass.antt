@@ -11,7 +11,8 @@ use Rattle.rapid_model.specs.Reports.{Report, report_cmp, Reports, tally, reache
 use Rattle.rapid_model.proofs.Orders.{reports_total, reports_exact, tie_decides}
 use Rattle.rapid_model.proofs.Closure.{count_mono, implied_mono, in_all, reports_least}
 use Rattle.rapid_cut.proofs.Sets.{subject_of}
-use Rattle.rapid_cut.proofs.Closing.{both, and_true, or_split, or_left, or_right, ring_below, on_low, least_is_one}
+use Rattle.rapid_cut.proofs.Closing.{ring_below, on_low, least_is_one}
+use Rattle.std.proofs.lemmas.Bool.{and_parts, and_from, or_cases, or_left, or_right}
 
 module _ (t : Observers) (direct : Reports) where
   -- the direct reports and what they imply
@@ -41,11 +42,11 @@ module _ (t : Observers) (direct : Reports) where
     -- a process without L direct reports has no other report
     not_more : (s : Process) → nat_le t.params.l (tally t direct s) ≡ false → (k : ℕ) → set.contains once (s, k) ≡ true → set.contains direct (s, k) ≡ true
     not_more s few k h =
-        elim (or_split (set.contains direct (s, k)) (is_implied t direct (s, k)) (sym (once_has (s, k)) ∙ h)) [
+        elim (or_cases (set.contains direct (s, k)) (is_implied t direct (s, k)) (sym (once_has (s, k)) ∙ h)) [
           | inl there ↦ there
           | inr new ↦ (
-              let a = both (nat_lt k t.params.k && nat_le t.params.l (tally t direct s)) (reaches_low t direct (t.observer k s)) new in
-              let b = both (nat_lt k t.params.k) (nat_le t.params.l (tally t direct s)) a.0 in
+              let a = and_parts (nat_lt k t.params.k && nat_le t.params.l (tally t direct s)) (reaches_low t direct (t.observer k s)) new in
+              let b = and_parts (nat_lt k t.params.k) (nat_le t.params.l (tally t direct s)) a.0 in
               absurd (no_both _ b.1 few)
               )
         ]
@@ -66,9 +67,9 @@ module _ (t : Observers) (direct : Reports) where
 
     implied_already : (x : Report) → is_implied t once x ≡ true → is_implied t direct x ≡ true
     implied_already x h =
-        let a = both (nat_lt x.1 t.params.k && reaches_low t once (Some x.0)) (reaches_low t once (t.observer x.1 x.0)) h in
-        let b = both (nat_lt x.1 t.params.k) (reaches_low t once (Some x.0)) a.0 in
-        and_true _ _ (and_true _ _ b.0 (low_already (Some x.0) b.1)) (low_already (t.observer x.1 x.0) a.1)
+        let a = and_parts (nat_lt x.1 t.params.k && reaches_low t once (Some x.0)) (reaches_low t once (t.observer x.1 x.0)) h in
+        let b = and_parts (nat_lt x.1 t.params.k) (reaches_low t once (Some x.0)) a.0 in
+        and_from _ _ (and_from _ _ b.0 (low_already (Some x.0) b.1)) (low_already (t.observer x.1 x.0) a.1)
 
     once_least : IsLeastClosed t direct once
     once_least =
@@ -76,7 +77,7 @@ module _ (t : Observers) (direct : Reports) where
           includes = λ x h. once_has x ∙ or_left _ _ h;
           closed = λ x h. once_has x ∙ or_right _ _ (implied_already x h);
           least = λ q inc closed x h.
-              elim (or_split (set.contains direct x) (is_implied t direct x) (sym (once_has x) ∙ h)) [
+              elim (or_cases (set.contains direct x) (is_implied t direct x) (sym (once_has x) ∙ h)) [
                 | inl there ↦ inc x there
                 | inr new ↦ closed x (implied_mono t direct q x inc new)
               ];

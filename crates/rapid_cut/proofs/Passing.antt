@@ -2,7 +2,7 @@
 use Rattle.std.proofs.Common.{◌≡◌, ℕ, ◌+◌, ◌≤◌, ◌<◌, Bool, true, false, not, ◌==◌, ◌&&◌, ◌||◌, List, [], ◌∷◌, ◌++◌, length, take, drop, get_or, filter, zero, suc, add-one, refl, sym, ap, subst, ◌∙◌, Option, Some, None, inl, inr, nat_lt, arith, eq-eqb, ne_eqb}
 use Rattle.std.specs.Cmp.{both_ways}
 use Rattle.std.specs.FinSet as set
-use Rattle.std.proofs.lemmas.Bool.{cases_eq}
+use Rattle.std.proofs.lemmas.Bool.{cases_eq, and_parts, and_from, or_cases, or_left, or_right}
 use Rattle.std.proofs.lemmas.List.{take_more}
 use Rattle.std.proofs.lemmas.List.Folds.{list_any-append}
 use Rattle.rapid_model.specs.Process.{Process, is_in, same_bytes}
@@ -15,10 +15,10 @@ use Rattle.rapid_alerts.specs.RingMasks.{has_ring}
 use Rattle.rapid_cut.specs.Growing.{is_for, AddsRings}
 use Rattle.rapid_alerts.proofs.RingMasks.{no_ring}
 use Rattle.rapid_cut.proofs.Sets.{subject_of}
-use Rattle.rapid_cut.proofs.Closing.{both, and_true, or_split, or_left, or_right, ring_below, on_low}
+use Rattle.rapid_cut.proofs.Closing.{ring_below, on_low}
 use Rattle.rapid_cut.proofs.Active.{low_active}
-use Rattle.rapid_cut.proofs.Joiners.{in_filter}
 use Rattle.rapid_cut.proofs.OnePass.{one_pass}
+use Rattle.rapid_model.proofs.Among.{filter_among}
 
 -- ---- the rings of one process
 
@@ -71,23 +71,23 @@ missing_more t direct s mask n rings more b e is h k =
     or_false true = refl
     or_false false = refl
 
-    and_true : (b : Bool) → (b && true) ≡ b
-    and_true true = refl
-    and_true false = refl
+    and_from : (b : Bool) → (b && true) ≡ b
+    and_from true = refl
+    and_from false = refl
 
     and_false : (b : Bool) → (b && false) ≡ false
     and_false true = refl
     and_false false = refl
 
     here : (a b c m : Bool) → a ≡ false → b ≡ true → c ≡ true → ((a && m) || (m && b)) ≡ (c && m)
-    here a b c m e f g = ap (λ x. (x && m) || (m && b)) e ∙ ap (λ x. m && x) f ∙ and_true m ∙ sym (ap (λ x. x && m) g)
+    here a b c m e f g = ap (λ x. (x && m) || (m && b)) e ∙ ap (λ x. m && x) f ∙ and_from m ∙ sym (ap (λ x. x && m) g)
 
     there : (a b c m o : Bool) → b ≡ false → a ≡ c → ((a && m) || (o && b)) ≡ (c && m)
     there a b c m o e f = ap (λ x. (a && m) || (o && x)) e ∙ ap (λ x. (a && m) || x) (and_false o) ∙ or_false (a && m) ∙ ap (λ x. x && m) f
 
 pub missing_all : (t : Observers) (direct : Reports) (s : Process) (mask n rings : ℕ) → t.params.k ≤ n → AreMissing t direct s mask n rings → (k : ℕ) → has_ring rings k ≡ is_missing t direct s mask k
 missing_all t direct s mask n rings done h k =
-    h k ∙ and_is (nat_lt k n) (is_missing t direct s mask k) (λ m. less k n (let l = ring_below t direct (s, k) (both (not (has_ring mask k)) (is_implied t direct (s, k)) m).1 in omega (arith, l, done)))
+    h k ∙ and_is (nat_lt k n) (is_missing t direct s mask k) (λ m. less k n (let l = ring_below t direct (s, k) (and_parts (not (has_ring mask k)) (is_implied t direct (s, k)) m).1 in omega (arith, l, done)))
   where
     less : (m k : ℕ) → m < k → nat_lt m k ≡ true
     less m k h = grind (arith, h)
@@ -104,10 +104,10 @@ adds_implied t direct s old new mask rings at is adds =
     record {
       includes = λ x h. adds x ∙ or_right _ _ h;
       implied = λ x h.
-          elim (or_split (is_for s rings x) (set.contains old x) (sym (adds x) ∙ h)) [
+          elim (or_cases (is_for s rings x) (set.contains old x) (sym (adds x) ∙ h)) [
             | inl came ↦ (
-                let p = both (same_bytes s x.0) (has_ring rings x.1) came in
-                let q = both (not (has_ring mask x.1)) (is_implied t direct (s, x.1)) (sym (is x.1) ∙ p.1) in
+                let p = and_parts (same_bytes s x.0) (has_ring rings x.1) came in
+                let q = and_parts (not (has_ring mask x.1)) (is_implied t direct (s, x.1)) (sym (is x.1) ∙ p.1) in
                 inr (subst (λ o. is_implied t direct (o, x.1) ≡ true) ((same_bytes_decides s x.0).0 p.0) q.1)
                 )
             | inr there ↦ inl there
@@ -133,16 +133,16 @@ single (x ∷ []) p q one h i = (same_bytes_decides p x).0 (sym (or_false (same_
 single (x ∷ y ∷ ys) p q one h i = absurd (omega (arith, one))
 
 kept : (p : Process → Bool) (ss : List Process) (s : Process) → is_in ss s ≡ true → p s ≡ true → is_in (filter p ss) s ≡ true
-kept p ss s h k = in_filter p ss s ∙ and_true _ _ h k
+kept p ss s h k = filter_among p ss s ∙ and_from _ _ h k
 
 pub passing_none : (t : Observers) (direct all : Reports) (left : List Process) → AreObservers t → left ≡ active t direct → IsBetween t direct all → IsPassing t direct left all
 passing_none t direct all left obs l b =
     subst (λ ss. IsPassing t direct ss all) (sym l) (record {
       between = b;
-      low = λ s h. (both (is_in (subjects direct) s) (reaches_low t direct (Some s)) (sym (in_filter (λ q. reaches_low t direct (Some q)) (subjects direct) s) ∙ h)).1;
+      low = λ s h. (and_parts (is_in (subjects direct) s) (reaches_low t direct (Some s)) (sym (filter_among (λ q. reaches_low t direct (Some q)) (subjects direct) s) ∙ h)).1;
       rest = λ x h.
-          let a = both (nat_lt x.1 t.params.k && reaches_low t direct (Some x.0)) (reaches_low t direct (t.observer x.1 x.0)) h in
-          let low = (both (nat_lt x.1 t.params.k) (reaches_low t direct (Some x.0)) a.0).1 in
+          let a = and_parts (nat_lt x.1 t.params.k && reaches_low t direct (Some x.0)) (reaches_low t direct (t.observer x.1 x.0)) h in
+          let low = (and_parts (nat_lt x.1 t.params.k) (reaches_low t direct (Some x.0)) a.0).1 in
           inr (kept (λ s. reaches_low t direct (Some s)) (subjects direct) x.0 (on_low t (subjects direct) direct x obs.params.some (λ y k. subject_of direct y k) h) low);
     })
 
@@ -170,8 +170,8 @@ passing_alone t direct all ps obs l one none b =
       between = b;
       low = λ s h. cc;
       rest = λ x h.
-          let a = both (nat_lt x.1 t.params.k && reaches_low t direct (Some x.0)) (reaches_low t direct (t.observer x.1 x.0)) h in
-          let low = (both (nat_lt x.1 t.params.k) (reaches_low t direct (Some x.0)) a.0).1 in
+          let a = and_parts (nat_lt x.1 t.params.k && reaches_low t direct (Some x.0)) (reaches_low t direct (t.observer x.1 x.0)) h in
+          let low = (and_parts (nat_lt x.1 t.params.k) (reaches_low t direct (Some x.0)) a.0).1 in
           absurd (alone x.1 x.0 (t.observer x.1 x.0) refl low a.1);
     }
   where
@@ -186,7 +186,7 @@ passing_alone t direct all ps obs l one none b =
 pub nobody_more : (t : Observers) (ps : List Process) (i : ℕ) (p : Process) → i < length ps → p ≡ get_or ps i p → ObservesNobody t p → ((o : Process) → is_in (take i ps) o ≡ true → ObservesNobody t o)
     → (o : Process) → is_in (take (i + 1) ps) o ≡ true → ObservesNobody t o
 nobody_more t ps i p below e here before o h =
-    elim (or_split (is_in (take i ps) o) (is_in (p ∷ []) o) (sym (ap (λ xs. is_in xs o) (take_more ps i p below ∙ ap (λ q. take i ps ++ q ∷ []) (sym e)) ∙ list_any-append (same_bytes o) (take i ps) (p ∷ [])) ∙ h)) [
+    elim (or_cases (is_in (take i ps) o) (is_in (p ∷ []) o) (sym (ap (λ xs. is_in xs o) (take_more ps i p below ∙ ap (λ q. take i ps ++ q ∷ []) (sym e)) ∙ list_any-append (same_bytes o) (take i ps) (p ∷ [])) ∙ h)) [
       | inl was ↦ before o was
       | inr now ↦ subst (ObservesNobody t) (sym ((same_bytes_decides o p).0 (sym (or_false (same_bytes o p)) ∙ now))) here
     ]
@@ -209,7 +209,7 @@ passing_one t direct all more left rest s e a p =
       rest = λ x h.
           elim (p.rest x h) [
             | inl there ↦ inl (a.includes x there)
-            | inr l ↦ elim (or_split (same_bytes x.0 s) (is_in rest x.0) (subst (λ ss. is_in ss x.0 ≡ true) e l)) [
+            | inr l ↦ elim (or_cases (same_bytes x.0 s) (is_in rest x.0) (subst (λ ss. is_in ss x.0 ≡ true) e l)) [
               | inl at ↦ inl (here x ((same_bytes_decides x.0 s).0 at) h)
               | inr later ↦ inr later
             ]
@@ -226,7 +226,7 @@ passing_all t direct all left obs e p =
     both_ways _ _
     (λ h. one_pass t direct x obs ∙ elim (p.between.implied x h) [ inl old ↦ or_left _ _ old | inr new ↦ or_right _ _ new ])
     (λ h.
-    elim (or_split (set.contains direct x) (is_implied t direct x) (sym (one_pass t direct x obs) ∙ h)) [
+    elim (or_cases (set.contains direct x) (is_implied t direct x) (sym (one_pass t direct x obs) ∙ h)) [
       | inl old ↦ p.between.includes x old
       | inr new ↦ elim (p.rest x new) [ inl there ↦ there | inr l ↦ (let no : false ≡ true = subst (λ ss. is_in ss x.0 ≡ true) e l in cc) ]
     ]))

@@ -12,18 +12,7 @@ use Rattle.rapid_model.specs.Ring.{Observers}
 use Rattle.rapid_cut.specs.Laws.{taken_in_turn, after_batches}
 use Rattle.rapid_model.proofs.Lists.{In, in_from, contains_from}
 use Rattle.rapid_model.proofs.Orders.{reports_total, reports_exact, tie_decides}
-
-or_split : (a b : Bool) → (a || b) ≡ true → (a ≡ true) ⊎ (b ≡ true)
-or_split true b h = inl refl
-or_split false b h = inr h
-
-or_left : (a b : Bool) → a ≡ true → (a || b) ≡ true
-or_left true b h = refl
-or_left false b h = cc
-
-or_right : (a b : Bool) → b ≡ true → (a || b) ≡ true
-or_right true b h = refl
-or_right false b h = h
+use Rattle.std.proofs.lemmas.Bool.{or_cases, or_left, or_right}
 
 abbrev reports_on : List Alert → Report → Bool
 reports_on xs x = list_any (eq_by_cmp report_cmp x) (map report_of xs)
@@ -31,7 +20,7 @@ reports_on xs x = list_any (eq_by_cmp report_cmp x) (map report_of xs)
 by_one : (xs : List Alert) (x : Report) → reports_on xs x ≡ true → (a : Alert) × In xs a × (x ≡ report_of a)
 by_one [] x h = cc
 by_one (a ∷ xs) x h =
-    elim (or_split (eq_by_cmp report_cmp x (report_of a)) (reports_on xs x) h) [
+    elim (or_cases (eq_by_cmp report_cmp x (report_of a)) (reports_on xs x) h) [
       | inl e ↦ (a, inl refl, (tie_decides reports_total reports_exact x (report_of a)).0 e)
       | inr later ↦ (let r = by_one xs x later in (r.0, inr r.1, r.2))
     ]

@@ -10,6 +10,7 @@ use Rattle.rapid_model.specs.Process.{Process, process_cmp, is_in, same_bytes}
 use Rattle.rapid_model.specs.Reports.{Report, report_cmp, Reports, subjects}
 use Rattle.rapid_model.proofs.Orders.{reports_total, reports_exact, processes_total, processes_exact, tie_decides, same_bytes_decides}
 use Rattle.rapid_model.proofs.InOrder.{any_insert, any_in_order, sorted_in_order, same_sorted, sorted_insert}
+use Rattle.std.proofs.lemmas.Bool.{or_cases, or_left, or_right}
 
 pub contains_keys : (ks : List Report) (x : Report) → list_any (eq_by_cmp report_cmp x) ks ≡ set.contains (set.from_list {R = report_cmp} ks) x
 contains_keys ks x = sym (set.contains-from_list reports_total ks x)
@@ -55,23 +56,11 @@ or_false : (b : Bool) → (b || false) ≡ b
 or_false true = refl
 or_false false = refl
 
-or_split : (a b : Bool) → (a || b) ≡ true → (a ≡ true) ⊎ (b ≡ true)
-or_split true b h = inl refl
-or_split false b h = inr h
-
-or_left : (a b : Bool) → a ≡ true → (a || b) ≡ true
-or_left true b h = refl
-or_left false b h = cc
-
-or_right : (a b : Bool) → b ≡ true → (a || b) ≡ true
-or_right true b h = refl
-or_right false b h = h
-
 -- a process is among the subjects exactly if some report is on it
 pub on_one : (xs : List Report) (x : Report) → list_any (eq_by_cmp report_cmp x) xs ≡ true → is_in (on_of xs) x.0 ≡ true
 on_one [] x h = h
 on_one (y ∷ ys) x h =
-    elim (or_split (eq_by_cmp report_cmp x y) _ h) [
+    elim (or_cases (eq_by_cmp report_cmp x y) _ h) [
       | inl e ↦ or_left _ _ ((same_bytes_decides x.0 y.0).1 (ap (λ (z : Report). z.0) ((tie_decides reports_total reports_exact x y).0 e)))
       | inr later ↦ or_right _ _ (on_one ys x later)
     ]
@@ -79,7 +68,7 @@ on_one (y ∷ ys) x h =
 pub one_on : (xs : List Report) (q : Process) → is_in (on_of xs) q ≡ true → (k : ℕ) × (list_any (eq_by_cmp report_cmp (q, k)) xs ≡ true)
 one_on [] q h = (0, h)
 one_on (y ∷ ys) q h =
-    elim (or_split (same_bytes q y.0) _ h) [
+    elim (or_cases (same_bytes q y.0) _ h) [
       | inl e ↦ (
         y.1,
         or_left _ _ ((tie_decides reports_total reports_exact (q, y.1) y).1 (ap (λ (p : Process). let x : Report = (p, y.1) in x) ((same_bytes_decides q y.0).0 e))),

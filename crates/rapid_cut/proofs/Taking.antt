@@ -13,14 +13,7 @@ use Rattle.rapid_model.proofs.Orders.{reports_total, reports_exact, tie_decides,
 use Rattle.rapid_cut.specs.Limits.{IsWithinLimits}
 use Rattle.rapid_cut.proofs.Sets.{subject_of}
 use Rattle.rapid_cut.proofs.Joiners.{in_subjects_more, joiners_more, joiners_same, length_insert, insert_again, sorted_joiners, known_alike}
-
-both : (a b : Bool) → (a && b) ≡ true → (a ≡ true) × (b ≡ true)
-both true b h = (refl, h)
-both false b h = cc
-
-or_split : (a b : Bool) → (a || b) ≡ true → (a ≡ true) ⊎ (b ≡ true)
-or_split true b h = inl refl
-or_split false b h = inr h
+use Rattle.std.proofs.lemmas.Bool.{and_parts, or_cases}
 
 or_false : (b : Bool) → (b || false) ≡ b
 or_false true = refl
@@ -54,9 +47,9 @@ with_more r a xs =
 
 is_observed : (t : Observers) (a : Alert) → is_well_formed t a ≡ true → IsObserved t a.subject
 is_observed t a h =
-    let p = both (nat_lt a.ring t.params.k && observes t a.observer a.ring a.subject && same_bytes a.config t.id) (kind_fits t a) h in
-    let q = both (nat_lt a.ring t.params.k && observes t a.observer a.ring a.subject) (same_bytes a.config t.id) p.0 in
-    let r = both (nat_lt a.ring t.params.k) (observes t a.observer a.ring a.subject) q.0 in
+    let p = and_parts (nat_lt a.ring t.params.k && observes t a.observer a.ring a.subject && same_bytes a.config t.id) (kind_fits t a) h in
+    let q = and_parts (nat_lt a.ring t.params.k && observes t a.observer a.ring a.subject) (same_bytes a.config t.id) p.0 in
+    let r = and_parts (nat_lt a.ring t.params.k) (observes t a.observer a.ring a.subject) q.0 in
     (a.ring, some (t.observer a.ring a.subject) r.1)
   where
     some : (o : Option Process) → option_eq same_bytes o (Some a.observer) ≡ true → IsSome o
@@ -65,11 +58,11 @@ is_observed t a h =
 
 few_joiners : (t : Observers) (r : Reports) (a : Alert) → is_taken t r a ≡ true → length (joiners t r) ≤ 512 → length (joiners t (set.insert r (report_of a))) ≤ 512
 few_joiners t r a h few =
-    let p = both (is_well_formed t a) (t.is_member a.subject || is_in (joiners t r) a.subject || nat_lt (length (joiners t r)) 512) h in
+    let p = and_parts (is_well_formed t a) (t.is_member a.subject || is_in (joiners t r) a.subject || nat_lt (length (joiners t r)) 512) h in
     elim (t.is_member a.subject) as (λ m. t.is_member a.subject ≡ m → (m || is_in (joiners t r) a.subject || nat_lt (length (joiners t r)) 512) ≡ true → length (joiners t (set.insert r (report_of a))) ≤ 512) [
       | true ↦ λ m _. subst (λ l. length l ≤ 512) (sym (joiners_same t r (report_of a) m)) few
       | false ↦ λ m k.
-          elim (or_split (is_in (joiners t r) a.subject) (nat_lt (length (joiners t r)) 512) k) [
+          elim (or_cases (is_in (joiners t r) a.subject) (nat_lt (length (joiners t r)) 512) k) [
             | inl there ↦ subst (λ l. length l ≤ 512) (sym (joiners_more t r (report_of a) m ∙ insert_again (joiners t r) a.subject there (sorted_joiners t r))) few
             | inr room ↦ (
                 let l = length_insert (joiners t r) a.subject in
@@ -86,8 +79,8 @@ pub limits_kept : (t : Observers) (r : Reports) (a : Alert) → is_taken t r a �
 limits_kept t r a h w =
     record {
       observed = λ s k.
-          elim (or_split (same_bytes s a.subject) (is_in (subjects r) s) (sym (in_subjects_more r (report_of a) s) ∙ k)) [
-            | inl e ↦ subst (IsObserved t) (sym ((same_bytes_decides s a.subject).0 e)) (is_observed t a (both (is_well_formed t a) _ h).0)
+          elim (or_cases (same_bytes s a.subject) (is_in (subjects r) s) (sym (in_subjects_more r (report_of a) s) ∙ k)) [
+            | inl e ↦ subst (IsObserved t) (sym ((same_bytes_decides s a.subject).0 e)) (is_observed t a (and_parts (is_well_formed t a) _ h).0)
             | inr old ↦ w.observed s old
           ];
       joiners = few_joiners t r a h w.joiners;

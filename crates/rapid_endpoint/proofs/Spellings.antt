@@ -3,7 +3,7 @@ use Rattle.std.proofs.Common.{◌≡◌, ℕ, zero, suc, ◌<◌, ◌≤◌, ◌
 use Rattle.std.specs.Fmt.{decimal}
 use Rattle.std.specs.Int.{w16, to_be_bytes, from_be_bytes}
 use Rattle.std.specs.List.{list_any, list_all, before_first, after_first, position_or_len, slice_split, onto_first, join_with_byte}
-use Rattle.std.proofs.lemmas.Bool.{and_parts, and_from}
+use Rattle.std.proofs.lemmas.Bool.{and_parts, and_from, leb-true, le-leb}
 use Rattle.std.proofs.lemmas.Bool.Decides.{nat_tests, Decides-eqb}
 use Rattle.std.proofs.lemmas.Fmt.{decimal-digits_value, digits_decimal, digits_value-decimal, decimal_nonempty, length-decimal-le, first_decimal, decimal_digit}
 use Rattle.std.proofs.lemmas.List.Splits.{join_with_byte-slice_split}
@@ -33,12 +33,6 @@ record IsNumberText (digits limit : ℕ) (ds : List ℕ) : Type 0 where
   front : has_no_needless_zero ds ≡ true
   within : value_of ds ≤ limit
 
-at_most : (m n : ℕ) → nat_le m n ≡ true → m ≤ n
-at_most m n h = grind (arith, nat_tests)
-
-is_at_most : (m n : ℕ) → m ≤ n → nat_le m n ≡ true
-is_at_most m n h = grind (arith, nat_tests)
-
 number_text : (digits limit : ℕ) (ds : List ℕ) → is_number digits limit ds ≡ true → IsNumberText digits limit ds
 number_text digits limit ds h =
     let last = and_parts (nat_le 1 (length ds) && nat_le (length ds) digits && list_all is_digit ds && has_no_needless_zero ds) (nat_le (value_of ds) limit) h in
@@ -46,20 +40,20 @@ number_text digits limit ds h =
     let plain = and_parts (nat_le 1 (length ds) && nat_le (length ds) digits) (list_all is_digit ds) front.0 in
     let sizes = and_parts (nat_le 1 (length ds)) (nat_le (length ds) digits) plain.0 in
     record {
-      some = at_most 1 (length ds) sizes.0;
-      short = at_most (length ds) digits sizes.1;
+      some = leb-true 1 (length ds) sizes.0;
+      short = leb-true (length ds) digits sizes.1;
       plain = plain.1;
       front = front.1;
-      within = at_most (value_of ds) limit last.1;
+      within = leb-true (value_of ds) limit last.1;
     }
 
 text_number : (digits limit : ℕ) (ds : List ℕ) → IsNumberText digits limit ds → is_number digits limit ds ≡ true
 text_number digits limit ds t =
     and_from _ _
     (and_from _ _
-    (and_from _ _ (and_from _ _ (is_at_most 1 (length ds) t.some) (is_at_most (length ds) digits t.short)) t.plain)
+    (and_from _ _ (and_from _ _ (le-leb 1 (length ds) t.some) (le-leb (length ds) digits t.short)) t.plain)
     t.front)
-    (is_at_most (value_of ds) limit t.within)
+    (le-leb (value_of ds) limit t.within)
 
 lone_zero : (ds : List ℕ) → has_no_needless_zero ds ≡ true → 1 ≤ length ds → get_or ds 0 0 ≡ 48 → length ds ≡ 1
 lone_zero [] h some z = absurd (omega arith)

@@ -8,6 +8,7 @@ use Rattle.std.specs.List.{insert, AllWithin}
 use Rattle.std.specs.List.Sorted.{IsNonDecreasingBy}
 use Rattle.std.specs.FinMap.Entries.{put, find, is_sorted, below_all, by_order}
 use Rattle.std.proofs.lemmas.Bool.{and_parts, cases_eq}
+use Rattle.rapid_model.proofs.Logic.{less_is}
 
 from_T : (b : Bool) → T b → b ≡ true
 from_T true h = refl
@@ -15,11 +16,6 @@ from_T false h = absurd h
 
 to_T : (b : Bool) → b ≡ true → T b
 to_T b e = subst T (sym e) tt
-
-less_of : (o : Ordering) → is_lt o ≡ true → o ≡ Less
-less_of Less h = refl
-less_of Equal h = cc
-less_of Greater h = cc
 
 first_of_both : (a b : Bool) → T (a && b) → T a
 first_of_both a b h = to_T a (and_parts a b (from_T (a && b) h)).0
@@ -43,7 +39,7 @@ index_rises {R = R} o a b k less = at (R b k) refl
 module _ {K X : Type 0} {R : K → K → Ordering} (o : IsTotalOrder R) where
   below_at : (x : K) (es : List (K × X)) (i : ℕ) (d : K × X) → T (below_all R x es) → i < length es → R x (get_or es i d).0 ≡ Less
   below_at x [] i d h l = absurd (omega arith)
-  below_at x (e ∷ es) zero d h l = less_of _ (from_T _ (first_of_both _ _ h))
+  below_at x (e ∷ es) zero d h l = less_is _ (from_T _ (first_of_both _ _ h))
   below_at x (e ∷ es) (suc i) d h l = below_at x es i d (second_of_both _ _ h) (omega arith)
 
   sorted_at : (es : List (K × X)) (i j : ℕ) (d : K × X) → T (is_sorted R es) → i < j → j < length es → R (get_or es i d).0 (get_or es j d).0 ≡ Less

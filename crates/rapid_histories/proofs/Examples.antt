@@ -17,6 +17,7 @@ use Rattle.rapid_histories.specs.Notices.{learner_after, AreOfMembers, givers, H
 use Rattle.rapid_histories.specs.Promises.{promisers, HasMajority}
 use Rattle.rapid_histories.proofs.Voting.{votes_complete}
 use Rattle.rapid_histories.proofs.Noticing.{notices_complete}
+use Rattle.rapid_model.proofs.Logic.{none_if}
 
 within : {X : Type 0} (n : ℕ) (xs : List (ℕ × X)) → list_all (λ (x : ℕ × X). nat_lt x.0 n) xs ≡ true → OfMembers n xs
 within n [] h = All-nil _
@@ -32,10 +33,6 @@ given_by n (x ∷ xs) h =
 
 five : length (positions 5) ≡ 5
 five = refl
-
-none_if : (o : Option Cut) → ((z : Cut) → o ≡ Some z → ⊥) → o ≡ None
-none_if None h = refl
-none_if (Some z) h = absurd (h z refl)
 
 not_fast : HasFastQuorum 5 three_of_five one_cut → ⊥
 not_fast h = let s : size (positions 5) (voters three_of_five one_cut) ≡ 3 = refl in omega (arith, five, s, h)

@@ -11,32 +11,7 @@ use Rattle.rapid_model.proofs.Orders.{same_bytes_decides}
 
 -- ---- members
 
-pub member_in : (ps : List Process) (p : Process) → is_in ps p ≡ true → In ps p
-member_in [] p h = absurd (true≢false (sym h))
-member_in (q ∷ ps) p h =
-    elim (or_cases (same_bytes p q) (is_in ps p) h) [
-      | inl here ↦ inl (sym ((same_bytes_decides p q).0 here))
-      | inr later ↦ inr (member_in ps p later)
-    ]
-
-pub in_member : (ps : List Process) (p : Process) → In ps p → is_in ps p ≡ true
-in_member [] p h = absurd h
-in_member (q ∷ ps) p (inl e) = ap (λ b. b || is_in ps p) ((same_bytes_decides p q).1 (sym e))
-in_member (q ∷ ps) p (inr i) = either (same_bytes p q) (is_in ps p) (in_member ps p i)
-  where
-    either : (a b : Bool) → b ≡ true → (a || b) ≡ true
-    either true b h = refl
-    either false b h = h
-
 -- ---- searches
-
-pub found : {A : Type 0} (f : A → Bool) (xs : List A) (x : A) → find f xs ≡ Some x → In xs x × (f x ≡ true)
-found f [] x e = absurd (cc)
-found f (y ∷ ys) x e = by (λ h. found f ys x h) (f y) refl e
-  where
-    by : (find f ys ≡ Some x → In ys x × (f x ≡ true)) → (b : Bool) → f y ≡ b → cond b (Some y) (find f ys) ≡ Some x → In (y ∷ ys) x × (f x ≡ true)
-    by later true h e = let same : y ≡ x = cc in (inl same, ap f (sym same) ∙ h)
-    by later false h e = let rest = later e in (inr rest.0, rest.1)
 
 pub find_from : {A : Type 0} (f : A → Bool) (xs : List A) (x : A) → In xs x → f x ≡ true → (y : A) × (find f xs ≡ Some y)
 find_from f [] x i h = absurd i
@@ -45,11 +20,6 @@ find_from {A} f (y ∷ ys) x i h =
       | true ↦ λ e. (y, refl)
       | false ↦ λ e. elim i [ inl same ↦ absurd (true≢false (sym h ∙ ap f (sym same) ∙ e)) | inr later ↦ find_from f ys x later h ]
     ] refl
-
-pub each_of : {A : Type 0} (f : A → Bool) (xs : List A) (x : A) → list_all f xs ≡ true → In xs x → f x ≡ true
-each_of f [] x h i = absurd i
-each_of f (y ∷ ys) x h (inl e) = ap f (sym e) ∙ (and_parts (f y) (list_all f ys) h).0
-each_of f (y ∷ ys) x h (inr i) = each_of f ys x (and_parts (f y) (list_all f ys) h).1 i
 
 pub all_of : {A : Type 0} (f : A → Bool) (xs : List A) → ((x : A) → In xs x → f x ≡ true) → list_all f xs ≡ true
 all_of f [] h = refl
@@ -83,10 +53,6 @@ filter_map_in {A} {B} f (z ∷ zs) y i =
       ]
       | None ↦ λ is i. let rest = filter_map_in f zs y i in (rest.0, inr rest.1, rest.2)
     ] refl i
-
-pub in_range : (a n k : ℕ) → a ≤ k → k < a + n → In (range_with_len a n) k
-in_range a zero k l h = absurd (omega arith)
-in_range a (suc n) k l h = elim (cases_eq a k) [ inl e ↦ inl e | inr other ↦ inr (in_range (a + 1) n k (omega (arith, other)) (omega arith)) ]
 
 pub range_in : (a n k : ℕ) → In (range_with_len a n) k → (a ≤ k) × (k < a + n)
 range_in a zero k i = absurd i

@@ -5,20 +5,16 @@ use Rattle.std.specs.declared.cmp.Ordering.TheVariants.{Less, Equal, Greater}
 use Rattle.std.specs.List.{list_all}
 use Rattle.std.specs.Ordering.{ordering_then, ordering_reverse, nat_cmp, is_lt, is_eq}
 use Rattle.std.specs.Cmp.{IsTotalOrder, nat_cmp_total, then_total, on_total, tied_itself}
-use Rattle.std.proofs.lemmas.Bool.{and_parts, and_from, true≢false}
+use Rattle.std.proofs.lemmas.Bool.{and_parts, and_from, true≢false, not-true}
 use Rattle.rapid_model.specs.Process.{Process, process_cmp, same_bytes}
 use Rattle.rapid_model.specs.Ring.{ring_key, ring_cmp, is_before, is_between, is_next_before}
-use Rattle.rapid_model.proofs.Lists.{In}
+use Rattle.rapid_model.proofs.Lists.{In, all_in}
 use Rattle.rapid_model.proofs.Orders.{processes_total, second_equal, same_bytes_decides}
-use Rattle.rapid_histories.proofs.Finding.{each_of, all_of, in_filtered, filtered_in}
+use Rattle.rapid_histories.proofs.Finding.{all_of, in_filtered, filtered_in}
+use Rattle.rapid_model.proofs.Logic.{equal_is}
 
 ring_total : (k : ℕ) → IsTotalOrder (ring_cmp k)
 ring_total k = then_total (on_total (ring_key k) processes_total) processes_total
-
-equal_of : (o : Ordering) → is_eq o ≡ true → o ≡ Equal
-equal_of Less h = absurd (true≢false (sym h))
-equal_of Equal h = refl
-equal_of Greater h = absurd (true≢false (sym h))
 
 -- different processes do not tie on a ring
 apart : (k : ℕ) (p q : Process) → same_bytes p q ≡ false → is_eq (ring_cmp k p q) ≡ false
@@ -27,7 +23,7 @@ apart k p q other = by (is_eq (ring_cmp k p q)) refl
     by : (b : Bool) → is_eq (ring_cmp k p q) ≡ b → b ≡ false
     by false e = refl
     by true e =
-        let tied : process_cmp p q ≡ Equal = second_equal _ _ (equal_of (ring_cmp k p q) e) in
+        let tied : process_cmp p q ≡ Equal = second_equal _ _ (equal_is (ring_cmp k p q) e) in
         absurd (true≢false (sym (ap is_eq tied) ∙ other))
 
 turned : (k : ℕ) (p q : Process) → ring_cmp k q p ≡ ordering_reverse (ring_cmp k p q)
@@ -53,10 +49,6 @@ one_of_two Greater Less Greater p q r h k = cc
 one_of_two Greater Greater Less p q r h k = cc
 one_of_two Greater Greater Greater p q r h k = cc
 
-not_true : (b : Bool) → not b ≡ true → b ≡ false
-not_true true h = absurd (true≢false (sym h))
-not_true false h = refl
-
 -- o is next before one member at most
 pub only_one : (ms : List Process) (k : ℕ) (o s t : Process) → In ms s → In ms t → is_next_before ms k s o ≡ true → is_next_before ms k t o ≡ true → s ≡ t
 only_one ms k o s t at_s at_t before_s before_t = by (same_bytes s t) refl
@@ -68,16 +60,16 @@ only_one ms k o s t at_s at_t before_s before_t = by (same_bytes s t) refl
     open_t = and_parts _ _ before_t
 
     first : is_between k o t s ≡ false
-    first = not_true _ (each_of (λ m. not (is_between k o m s)) ms t open_s.1 at_t)
+    first = not-true _ (all_in (λ m. not (is_between k o m s)) ms t open_s.1 at_t)
 
     second : is_between k o s t ≡ false
-    second = not_true _ (each_of (λ m. not (is_between k o m t)) ms s open_t.1 at_s)
+    second = not-true _ (all_in (λ m. not (is_between k o m t)) ms s open_t.1 at_s)
 
     by : (b : Bool) → same_bytes s t ≡ b → s ≡ t
     by true e = (same_bytes_decides s t).0 e
     by false e =
         absurd
-        (one_of_two (ring_cmp k o s) (ring_cmp k o t) (ring_cmp k s t) (apart k o s (not_true _ open_s.0)) (apart k o t (not_true _ open_t.0)) (apart k s t e)
+        (one_of_two (ring_cmp k o s) (ring_cmp k o t) (ring_cmp k s t) (apart k o s (not-true _ open_s.0)) (apart k o t (not-true _ open_t.0)) (apart k s t e)
         (rw (← turned k s t, ← turned k o s) first) (rw (← turned k o t) second))
 
 -- ---- the last of a list
@@ -192,4 +184,4 @@ some_before ms k o j at other = (x, inside.0, and_from _ _ inside.1 (all_of (λ 
     none : (m : Process) → In ms m → (b : Bool) → same_bytes m j ≡ b → not (is_between k x m j) ≡ true
     none m i true e = ap (λ z. not (is_between k x z j)) ((same_bytes_decides m j).0 e) ∙ ap not (not_itself k x j)
     none m i false e =
-        ap not (between_is_nearer k x m j (not_true _ inside.1) e ∙ last.1.1 m (inr (in_filtered is_other ms m i (ap not e))))
+        ap not (between_is_nearer k x m j (not-true _ inside.1) e ∙ last.1.1 m (inr (in_filtered is_other ms m i (ap not e))))

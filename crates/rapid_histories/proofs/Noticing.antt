@@ -18,6 +18,7 @@ use Rattle.rapid_agreement.proofs.Sets.{size-within}
 use Rattle.rapid_agreement.proofs.SetLemmas.{insert_known, len_new_kept}
 use Rattle.rapid_histories.specs.Notices.{after_notices, learner_after, AreOfMembers, givers, HasClassicQuorum, GiversCount, NoticesComplete, LearnsOnce}
 use Rattle.rapid_histories.proofs.Firsts.{size_same, size_more, size_none}
+use Rattle.rapid_model.proofs.Logic.{none_if}
 
 -- ---- notices told apart
 
@@ -265,10 +266,6 @@ notices_complete n notices p b v w of below = (
   teaches n notices (learner_after n notices) p b v below (keeps n notices of) w,
   λ h. taught n notices (learner_after n notices) p b v below (keeps n notices of) h.1.0 h.1.1 ∙ ap Some (sym h.0),
 )
-
-none_if : (o : Option Cut) → ((z : Cut) → o ≡ Some z → ⊥) → o ≡ None
-none_if None h = refl
-none_if (Some z) h = absurd (h z refl)
 
 pub learns_once : LearnsOnce
 learns_once n notices later p q b c v w u of of_later below_p below_q learned =

@@ -3,7 +3,7 @@ use Rattle.std.proofs.Common.{◌≡◌, ℕ, ◌+◌, ◌*◌, ◌<◌, Bool, t
 use Rattle.std.specs.List.{list_any, cons_option}
 use Rattle.std.specs.Cmp.{nat_eq_equiv}
 use Rattle.std.specs.FinSet as set
-use Rattle.std.proofs.lemmas.Bool.{true≢false, and_parts, cases_lt}
+use Rattle.std.proofs.lemmas.Bool.{true≢false, and_parts, cases_lt, not-true}
 use Rattle.std.proofs.lemmas.List.Elements.{All-head, All-tail, All-cons, All-append}
 use Rattle.std.proofs.lemmas.List.FromFn.{length-range_with_len}
 use Rattle.rapid_model.specs.Cut.{Cut}
@@ -19,6 +19,7 @@ use Rattle.rapid_agreement.proofs.Promises.{reports, Tops, Keeps, keeps_begun, k
 use Rattle.rapid_histories.specs.Firsts.{passes, first, firsts, OfMembers}
 use Rattle.rapid_histories.specs.Promises.{Given, after_given, promised_at, promisers, is_vote_for, reporters, TopIsOf, HasMajority, PromisesCount, PromisesComplete, RequestsOnce}
 use Rattle.rapid_histories.proofs.Firsts.{spoke, spoke_push, first_push, silent, size_same, size_known, size_new, firsts_stay}
+use Rattle.rapid_model.proofs.Logic.{none_if}
 
 -- ---- the promises of the ballot
 
@@ -223,10 +224,6 @@ promises_count c b given of =
 majority_is : (n s : ℕ) (t : ℕ → Bool) → size (positions n) t ≡ s → (IsClassic (positions n) t → n < 2 * s) × (n < 2 * s → IsClassic (positions n) t)
 majority_is n s t e = let l = length-range_with_len 0 n in ((λ h. omega (arith, l, e, h)), (λ h. omega (arith, l, e, h)))
 
-not_is : (t : Bool) → not t ≡ true → t ≡ false
-not_is true h = absurd (true≢false (sym h))
-not_is false h = refl
-
 module _ (n : ℕ) (b : Ballot) (c : Coordinator) (given : List Given) (k : Counted n b c (promised_at b given)) (p : ℕ) (at : Ballot) (vote : Option (Vote Cut)) (own : Option Cut) (below : p < n) where
   abbrev said : List Given
   said = given ++ (p, (at, vote)) ∷ []
@@ -250,7 +247,7 @@ module _ (n : ℕ) (b : Ballot) (c : Coordinator) (given : List Given) (k : Coun
           let parts = and_parts (counts_promise c p at) (set.len c.heard + 1 == classic_size c.size) h in
           let both = and_parts (same_ballot b at) (not (set.contains c.heard p)) (sym counts_by ∙ parts.0) in
           let full : set.len c.heard + 1 ≡ classic_size n = eqb-true _ _ parts.1 ∙ ap classic_size k.keeps.of_size in
-          let more = one_more both.0 (not_is _ both.1) in
+          let more = one_more both.0 (not-true _ both.1) in
           let was = promisers_heard n b c given k in (
             ((majority_is n _ (promisers b said) more).1 (omega (arith, full)), λ m. let few = (majority_is n _ (promisers b given) (sym was)).0 m in omega (arith, full, few)),
             e,
@@ -295,10 +292,6 @@ majority_stays n b given later quorum =
     subst (λ l. IsClassic (positions n) (firsts (λ (_ : Option (Vote Cut)). true) l)) (sym (promised-append b given later))
     (let more = size-within (positions n) (promisers b given) (firsts (λ (_ : Option (Vote Cut)). true) (promised_at b given ++ promised_at b later)) (λ q _ h. firsts_stay (λ _. true) (promised_at b given) (promised_at b later) q h) in
     omega (arith, quorum, more))
-
-none_if : (o : Option Cut) → ((z : Cut) → o ≡ Some z → ⊥) → o ≡ None
-none_if None h = refl
-none_if (Some z) h = absurd (h z refl)
 
 pub requests_once : RequestsOnce
 requests_once c b given later p q at next vote last own other v of of_later below_p below_q asked =

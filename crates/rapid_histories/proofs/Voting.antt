@@ -16,6 +16,7 @@ use Rattle.rapid_agreement.proofs.Sets.{size-both, size-within}
 use Rattle.rapid_histories.specs.Firsts.{passes, first, OfMembers}
 use Rattle.rapid_histories.specs.Votes.{after_votes, round_after, voters, HasFastQuorum, FirstVotesCount, VotesComplete, DecidesOnce}
 use Rattle.rapid_histories.proofs.Firsts.{spoke, spoke_push, size_known, size_new, size_none, firsts_stay}
+use Rattle.rapid_model.proofs.Logic.{none_if}
 
 -- what the round keeps of votes
 record Keeps (n : ℕ) (votes : List (ℕ × Cut)) (f : FastRound) : Type 0 where
@@ -144,10 +145,6 @@ one_quorum n votes v u mine others other =
     let none = size_none (positions n) (both (voters votes v) (voters votes u)) (one_first votes v u other) in
     let all = size-both (positions n) (voters votes v) (voters votes u) in
     omega (arith, mine, others, none, all, l)
-
-none_if : (o : Option Cut) → ((z : Cut) → o ≡ Some z → ⊥) → o ≡ None
-none_if None h = refl
-none_if (Some z) h = absurd (h z refl)
 
 pub decides_once : DecidesOnce
 decides_once n votes later p q v w u of of_later below_p below_q decided = none_if _ (λ z e. never (decides n all q u of_all below_q z e) (same_cut u v) refl)

@@ -13,10 +13,7 @@ use Rattle.rapid_model.proofs.Orders.{same_bytes_decides}
 use Rattle.rapid_message.specs.Bodies.{IsFrom}
 use Rattle.rapid_alerts.specs.Outboxes.{AreRaised, is_sound}
 use Rattle.rapid_model.specs.Batch.{batch_of}
-
-both : (a b : Bool) → (a && b) ≡ true → (a ≡ true) × (b ≡ true)
-both true b h = (refl, h)
-both false b h = cc
+use Rattle.std.proofs.lemmas.Bool.{and_parts}
 
 third : (a b c d : Bool) → (a && b && c && d) ≡ true → c ≡ true
 third true true true d h = refl
@@ -26,7 +23,7 @@ third false b c d h = cc
 
 sound_from : (t : Observers) (owner : Process) (a : Alert) → is_sound t owner a ≡ true → IsFrom owner t.id a
 sound_from t owner a h =
-    let own = both (same_bytes a.observer owner) (is_well_formed t a) h in
+    let own = and_parts (same_bytes a.observer owner) (is_well_formed t a) h in
     let config = third (nat_lt a.ring t.params.k) (observes t a.observer a.ring a.subject) (same_bytes a.config t.id) (kind_fits t a) own.1 in
     ((same_bytes_decides a.observer owner).0 own.0, (same_bytes_decides a.config t.id).0 config)
 

@@ -11,20 +11,11 @@ use Rattle.std.specs.FinSet.{IsAntisymmetric}
 use Rattle.rapid_model.specs.Process.{Process, process_cmp}
 use Rattle.rapid_model.specs.Cut.{is_ascending}
 use Rattle.rapid_model.specs.InOrder.{in_order}
-
-or_swap : (a b c : Bool) → (a || (b || c)) ≡ (b || (a || c))
-or_swap true true c = refl
-or_swap true false c = refl
-or_swap false b c = refl
+use Rattle.rapid_model.proofs.Logic.{or_swap, equal_is}
 
 or_again : (a b c : Bool) → (a ≡ true → b ≡ true) → (a || (b || c)) ≡ (b || c)
 or_again true b c h = sym (ap (λ x. x || c) (h refl))
 or_again false b c h = refl
-
-equal_of : (o : Ordering) → is_eq o ≡ true → o ≡ Equal
-equal_of Less h = cc
-equal_of Equal h = refl
-equal_of Greater h = cc
 
 module _ {K : Type 0} (R : K → K → Ordering) (o : IsTotalOrder R) where
   -- each of ys is above x
@@ -95,7 +86,7 @@ module _ {K : Type 0} (R : K → K → Ordering) (o : IsTotalOrder R) where
   alike_tails : (x y : K) (xs ys : List K) → R x y ≡ Equal → Above x xs → Above y ys → Alike (x ∷ xs) (y ∷ ys) → Alike xs ys
   alike_tails x y xs ys e a b h q =
       elim (eq_by_cmp R q x) as (λ t. eq_by_cmp R q x ≡ t → list_any (eq_by_cmp R q) xs ≡ list_any (eq_by_cmp R q) ys) [
-        | true ↦ λ t. let qx = equal_of (R q x) t in none_above x q xs qx a ∙ sym (none_above y q ys (o.congr q x y qx ∙ e) b)
+        | true ↦ λ t. let qx = equal_is (R q x) t in none_above x q xs qx a ∙ sym (none_above y q ys (o.congr q x y qx ∙ e) b)
         | false ↦ λ t.
             let other : eq_by_cmp R q y ≡ false = ap is_eq (sym (alike_right o x y q e)) ∙ t in
             sym (ap (λ c. c || list_any (eq_by_cmp R q) xs) t) ∙ h q ∙ ap (λ c. c || list_any (eq_by_cmp R q) ys) other

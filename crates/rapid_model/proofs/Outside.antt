@@ -11,6 +11,8 @@ use Rattle.rapid_model.specs.Configuration.{Configuration, IsConfiguration, is_m
 use Rattle.rapid_model.specs.Ring.{ring_key, ring_cmp, is_before, is_next_before, ring_observer, observers_of}
 use Rattle.rapid_model.specs.Host.{observers_for}
 use Rattle.rapid_model.proofs.Orders.{processes_total, same_bytes_decides}
+use Rattle.rapid_model.proofs.Logic.{less_is}
+use Rattle.std.proofs.lemmas.List.FromFn.{length-range_with_len}
 
 -- the value is in the list
 abbrev In : {K : Type 0} → K → List K → Type 0
@@ -31,11 +33,6 @@ find_from {K} test (y ∷ ys) x at h =
   where
     apart : x ≡ y → test y ≡ false → ⊥
     apart same e = let k : test y ≡ true = subst (λ z. test z ≡ true) same h in cc
-
-less_is : (r : Ordering) → is_lt r ≡ true → r ≡ Less
-less_is Less h = refl
-less_is Equal h = cc
-less_is Greater h = cc
 
 module _ {K : Type 0} (R : K → K → Ordering) (o : IsTotalOrder R) where
   abbrev below : K → K → Bool
@@ -170,14 +167,10 @@ length-filter_map h (x ∷ xs) =
     let rest = length-filter_map h xs in
     elim (h x) as (λ o. length (cons_option o (filter_map h xs)) ≤ suc (length xs)) [ None ↦ omega (arith, rest) | Some y ↦ omega (arith, rest) ]
 
-length-range : (a n : ℕ) → length (range_with_len a n) ≡ n
-length-range a zero = refl
-length-range a (suc n) = ap suc (length-range (a + 1) n)
-
 -- a process outside has 1 to 16 observers
 pub observers_outside : (c : Configuration) → IsConfiguration c → (me j : Process) → is_member c me ≡ true → is_member c j ≡ false → (1 ≤ length (observers_for c j)) × (length (observers_for c j) ≤ 16)
 unfolding observers_of
-observers_outside c is me j member outside = (least c.params.k (omega (arith, is.params.some, is.params.below, is.params.rings)) refl, omega (arith, length-filter_map (λ k. (observers_of c).observer k j) (range_with_len 0 c.params.k), length-range 0 c.params.k, is.params.few))
+observers_outside c is me j member outside = (least c.params.k (omega (arith, is.params.some, is.params.below, is.params.rings)) refl, omega (arith, length-filter_map (λ k. (observers_of c).observer k j) (range_with_len 0 c.params.k), length-range_with_len 0 c.params.k, is.params.few))
   where
     found : (x : Process) × (ring_observer c.members 0 j ≡ Some x)
     found = observed_outside 0 c.members j me (in_from c.members me member) (not_in c.members j outside)

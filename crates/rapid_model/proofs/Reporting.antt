@@ -2,7 +2,7 @@
 use Rattle.std.proofs.Common.{◌≡◌, ℕ, zero, suc, Bool, true, false, cond, not, ◌&&◌, List, [], ◌∷◌, ◌++◌, map, length, drop, slice_get, slice_set, refl, sym, ap, subst, ◌∙◌, Option, Some, None, arith, append_assoc}
 use Rattle.std.specs.Prelude.{position, is_some, nat_lt}
 use Rattle.std.proofs.lemmas.List.Quantifiers.{position-Some}
-use Rattle.std.proofs.lemmas.Option.{slice_get-get_or}
+use Rattle.std.proofs.lemmas.Option.{slice_get-get_or, same_Some}
 use Rattle.std.proofs.lemmas.Bool.{and_parts}
 use Rattle.rapid_model.specs.Process.{Process, identifier}
 use Rattle.rapid_model.specs.Configuration.{Configuration, configuration_id, is_member}
@@ -24,13 +24,10 @@ use Rattle.rapid_model.specs.Refusal.{refusal}
 use Rattle.rapid_model.specs.Run.{WorldReport, ReportInstalled, ReportHalted, reports_of, step_reports}
 use Rattle.rapid_model.specs.NodeReports.{installed_report, reports_between, receiver, peer_reports, node_reports}
 
-some_is : {A : Type 0} (x y : A) → Some x ≡ Some y → x ≡ y
-some_is x y e = cc
-
 found : {A : Type 0} (p : A → Bool) (xs : List A) (i : ℕ) (x : A) → position p xs ≡ Some i → slice_get xs i ≡ Some x → p x ≡ true
 found p xs i x e h =
     let r = position-Some p xs i x e in
-    subst (λ z. p z ≡ true) (some_is _ _ (sym (slice_get-get_or xs i x r.0) ∙ h)) r.1
+    subst (λ z. p z ≡ true) (same_Some _ _ (sym (slice_get-get_or xs i x r.0) ∙ h)) r.1
 
 -- what stands behind a list
 behind : {A : Type 0} (xs ys : List A) → drop (length xs) (xs ++ ys) ≡ ys
@@ -70,14 +67,14 @@ unfolding settle install
 settle_up n w o h = by w.decided h
   where
     by : (d : Option Cut) → settle_at n w d ≡ Some o → is_halted o.node ≡ false
-    by None e = subst (λ (x : Outcome). is_halted x.node ≡ false) (some_is _ o e) refl
+    by None e = subst (λ (x : Outcome). is_halted x.node ≡ false) (same_Some _ o e) refl
     by (Some v) e = full (is_history_full n.installed w.state.config) refl
       where
         full : (b : Bool) → is_history_full n.installed w.state.config ≡ b → is_halted o.node ≡ false
         full true same = let none : None ≡ Some o = subst (λ b. cond b None (Some (put_before w.effects (install n w.state v))) ≡ Some o) same e in cc
         full false same =
             let is : Some (put_before w.effects (install n w.state v)) ≡ Some o = subst (λ b. cond b None (Some (put_before w.effects (install n w.state v))) ≡ Some o) same e in
-            subst (λ (x : Outcome). is_halted x.node ≡ false) (some_is _ o is) (stays_up n.me (apply w.state.config v))
+            subst (λ (x : Outcome). is_halted x.node ≡ false) (same_Some _ o is) (stays_up n.me (apply w.state.config v))
 
 joiner_up : (n : Node) (j : Joiner) (b : Body) → is_halted (receive_as_joiner n j b).node ≡ false
 unfolding receive_as_joiner
@@ -101,30 +98,30 @@ unfolding node_step
 step_up n (EdgeDown id k p) o up h = by n.phase up h
   where
     by : (ph : Phase) → is_halted_phase ph ≡ false → step_edge_down n ph id k p ≡ Some o → is_halted o.node ≡ false
-    by (Joining j) u e = subst (λ (x : Outcome). is_halted x.node ≡ false) (some_is _ o e) up
+    by (Joining j) u e = subst (λ (x : Outcome). is_halted x.node ≡ false) (same_Some _ o e) up
     by (Member s) u e = settle_up n _ o e
-    by (Removed c) u e = subst (λ (x : Outcome). is_halted x.node ≡ false) (some_is _ o e) up
+    by (Removed c) u e = subst (λ (x : Outcome). is_halted x.node ≡ false) (same_Some _ o e) up
     by (Halted shown) u e = cc
 step_up n node.Tick o up h = by n.phase up h
   where
     by : (ph : Phase) → is_halted_phase ph ≡ false → step_tick n ph ≡ Some o → is_halted o.node ≡ false
-    by (Joining j) u e = subst (λ (x : Outcome). is_halted x.node ≡ false) (some_is _ o e) refl
+    by (Joining j) u e = subst (λ (x : Outcome). is_halted x.node ≡ false) (same_Some _ o e) refl
     by (Member s) u e = settle_up n _ o e
-    by (Removed c) u e = subst (λ (x : Outcome). is_halted x.node ≡ false) (some_is _ o e) up
+    by (Removed c) u e = subst (λ (x : Outcome). is_halted x.node ≡ false) (same_Some _ o e) up
     by (Halted shown) u e = cc
 step_up n (Receive m) o up h = by n.phase up h
   where
     by : (ph : Phase) → is_halted_phase ph ≡ false → step_receive n ph m ≡ Some o → is_halted o.node ≡ false
-    by (Joining j) u e = subst (λ (x : Outcome). is_halted x.node ≡ false) (some_is _ o e) (joiner_up n j m.body)
+    by (Joining j) u e = subst (λ (x : Outcome). is_halted x.node ≡ false) (same_Some _ o e) (joiner_up n j m.body)
     by (Member s) u e = settle_up n _ o e
-    by (Removed c) u e = subst (λ (x : Outcome). is_halted x.node ≡ false) (some_is _ o e) up
+    by (Removed c) u e = subst (λ (x : Outcome). is_halted x.node ≡ false) (same_Some _ o e) up
     by (Halted shown) u e = cc
 step_up n node.Leave o up h = by n.phase up h
   where
     by : (ph : Phase) → is_halted_phase ph ≡ false → step_leave n ph ≡ Some o → is_halted o.node ≡ false
-    by (Joining j) u e = subst (λ (x : Outcome). is_halted x.node ≡ false) (some_is _ o e) up
+    by (Joining j) u e = subst (λ (x : Outcome). is_halted x.node ≡ false) (same_Some _ o e) up
     by (Member s) u e = settle_up n _ o e
-    by (Removed c) u e = subst (λ (x : Outcome). is_halted x.node ≡ false) (some_is _ o e) up
+    by (Removed c) u e = subst (λ (x : Outcome). is_halted x.node ≡ false) (same_Some _ o e) up
     by (Halted shown) u e = cc
 
 -- ---- the node that makes a step

@@ -8,6 +8,7 @@ use Rattle.rapid_model.specs.Edge.{Edge, fresh_edge, failures, probed, edge_afte
 use Rattle.rapid_model.proofs.Edges.{down_is_stretch}
 use Rattle.rapid_monitor.specs.declared.edge.Verdict.{Verdict}
 use Rattle.rapid_monitor.specs.declared.edge.Verdict.TheVariants.{Up, Down}
+use Rattle.std.proofs.lemmas.Option.{same_Some}
 
 abbrev one : Bool → ℕ
 one b = cond b 1 0
@@ -72,15 +73,12 @@ verdict_so_far e ok oks is =
       λ h. true_down (probed e ok).is_down (subst IsTrue same (law.1 h)),
     )
 
-some_is : {A : Type 0} {a b : A} → Some a ≡ Some b → a ≡ b
-some_is e = cc
-
 -- if there is an edge, its verdict is that of the results so far
 pub slot_so_far : (slot : Option Edge) (ok : Bool) (oks : List Bool) (result : Option Verdict) → result ≡ option_map (λ (e : Edge). if (probed e ok).is_down then Down else Up) slot → slot ≡ Some (edge_after fresh_edge oks) → (result ≡ Some Down) ↔ HasDownStretch (oks ++ ok ∷ [])
 slot_so_far slot ok oks result is slot_is =
     let law = verdict_so_far (edge_after fresh_edge oks) ok oks refl in
     let verdict : result ≡ Some (if (probed (edge_after fresh_edge oks) ok).is_down then Down else Up) = is ∙ ap (option_map (λ (e : Edge). if (probed e ok).is_down then Down else Up)) slot_is in (
-      λ h. law.0 (some_is (sym verdict ∙ h)),
+      λ h. law.0 (same_Some _ _ (sym verdict ∙ h)),
       λ h. verdict ∙ ap Some (law.1 h),
     )
 

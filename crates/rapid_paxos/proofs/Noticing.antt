@@ -16,6 +16,7 @@ use Rattle.rapid_model.proofs.Orders.{ballots_total, ballots_exact, cuts_total, 
 use Rattle.rapid_agreement.proofs.SetLemmas.{insert_known, len-passed, len-failed}
 use Rattle.rapid_fast.proofs.Places.{searchable, put_found, find_found, put_missing, find_missing}
 use Rattle.rapid_paxos.specs.Notices.{Entries, key_cmp, all_notices, notices_of, positions_at, AreEntries}
+use Rattle.rapid_model.proofs.Logic.{equal_is}
 
 abbrev Key : Type 0
 Key = Ballot × Cut
@@ -65,11 +66,6 @@ any_of_entry k e p (q ∷ qs) =
     by true b c = refl
     by false b c = refl
 
-equal_of : (o : Ordering) → is_eq o ≡ true → o ≡ Equal
-equal_of Less h = cc
-equal_of Equal h = refl
-equal_of Greater h = cc
-
 T_to : (b : Bool) → T b → b ≡ true
 T_to true h = refl
 T_to false h = absurd h
@@ -108,7 +104,7 @@ any_of_all (e ∷ es) k p s =
 
     by : (b : Bool) → eq_by_cmp key_cmp k e.0 ≡ b → ((b && fin.contains e.1 p) || fin.contains (positions_at es k) p) ≡ fin.contains (unwrap_or (cond b (Some e.1) (find key_cmp k es)) fin.empty) p
     by true h =
-        ap (λ o. fin.contains e.1 p || fin.contains (unwrap_or o fin.empty) p) (none_above k e.0 es (equal_of _ h) (first_of _ _ s))
+        ap (λ o. fin.contains e.1 p || fin.contains (unwrap_or o fin.empty) p) (none_above k e.0 es (equal_is _ h) (first_of _ _ s))
         ∙ ap (λ b. fin.contains e.1 p || b) (fin.contains-empty nat_cmp p) ∙ or-false (fin.contains e.1 p)
     by false h = refl
 
@@ -169,7 +165,7 @@ module _ (es : Entries) (is : AreEntries es) (k : Key) (p : ℕ) where
         by : (n : Notice) (b : Bool) → eq_by_cmp key_cmp n.0 k ≡ b → fin.contains (cond b s (positions_at es n.0)) n.1 ≡ ((b && eq_by_cmp nat_cmp n.1 p) || fin.contains (positions_at es n.0) n.1)
         by n true h =
             ap (λ t. fin.contains t n.1) e ∙ fin.contains-insert nat_cmp_total (positions_at es k) p n.1
-            ∙ ap (λ q. eq_by_cmp nat_cmp n.1 p || fin.contains (positions_at es q) n.1) (sym (keys_exact n.0 k (equal_of _ h)))
+            ∙ ap (λ q. eq_by_cmp nat_cmp n.1 p || fin.contains (positions_at es q) n.1) (sym (keys_exact n.0 k (equal_is _ h)))
         by n false h = refl
 
     counts_put : (q : Key) → notice_count (notices_of fs) q.0 q.1 ≡ fin.len (positions_at fs q)
@@ -184,7 +180,7 @@ module _ (es : Entries) (is : AreEntries es) (k : Key) (p : ℕ) where
 
         by : (b : Bool) → eq_by_cmp key_cmp q k ≡ b → notice_count (fin.insert (notices_of es) (k, p)) q.0 q.1 ≡ fin.len (cond b s (positions_at es q))
         by true h =
-            let e : q ≡ k = keys_exact q k (equal_of _ h) in
+            let e : q ≡ k = keys_exact q k (equal_is _ h) in
             ap (λ (x : Key). notice_count (fin.insert (notices_of es) (k, p)) x.0 x.1) e ∙ same (fin.contains (positions_at es k) p) refl
         by false h =
             len-failed notices_total notices_exact (notices_of es) (k, p) (λ x. same_ballot x.0.0 q.0 && same_cut x.0.1 q.1)

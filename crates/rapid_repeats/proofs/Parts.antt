@@ -18,7 +18,8 @@ use Rattle.rapid_repeats.specs.declared.said.Asked.TheVariants.{Question, Reques
 use Rattle.rapid_repeats.specs.Repeating.{Passed, of_members_in}
 use Rattle.rapid_repeats.specs.Remembering.{IsSoughtOf}
 use Rattle.rapid_repeats.specs.Parts.{speaker, place_in, batch_by, vote_by, asked_in, asked_by, IsPlace, IsBatchThere, AreParts, Adds}
-use Rattle.rapid_repeats.proofs.Tables.{some_same, mapped, in_map, adds_map, adds_left, adds_right, adds_all}
+use Rattle.rapid_repeats.proofs.Tables.{mapped, in_map, adds_map, adds_left, adds_right, adds_all}
+use Rattle.std.proofs.lemmas.Option.{same_Some}
 
 -- ---- places
 
@@ -46,7 +47,7 @@ no_place : (c : Configuration) (id : ConfigurationId) (p : Process) (of_members 
 no_place c id p of_members h said member = by (same_bytes id (configuration_id c)) h said
   where
     by : (b : Bool) → cond b (position_of c p) None ≡ None → cond b (Some true) None ≡ Some of_members → ⊥
-    by true none of = let e = sym (is_there c p None none) ∙ member (sym (some_same of)) in cc
+    by true none of = let e = sym (is_there c p None none) ∙ member (sym (same_Some _ _ of)) in cc
     by false none of = cc
 
 pub no_batch : (c : Configuration) (id : ConfigurationId) (p : Process) (xs : List AlertItem) (of_members : Bool) → place_in c id p ≡ None → IsSoughtOf c of_members (record { sender = p; body = Batch id xs }) → ⊥
@@ -109,7 +110,7 @@ asked_same here (Request k) (Request l) e = cc
 
 -- The place of a process at which a member of its bytes is kept.
 place_same : (c : Configuration) (p : Process) (place at : ℕ) → IsPlace c at → position_of c p ≡ Some place → speaker c at ≡ p → at ≡ place
-place_same c p place at is h who = some_same (sym is ∙ ap (position_of c) who ∙ h)
+place_same c p place at is h who = same_Some _ _ (sym is ∙ ap (position_of c) who ∙ h)
 
 batch_same : (c : Configuration) (p : Process) (place : ℕ) (xs : List Alert) (e : ℕ × List Alert) → position_of c p ≡ Some place → All (IsFrom p (configuration_id c)) xs → IsBatchThere c e
     → batch_by c e ≡ record { sender = p; body = Batch (configuration_id c) (map item_of xs) } → e ≡ (place, xs)

@@ -31,9 +31,6 @@ keys_total = then_total (on_total (λ (x : Process × Asked). x.0) processes_tot
 
 -- ---- elements
 
-pub some_same : {X : Type 0} {x y : X} → Some x ≡ Some y → x ≡ y
-some_same e = cc
-
 -- What holds of what is there holds of each.
 pub each : {E : Type 0} (P : E → Type 0) (es : List E) → ((e : E) → Contains es e → P e) → All P es
 each P es h = All-weaker (Contains es) P h es (All-contains_itself es)

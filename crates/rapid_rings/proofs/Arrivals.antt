@@ -30,8 +30,9 @@ use Rattle.rapid_rings.specs.Following.{places_of_new}
 use Rattle.rapid_rings.proofs.Rounds.{seats_total, seats_exact, same_seat_is, own_seat, apart, contains-seats, turned}
 use Rattle.rapid_rings.proofs.Stretches.{Rise, rise_ascends, rise_apart}
 use Rattle.rapid_rings.proofs.Lookups.{found_place}
-use Rattle.rapid_rings.proofs.Following.{own_and_in, filtered, seats_after}
+use Rattle.rapid_rings.proofs.Following.{own_and_in, seats_after}
 use Rattle.rapid_rings.proofs.Orders.{same_order, one_place, nobody, none_placed}
+use Rattle.rapid_model.proofs.Among.{filter_among}
 
 -- ---- seats that are put in order
 
@@ -162,7 +163,7 @@ all_apart k old new xs up rise is =
     was_not : (b : Seat) → list_any (same_seat b) come ≡ true → is_in old b.1 ≡ false
     was_not b h =
         let new_one = (parts (same_seat b (seat k b.1)) (is_in newcomers b.1) (sym (own_and_in k newcomers b) ∙ h)).1 in
-        out (is_in old b.1) (parts (is_in new b.1) (not (is_in old b.1)) (sym (filtered (λ m. not (is_in old m)) new b.1) ∙ new_one)).1
+        out (is_in old b.1) (parts (is_in new b.1) (not (is_in old b.1)) (sym (filter_among (λ m. not (is_in old m)) new b.1) ∙ new_one)).1
       where
         out : (b : Bool) → not b ≡ true → b ≡ false
         out true h = cc

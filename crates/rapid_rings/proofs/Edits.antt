@@ -11,6 +11,7 @@ use Rattle.std.proofs.lemmas.List.Edits.{length-insert, get_or-insert_below, get
 use Rattle.std.proofs.lemmas.List.Sorted.{searchable_from_sorted, IsPermutation-insert, IsPermutation-trans, IsPermutation-to_front, IsPermutation-append_left}
 use Rattle.rapid_rings.specs.Seats.{Placed, placed_cmp, PlacedAscend}
 use Rattle.rapid_rings.proofs.Arrivals.{placed_total}
+use Rattle.rapid_model.proofs.Logic.{not_back}
 
 abbrev is_placed_below : Placed → Placed → Bool
 is_placed_below x y = is_lt (placed_cmp x y)
@@ -19,11 +20,6 @@ turned_placed : (x y : Placed) → placed_cmp y x ≡ ordering_reverse (placed_c
 turned_placed x y = placed_total.antisymm y x
 
 -- ---- one more seat
-
-not_back : (o : Ordering) → is_lt o ≡ true → is_lt (ordering_reverse o) ≡ false
-not_back Less h = refl
-not_back Equal h = cc
-not_back Greater h = cc
 
 -- a seat before those that are not below it
 pub inserted_ascends : (xs : List Placed) (s : Placed) (i : ℕ) → PlacedAscend xs → i ≤ length xs

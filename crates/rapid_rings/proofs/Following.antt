@@ -17,9 +17,7 @@ use Rattle.rapid_config.proofs.Places.{found_at, by_identifier}
 use Rattle.rapid_rings.specs.Seats.{Seat, Seats, seat, seats_of, same_seat}
 use Rattle.rapid_rings.proofs.Numbers.{range_more}
 use Rattle.rapid_rings.proofs.Rounds.{seats_total, seats_exact, contains-seats, seated, seats_have, same_seat_is, own_seat}
-
-pub filtered : (p : Process → Bool) (ps : List Process) (q : Process) → is_in (filter p ps) q ≡ (is_in ps q && p q)
-filtered p ps q = is_member-filter (eq_by_cmp_equiv processes_total) p q (λ y e. ap p ((same_bytes_decides q y).0 e)) ps
+use Rattle.rapid_model.proofs.Among.{filter_among}
 
 -- ---- the seats of the next ring
 
@@ -55,7 +53,7 @@ seats_after k old new xs b =
     (is_member-filter (eq_by_cmp_equiv seats_total) (λ (x : Seat). is_in new x.1) q (λ y e. ap (λ (x : Seat). is_in new x.1) (same_seat_is q y e)) xs
     ∙ ap (λ c. c && is_in new q.1) (sym (set.contains-from_list seats_total xs q) ∙ ap (λ r. set.contains r q) b ∙ contains-seats k old q ∙ own_and_in k old q))
     ∙ ap (λ c. ((same_seat q (seat k q.1) && is_in old q.1) && is_in new q.1) || c)
-    (own_and_in k (filter (λ m. not (is_in old m)) new) q ∙ ap (λ c. same_seat q (seat k q.1) && c) (filtered (λ m. not (is_in old m)) new q.1))
+    (own_and_in k (filter (λ m. not (is_in old m)) new) q ∙ ap (λ c. same_seat q (seat k q.1) && c) (filter_among (λ m. not (is_in old m)) new q.1))
     ∙ left_and_come (same_seat q (seat k q.1)) (is_in old q.1) (is_in new q.1)
     ∙ sym (contains-seats k new q ∙ own_and_in k new q))
 

@@ -8,21 +8,18 @@ use Rattle.rapid_model.specs.Process.{Process}
 use Rattle.rapid_model.specs.Ring.{ring_key}
 use Rattle.rapid_rings.specs.Keys.{AreKeysOf}
 use Rattle.rapid_rings.proofs.Numbers.{range_more}
+use Rattle.std.proofs.lemmas.List.FromFn.{length-range_with_len}
 
 get_number : (a n k : ℕ) → k < n → slice_get (range_with_len a n) k ≡ Some (a + k)
 get_number a zero k h = absurd (omega (arith, h))
 get_number a (suc n) zero h = let e : a ≡ a + 0 = omega arith in ap Some e
 get_number a (suc n) (suc k) h = let e : (a + 1) + k ≡ a + suc k = omega arith in get_number (a + 1) n k (omega (arith, h)) ∙ ap Some e
 
-long_range : (a n : ℕ) → length (range_with_len a n) ≡ n
-long_range a zero = refl
-long_range a (suc n) = ap suc (long_range (a + 1) n)
-
 pub keys_by_ring : (p : Process) (n : ℕ) (keys : List (List ℕ)) → keys ≡ map (λ k. ring_key k p) (range_with_len 0 n) → AreKeysOf p keys
 keys_by_ring p n keys e =
     subst (AreKeysOf p) (sym e) (record {
       by_ring = λ k below.
-          let within : k < n = subst (λ m. k < m) (length-map (range_with_len 0 n) (λ j. ring_key j p) ∙ long_range 0 n) below in
+          let within : k < n = subst (λ m. k < m) (length-map (range_with_len 0 n) (λ j. ring_key j p) ∙ length-range_with_len 0 n) below in
           let from_zero : 0 + k ≡ k = omega arith in
           slice_get-map (λ j. ring_key j p) (range_with_len 0 n) k ∙ ap (option_map (λ j. ring_key j p)) (get_number 0 n k within ∙ ap Some from_zero);
     })

@@ -3,7 +3,7 @@ use Rattle.std.proofs.Common.{◌≡◌, ℕ, ◌+◌, ◌<◌, ◌≤◌, Bool,
 use Rattle.std.specs.Prelude.{Option, filter_map}
 use Rattle.std.specs.Option.{option_map, option_eq, option_to_list}
 use Rattle.std.specs.List.{find, position_or_len, cons_option}
-use Rattle.std.proofs.lemmas.Bool.{ltb-true}
+use Rattle.std.proofs.lemmas.Bool.{ltb-true, lt-ltb, le-ltb}
 use Rattle.std.proofs.lemmas.List.{take_more, take_all, map-append}
 use Rattle.std.proofs.lemmas.List.Elements.{filter_map-append}
 use Rattle.std.proofs.lemmas.List.Folds.{list_any_at}
@@ -17,7 +17,6 @@ use Rattle.rapid_config.proofs.Places.{in_by_place}
 use Rattle.rapid_rings.specs.Observing.{ObservesNobody, NoneObservesItself}
 use Rattle.rapid_rings.specs.Seats.{Placed, HasRings}
 use Rattle.rapid_rings.proofs.Rounds.{not_found}
-use Rattle.rapid_rings.proofs.Numbers.{tested, not_tested}
 use Rattle.rapid_rings.proofs.Subjects.{is_observer, passes_found}
 
 -- ---- places
@@ -52,13 +51,13 @@ found_member ms o i h =
 on_ring_there : (c : Configuration) (k : ℕ) (o : Process) → k < c.params.k → find (λ m. option_eq same_bytes (ring_observer c.members k m) (Some o)) c.members ≡ subject_on c o k
 unfolding observers_of
 on_ring_there c k o there =
-    ap (λ b. find (λ m. option_eq same_bytes (cond b (ring_observer c.members k m) None) (Some o)) c.members) (sym (tested k c.params.k there))
+    ap (λ b. find (λ m. option_eq same_bytes (cond b (ring_observer c.members k m) None) (Some o)) c.members) (sym (lt-ltb k c.params.k there))
 
 on_ring_missing : (c : Configuration) (k : ℕ) (o : Process) → c.params.k ≤ k → None ≡ subject_on c o k
 unfolding observers_of
 on_ring_missing c k o past =
     sym (not_found (λ m. option_eq same_bytes None (Some o)) c.members (λ _ _. refl))
-    ∙ ap (λ b. find (λ m. option_eq same_bytes (cond b (ring_observer c.members k m) None) (Some o)) c.members) (sym (not_tested k c.params.k past))
+    ∙ ap (λ b. find (λ m. option_eq same_bytes (cond b (ring_observer c.members k m) None) (Some o)) c.members) (sym (le-ltb k c.params.k past))
 
 -- what a ring says of a member
 pub subject_there : (c : Configuration) (xs : List (List Placed)) (i k : ℕ) (o : Process) (r : Option Process)

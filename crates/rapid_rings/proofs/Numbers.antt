@@ -21,9 +21,3 @@ pub filter_map_more : {X : Type 0} (f : ℕ → Option X) (n : ℕ) → filter_m
 filter_map_more f n =
     ap (filter_map f) (range_more n) ∙ filter_map-append f (range_with_len 0 n) (n ∷ [])
     ∙ ap (λ xs. filter_map f (range_with_len 0 n) ++ xs) (one_or_none (f n))
-
-pub tested : (k n : ℕ) → k < n → nat_lt k n ≡ true
-tested k n h = grind arith
-
-pub not_tested : (k n : ℕ) → n ≤ k → nat_lt k n ≡ false
-not_tested k n h = grind arith

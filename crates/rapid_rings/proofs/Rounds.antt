@@ -12,7 +12,8 @@ use Rattle.rapid_model.specs.Process.{Process, bytes_cmp, process_cmp, same_byte
 use Rattle.rapid_model.specs.Ring.{is_between, is_next_before, ring_observer}
 use Rattle.rapid_model.proofs.Orders.{processes_total, processes_exact, second_equal, first_equal, tie_decides, same_bytes_decides}
 use Rattle.rapid_rings.specs.Seats.{Seat, seat_cmp, same_seat, seat, seats_of, sits_between, IsNextBefore}
-use Rattle.rapid_rings.proofs.Sets.{both, own}
+use Rattle.rapid_rings.proofs.Sets.{own}
+use Rattle.std.proofs.lemmas.Bool.{not-true, not_from_false, and_parts}
 
 -- ---- the order of seats
 
@@ -74,11 +75,6 @@ none_below false false false p q = refl
 none_below true b c p q = cc
 none_below false true c p q = cc
 
-pub lt_not_back : (o : Ordering) → is_lt o ≡ true → is_lt (ordering_reverse o) ≡ false
-lt_not_back Less h = refl
-lt_not_back Equal h = cc
-lt_not_back Greater h = cc
-
 -- ---- the seats of the members
 
 pub contains-seats : (k : ℕ) (ms : List Process) (x : Seat) → set.contains (seats_of k ms) x ≡ list_any (same_seat x) (map (seat k) ms)
@@ -127,7 +123,7 @@ all_pass p (m ∷ ms) h =
 pub each_passes : (p : Process → Bool) (ms : List Process) (m : Process) → list_all p ms ≡ true → is_in ms m ≡ true → p m ≡ true
 each_passes p [] m h at = cc
 each_passes p (q ∷ ms) m h at =
-    let parts = both (p q) (list_all p ms) h in
+    let parts = and_parts (p q) (list_all p ms) h in
     elim (same_bytes m q) as (λ b. same_bytes m q ≡ b → (b || is_in ms m) ≡ true → p m ≡ true) [
       | true ↦ λ e _. subst (λ x. p x ≡ true) (sym ((same_bytes_decides m q).0 e)) parts.0
       | false ↦ λ e at. each_passes p ms m parts.1 at
@@ -162,14 +158,6 @@ not_found p (m ∷ ms) h =
     or_late true b h = refl
     or_late false b h = h
 
-pub not_true : (b : Bool) → not b ≡ true → b ≡ false
-not_true true h = cc
-not_true false h = refl
-
-not_false : (b : Bool) → b ≡ false → not b ≡ true
-not_false true h = cc
-not_false false h = refl
-
 -- a process apart on the ring
 pub apart : (k : ℕ) (p s : Process) → same_bytes p s ≡ false → same_seat (seat k p) (seat k s) ≡ false
 apart k p s h =
@@ -201,10 +189,10 @@ observer_in_seat k ms s (Some x) h =
     passes : x ≡ seat k x.1 → is_next_before ms k s x.1 ≡ true
     passes e =
         ap (λ b. not b && list_all (λ m. not (is_between k x.1 m s)) ms) (other e)
-        ∙ all_pass (λ m. not (is_between k x.1 m s)) ms (λ m at. not_false (is_between k x.1 m s) (none_between e m at))
+        ∙ all_pass (λ m. not (is_between k x.1 m s)) ms (λ m at. not_from_false (is_between k x.1 m s) (none_between e m at))
 
     only : x ≡ seat k x.1 → is_in ms x.1 ≡ true → (m : Process) → is_in ms m ≡ true → is_next_before ms k s m ≡ true → m ≡ x.1
     only e there m at next =
-        let parts = both (not (same_bytes m s)) (list_all (λ q. not (is_between k m q s)) ms) next in
+        let parts = and_parts (not (same_bytes m s)) (list_all (λ q. not (is_between k m q s)) ms) next in
         let free = each_passes (λ q. not (is_between k m q s)) ms x.1 parts.1 there in
-        ap (λ (y : Seat). y.1) (only_one (seat k m) (seat k x.1) (seat k s) (apart k m s (not_true (same_bytes m s) parts.0)) (apart k x.1 s (other e)) (not_true (is_between k m x.1 s) free) (none_between e m at))
+        ap (λ (y : Seat). y.1) (only_one (seat k m) (seat k x.1) (seat k s) (apart k m s (not-true (same_bytes m s) parts.0)) (apart k x.1 s (other e)) (not-true (is_between k m x.1 s) free) (none_between e m at))

@@ -14,15 +14,9 @@ use Rattle.rapid_model.specs.Process.{Process, ProcessSet, process_cmp, same_byt
 use Rattle.std.proofs.lemmas.Map.Keys.{sorted_head, sorted_tail, IsDistinct-head, IsDistinct-tail}
 use Rattle.rapid_model.specs.Cut.{is_ascending}
 use Rattle.rapid_model.proofs.Orders.{processes_total, processes_exact, same_bytes_decides}
-
-pub both : (a b : Bool) → (a && b) ≡ true → (a ≡ true) × (b ≡ true)
-both true b h = (refl, h)
-both false b h = cc
-
-lt_differs : (o : Ordering) → is_lt o ≡ true → is_eq o ≡ false
-lt_differs Less h = refl
-lt_differs Equal h = cc
-lt_differs Greater h = refl
+use Rattle.rapid_model.proofs.Logic.{if_false, less_differs}
+use Rattle.rapid_model.proofs.Among.{same_turned}
+use Rattle.std.proofs.lemmas.Bool.{and_parts, and_from, not_from_false}
 
 -- a process is itself
 pub own : (p : Process) → same_bytes p p ≡ true
@@ -32,8 +26,8 @@ own p = (same_bytes_decides p p).1 refl
 below_is_none : (p : Process) (ps : List Process) → list_all (λ q. is_lt (process_cmp p q)) ps ≡ true → is_in ps p ≡ false
 below_is_none p [] h = refl
 below_is_none p (q ∷ ps) h =
-    let parts = both (is_lt (process_cmp p q)) (list_all (λ q. is_lt (process_cmp p q)) ps) h in
-    ap (λ b. b || is_in ps p) (lt_differs (process_cmp p q) parts.0) ∙ below_is_none p ps parts.1
+    let parts = and_parts (is_lt (process_cmp p q)) (list_all (λ q. is_lt (process_cmp p q)) ps) h in
+    ap (λ b. b || is_in ps p) (less_differs (process_cmp p q) parts.0) ∙ below_is_none p ps parts.1
 
 -- a set with a member is not empty
 some_in : (s : ProcessSet) (p : Process) → set.contains s p ≡ true → 1 ≤ set.len s
@@ -46,21 +40,13 @@ some_in s p has =
     no : s ≡ set.empty → ⊥
     no e = let a : true ≡ false = sym has ∙ ap (λ x. set.contains x p) e ∙ set.contains-empty process_cmp p in cc
 
-and_right : (a b : Bool) → a ≡ true → b ≡ true → (a && b) ≡ true
-and_right true b h k = k
-and_right false b h k = cc
-
-not_false : (b : Bool) → b ≡ false → not b ≡ true
-not_false true h = cc
-not_false false h = refl
-
 -- an ascending list of members of a set is no longer than the set
 pub ascending_fit : (ss : List Process) (s : ProcessSet) → is_ascending ss ≡ true → ((q : Process) → is_in ss q ≡ true → set.contains s q ≡ true) → length ss ≤ set.len s
 ascending_fit [] s h k = omega arith
 ascending_fit (p ∷ ss) s h k =
-    let parts = both (list_all (λ q. is_lt (process_cmp p q)) ss) (is_ascending ss) h in
+    let parts = and_parts (list_all (λ q. is_lt (process_cmp p q)) ss) (is_ascending ss) h in
     let has : set.contains s p ≡ true = k p (ap (λ b. b || is_in ss p) (own p)) in
-    let rest = ascending_fit ss (set.remove s p) parts.1 (λ q at. set.contains-remove processes_total s p q ∙ and_right (not (same_bytes q p)) (set.contains s q) (not_false _ (apart q at)) (k q (later q at))) in
+    let rest = ascending_fit ss (set.remove s p) parts.1 (λ q at. set.contains-remove processes_total s p q ∙ and_from (not (same_bytes q p)) (set.contains s q) (not_from_false _ (apart q at)) (k q (later q at))) in
     let less : set.len (set.remove s p) ≡ set.len s - 1 = set.len-remove processes_total s p ∙ ap (λ b. cond b (set.len s - 1) (set.len s)) has in
     let some = some_in s p has in
     omega (arith, rest, less, some)
@@ -69,7 +55,7 @@ ascending_fit (p ∷ ss) s h k =
     apart q at =
         elim (same_bytes q p) as (λ b. same_bytes q p ≡ b → b ≡ false) [
           | true ↦ λ e. let same = (same_bytes_decides q p).0 e in
-              let none = below_is_none p ss (both _ _ h).0 in
+              let none = below_is_none p ss (and_parts _ _ h).0 in
               let some : is_in ss p ≡ true = subst (λ x. is_in ss x ≡ true) same at in
               cc
           | false ↦ λ e. refl
@@ -80,23 +66,16 @@ ascending_fit (p ∷ ss) s h k =
 
 -- ---- sets of the program
 
-flipped : (p q : Process) → same_bytes p q ≡ same_bytes q p
-flipped p q = (eq_by_cmp_equiv processes_total).symm p q
-
 if_true : (b c : Bool) → cond b true c ≡ (b || c)
 if_true true c = refl
 if_true false c = refl
-
-if_false : (b c : Bool) → cond b false c ≡ (not b && c)
-if_false true c = refl
-if_false false c = refl
 
 -- the keys after an insert are those of the set with the process
 pub insert_seen : (ks ns : List Process) (p : Process) → ((q : Process) → is_in ns q ≡ cond (same_bytes p q) true (is_in ks q)) → ◌≡◌ {A = ProcessSet} (set.from_list ns) (set.insert (set.from_list ks) p)
 insert_seen ks ns p h =
     set.same_set processes_total processes_exact _ _ (λ q.
     set.contains-from_list processes_total ns q ∙ h q ∙ if_true (same_bytes p q) (is_in ks q)
-    ∙ ap (λ b. b || is_in ks q) (flipped p q)
+    ∙ ap (λ b. b || is_in ks q) (same_turned p q)
     ∙ ap (λ b. same_bytes q p || b) (sym (set.contains-from_list processes_total ks q))
     ∙ sym (set.contains-insert processes_total (set.from_list ks) p q))
 
@@ -105,7 +84,7 @@ pub remove_seen : (ks ns : List Process) (p : Process) → ((q : Process) → is
 remove_seen ks ns p h =
     set.same_set processes_total processes_exact _ _ (λ q.
     set.contains-from_list processes_total ns q ∙ h q ∙ if_false (same_bytes p q) (is_in ks q)
-    ∙ ap (λ b. not b && is_in ks q) (flipped p q)
+    ∙ ap (λ b. not b && is_in ks q) (same_turned p q)
     ∙ ap (λ b. not (same_bytes q p) && b) (sym (set.contains-from_list processes_total ks q))
     ∙ sym (set.contains-remove processes_total (set.from_list ks) p q))
 

@@ -10,7 +10,8 @@ use Rattle.std.proofs.lemmas.Bool.{cases_lt}
 use Rattle.std.proofs.lemmas.List.Folds.{list_any_at}
 use Rattle.std.proofs.lemmas.List.Sorted.{ranks_by, sorted_far}
 use Rattle.rapid_rings.specs.Seats.{Seat, seat_cmp, same_seat, is_below, sits_between, Ascend, rank_before}
-use Rattle.rapid_rings.proofs.Rounds.{seats_total, same_seat_is, own_seat, turned, lt_not_back, none_below}
+use Rattle.rapid_rings.proofs.Rounds.{seats_total, same_seat_is, own_seat, turned, none_below}
+use Rattle.rapid_model.proofs.Logic.{less_differs, not_back}
 
 -- a seat of the list stands at some place
 pub somewhere : (xs : List Seat) (q : Seat) → list_any (same_seat q) xs ≡ true → (k : ℕ) × (k < length xs) × ((d : Seat) → get_or xs k d ≡ q)
@@ -35,20 +36,15 @@ Rise = AllPairs (λ x y. is_below x y ≡ true)
 
 pub rise_ascends : (xs : List Seat) → Rise xs → Ascend xs
 rise_ascends xs up k d z l =
-    ap is_lt (turned (get_or xs k d) (get_or xs (k + 1) d)) ∙ lt_not_back (seat_cmp (get_or xs k d) (get_or xs (k + 1) d)) (up k (k + 1) d (omega arith) l)
+    ap is_lt (turned (get_or xs k d) (get_or xs (k + 1) d)) ∙ not_back (seat_cmp (get_or xs k d) (get_or xs (k + 1) d)) (up k (k + 1) d (omega arith) l)
 
 -- a later seat is not below
 pub never_falls : (xs : List Seat) → Ascend xs → (i j : ℕ) (d : Seat) → i ≤ j → j < length xs → is_below (get_or xs j d) (get_or xs i d) ≡ false
 never_falls xs up = sorted_far is_below (ranks_by seats_total (λ (y : Seat). y)) xs up
 
-lt_apart : (o : Ordering) → is_lt o ≡ true → is_eq o ≡ false
-lt_apart Less h = refl
-lt_apart Equal h = cc
-lt_apart Greater h = cc
-
 -- two seats at two places
 pub rise_apart : (xs : List Seat) → Rise xs → (i j : ℕ) (d : Seat) → i < j → j < length xs → same_seat (get_or xs i d) (get_or xs j d) ≡ false
-rise_apart xs up i j d l m = lt_apart (seat_cmp (get_or xs i d) (get_or xs j d)) (up i j d l m)
+rise_apart xs up i j d l m = less_differs (seat_cmp (get_or xs i d) (get_or xs j d)) (up i j d l m)
 
 first_of_three : (a b c : Bool) → c ≡ false → a ≡ false → ((a && b) || (b && c) || (c && a)) ≡ false
 first_of_three false true false p h = refl
@@ -84,4 +80,4 @@ none_between xs s (suc c) d up some le low high q there =
     ]
   where
     not_after : is_below s (get_or xs c d) ≡ false
-    not_after = ap is_lt (turned (get_or xs c d) s) ∙ lt_not_back (seat_cmp (get_or xs c d) s) (low c (omega arith))
+    not_after = ap is_lt (turned (get_or xs c d) s) ∙ not_back (seat_cmp (get_or xs c d) s) (low c (omega arith))

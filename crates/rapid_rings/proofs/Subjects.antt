@@ -10,8 +10,8 @@ use Rattle.rapid_model.specs.Process.{Process, same_bytes, is_in}
 use Rattle.rapid_model.specs.Ring.{is_between, is_next_before, ring_observer}
 use Rattle.rapid_model.proofs.Orders.{same_bytes_decides}
 use Rattle.rapid_rings.specs.Seats.{Seat, seat_cmp, same_seat, seat, seats_of, is_below, sits_between, IsNextBefore, IsNextAfter}
-use Rattle.rapid_rings.proofs.Sets.{both}
-use Rattle.rapid_rings.proofs.Rounds.{same_seat_is, turned, only_one, contains-seats, seated, seats_have, found, not_found, not_true, apart, each_passes, observer_in_seat}
+use Rattle.rapid_rings.proofs.Rounds.{same_seat_is, turned, only_one, contains-seats, seated, seats_have, found, not_found, apart, each_passes, observer_in_seat}
+use Rattle.std.proofs.lemmas.Bool.{and_parts, not-true}
 
 rotated : (a b c : Bool) → (a || b || c) ≡ false → (b || c || a) ≡ false
 rotated true b c h = cc
@@ -75,10 +75,10 @@ subject_in_seat k ms o (Some x) there h =
 
     only : x ≡ seat k x.1 → is_in ms x.1 ≡ true → (m : Process) → is_in ms m ≡ true → ring_observer ms k m ≡ Some o → m ≡ x.1
     only e in_ring m at observed =
-        let parts = both (not (same_bytes o m)) (list_all (λ q. not (is_between k o q m)) ms) (passes_found (is_next_before ms k m) ms o observed) in
-        let free = not_true (is_between k o x.1 m) (each_passes (λ q. not (is_between k o q m)) ms x.1 parts.1 in_ring) in
+        let parts = and_parts (not (same_bytes o m)) (list_all (λ q. not (is_between k o q m)) ms) (passes_found (is_next_before ms k m) ms o observed) in
+        let free = not-true (is_between k o x.1 m) (each_passes (λ q. not (is_between k o q m)) ms x.1 parts.1 in_ring) in
         sym (ap (λ (y : Seat). y.1) (one_after (seat k o) (seat k x.1) (seat k m)
         (subst (λ y. same_seat y (seat k o) ≡ false) e h.1)
-        (turned_apart (seat k o) (seat k m) (apart k o m (not_true (same_bytes o m) parts.0)))
+        (turned_apart (seat k o) (seat k m) (apart k o m (not-true (same_bytes o m) parts.0)))
         free
         (subst (λ y. sits_between (seat k o) (seat k m) y ≡ false) e (h.2 (seat k m) (contains-seats k ms (seat k m) ∙ seats_have k ms m at)))))

@@ -14,17 +14,10 @@ use Rattle.rapid_model.specs.Table.{Table, TableFault, TooMany, TableEdges, IsTa
 use Rattle.rapid_model.proofs.Orders.{processes_total, processes_exact, reports_total, reports_exact, tie_decides, same_bytes_decides}
 use Rattle.rapid_rings.specs.Held.{Holds}
 use Rattle.rapid_rings.proofs.Sets.{ascending_fit}
+use Rattle.rapid_model.proofs.Logic.{or_swap, or_twice}
+use Rattle.std.proofs.lemmas.Bool.{le-ltb}
 
 -- ---- the subjects of edges
-
-or_twice : (a r : Bool) → (a || r) ≡ (a || (a || r))
-or_twice true r = refl
-or_twice false r = refl
-
-or_swap : (a b c : Bool) → (a || (b || c)) ≡ (b || (a || c))
-or_swap true true c = refl
-or_swap true false c = refl
-or_swap false b c = refl
 
 abbrev first_of : List (Report × Process) → List Process
 first_of es = map (λ (x : Report). x.0) (map (λ (e : Report × Process). e.0) es)
@@ -172,9 +165,6 @@ after_joiner-IsTable t joiner is =
     fewer true n r few e = omega (arith, few, e)
     fewer false n r few e = omega (arith, few, e)
 
-below_not : (k n : ℕ) → n ≤ k → nat_lt k n ≡ false
-below_not k n h = grind arith
-
 -- ---- the observers of a table
 
 -- a member that someone observes is an observed member
@@ -207,7 +197,7 @@ unfolding table_observers
 table-AreObservers t is =
     record {
       params = is.params;
-      none_beyond = λ k s h. ap (λ b. cond b (finmap.get t.edges (s, k)) None) (below_not k t.params.k h);
+      none_beyond = λ k s h. ap (λ b. cond b (finmap.get t.edges (s, k)) None) (le-ltb k t.params.k h);
       few = λ ss ascending h.
           let le = ascending_fit ss (observed_members t) ascending (λ q k. let m = each_of (λ s. IsTrue (not (set.contains t.joiners s)) × ((k : ℕ) × IsSome (cond (nat_lt k t.params.k) (finmap.get t.edges (s, k)) None))) ss q h k in observed-from_edge t q m.1.0 m.0 m.1.1) in
           omega (arith, le, is.few);

@@ -10,12 +10,13 @@ use Rattle.rapid_safety.proofs.Working.{MemberState, fresh_member, Says, current
 use Rattle.rapid_safety.proofs.Worlds.{Act, Ticked, World, Entry, Did, MarkedEvent, batch_in, taken_of, alerts_taken, was_unstable, is_tick, IsUnstableThrough, HasCause, IsEchoed, IsJustified, taken_by, result_on, results, sent, alerts_said, SentAlert, received, run, founded, AlertsJustified}
 use Rattle.rapid_safety.proofs.Atoms.{push, message, taken_in, IsIdle, Atom, marks, ignores, hears_batch, proposes, Lives, enters, does, leaves, IsMark, ticks, atom_me, HasReason, asked_to, went_down, wants_out, echoes, raises, flushes, AreOwn, lives_own, raise_goes}
 use Rattle.rapid_safety.proofs.Voting.{VoteKept, lives_vote, Said, body_of, said_body, mark_body}
-use Rattle.rapid_safety.proofs.Members.{some_is, of_flat, passes_filter}
+use Rattle.rapid_safety.proofs.Members.{of_flat, passes_filter}
 use Rattle.rapid_safety.proofs.Rows.{own_drop, own_first, items_back}
 use Rattle.rapid_safety.proofs.Histories.{acts_at, Lived}
 use Rattle.rapid_safety.proofs.Lived.{lived_run}
 use Rattle.rapid_safety.proofs.News.{from_acts, SaidIn, sent_said}
 use Rattle.rapid_safety.proofs.Speaking.{Asides, asides_run, spoken}
+use Rattle.std.proofs.lemmas.Option.{same_Some}
 
 -- the batches about a configuration among these messages
 abbrev pub batches_of : List ℕ → List Message → List (List Alert)
@@ -162,7 +163,7 @@ detector_hears acts heard s t from xs v k config is proposal =
         cut_of (observers_of s.config) (after_batch (observers_of s.config) s.detector (batch_alerts from (current_id s) xs)).direct ≡ Some u
     by u e (inl same) =
         ap (cut_of (observers_of s.config)) (closed_same (observers_of s.config) s.detector (batch_alerts from (current_id s) xs) (v.closes ∙ ap is_some (sym same ∙ e))) ∙ k.cut u (sym same ∙ e)
-    by u e (inr r) = cut_then (observers_of s.config) s.detector (batch_alerts from (current_id s) xs) r.0 r.2 ∙ ap Some (some_is (sym r.1 ∙ e))
+    by u e (inr r) = cut_then (observers_of s.config) s.detector (batch_alerts from (current_id s) xs) r.0 r.2 ∙ ap Some (same_Some _ _ (sym r.1 ∙ e))
 
 detector_kept : (acts : List Act) (heard : List Message) (s : MemberState) (a : Option Act) (m : Option Message) (t : MemberState) (d : Option Cut) → Atom acts heard s a m t d → VoteKept acts s → DetectorKept heard s → DetectorKept (push heard m) t
 detector_kept acts heard s _ _ _ _ (hears_batch from xs known e) v k = detector_hears acts heard s _ from xs v k refl refl (inl refl)

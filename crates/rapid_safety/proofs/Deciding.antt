@@ -12,10 +12,13 @@ use Rattle.rapid_model.proofs.Rounds.{hear_vote-heard, hear_vote-new, count_of-o
 use Rattle.rapid_agreement.proofs.SetLemmas.{of_insert, new_in, old_in, insert_known, len_new_kept}
 use Rattle.rapid_safety.specs.Evidence.{Evidence}
 use Rattle.rapid_safety.specs.Evidence as evidence
-use Rattle.rapid_safety.proofs.Members.{Distinct, count_cons, not_in, some_is, member_at, or_right, or_left, any_in}
+use Rattle.rapid_safety.proofs.Members.{Distinct, not_in, member_at}
 use Rattle.rapid_safety.proofs.Atoms.{casts, push, message, taken_in, Known, Atom, marks, hears_vote, Lives, enters, does, leaves, lives_placed, hears_notice, hears_decision, lives_config, lives_me}
 use Rattle.rapid_safety.proofs.Rows.{own_known}
 use Rattle.rapid_safety.proofs.Voting.{taken_more}
+use Rattle.std.proofs.lemmas.Bool.{leb-true, or_right, or_left}
+use Rattle.rapid_model.proofs.Lists.{count_cons, in_any}
+use Rattle.std.proofs.lemmas.Option.{same_Some}
 
 -- the process said something that passes
 abbrev pub says_it : {X : Type 0} → (X → Bool) → List (Process × X) → Process → Bool
@@ -54,7 +57,7 @@ backed {X} f members (r ∷ rs) once there = by (backed f members rs once.1 (λ 
     by v true e =
         let u = here true e in
         let w = count_more (says_it f rs) (says_it f (r ∷ rs)) members (λ x h. or_right _ _ h)
-        (any_in (λ x. says_it f (r ∷ rs) x && not (says_it f rs x)) members r.0 (there r (inl refl)) (and_from _ _ (says_so f (r ∷ rs) r (inl refl) e) (ap not (once.0 e)))) in
+        (in_any (λ x. says_it f (r ∷ rs) x && not (says_it f rs x)) members r.0 (there r (inl refl)) (and_from _ _ (says_so f (r ∷ rs) r (inl refl) e) (ap not (once.0 e)))) in
         omega arith
     by v false e =
         let u = here false e in
@@ -155,7 +158,7 @@ module _ (acts : List Act) (s : MemberState) (from : Process) (p : ℕ) (v : Cut
       false_from_ne_true _ (λ e.
       let r = said_it f k.votes from e in
       let q = k.placed (from, r.0) r.1 in
-      let same : q.0 ≡ p = some_is (sym q.1 ∙ at) in
+      let same : q.0 ≡ p = same_Some _ _ (sym q.1 ∙ at) in
       let wrong : true ≡ false = sym q.2 ∙ ap (set.contains s.fast.heard) same ∙ new in cc)
 
   abbrev new_round : FastRound
@@ -258,7 +261,7 @@ module _ (acts : List Act) (s : MemberState) (from : Process) (p : ℕ) (b : Bal
       let r = said_it (is_of a u) k.notes from e in
       let q = k.placed (from, r.0) r.1 in
       let one : r.0 ≡ (b, v) = of_is a u r.0 r.2 ∙ sym (of_is a u (b, v) is) in
-      let same : q.0 ≡ p = some_is (sym q.1 ∙ at) in
+      let same : q.0 ≡ p = same_Some _ _ (sym q.1 ∙ at) in
       let wrong : true ≡ false = sym q.2 ∙ (λ i. set.contains s.learner.notices (one i, same i)) ∙ new in cc)
 
   abbrev with_new : Learner
@@ -340,9 +343,6 @@ Decided acts s v = Evidence s.config s.me acts v
 classic_enough : (n k q : ℕ) → classic_size n ≤ k → k ≤ q → n < 2 * q
 classic_enough n k q h g = omega arith
 
-below_is : (m n : ℕ) → nat_le m n ≡ true → m ≤ n
-below_is m n e = Prim.grind arith
-
 -- the vote that decides completes a fast quorum
 deciding_vote : (s : MemberState) (p : ℕ) (v u : Cut) → fast_decision s.fast p v ≡ Some u → (v ≡ u) × (count_of (hear_vote s.fast p v).counts v ≡ fast_size s.fast.size)
 unfolding fast_decision
@@ -372,7 +372,7 @@ voted acts s v k full =
 
 deciding_notice : (s : MemberState) (p : ℕ) (b : Ballot) (v u : Cut) → learnt s.learner p b v ≡ Some u → (v ≡ u) × (classic_size s.learner.size ≤ notice_count (after_notice s.learner p b v).notices b v)
 unfolding learnt after_notice
-deciding_notice s p b v u h = let r = cond_some (completes_notices s.learner p b v) v u h in (r.1, below_is _ _ (and_parts _ _ r.0).1)
+deciding_notice s p b v u h = let r = cond_some (completes_notices s.learner p b v) v u h in (r.1, leb-true _ _ (and_parts _ _ r.0).1)
 
 noticed : (acts : List Act) (s : MemberState) (b : Ballot) (v : Cut) (n : ℕ) → NoticesKept acts s → n ≡ length s.config.members → classic_size n ≤ notice_count s.learner.notices b v → Decided acts s v
 noticed acts s b v n k same full =

@@ -3,9 +3,7 @@ use Rattle.std.proofs.Common.{◌≡◌, ◌<◌, ◌==◌, ℕ, Bool, true, ◌
 use Rattle.rapid_safety.proofs.Basics.{nat_lt, list_all, and_parts, eqb-true, AllPass-from_list_all}
 use Rattle.rapid_safety.proofs.Values.{Process, IsProcess, AreParams, AreMembers}
 use Rattle.rapid_safety.specs.Examples.{two}
-
-below : (m n : ℕ) → nat_lt m n ≡ true → m < n
-below m n e = grind arith
+use Rattle.std.proofs.lemmas.Bool.{ltb-true}
 
 -- the test that these bytes are those of a process
 abbrev is_process : Process → Bool
@@ -14,7 +12,7 @@ is_process p = length p == 22 && list_all (λ b. nat_lt b 256) p
 process_if : (p : Process) → is_process p ≡ true → IsProcess p
 process_if p h =
     let parts = and_parts _ _ h in
-    record { length = eqb-true _ _ parts.0; bytes = λ k d i. below _ _ (AllPass-from_list_all (λ b. nat_lt b 256) p parts.1 k d i) }
+    record { length = eqb-true _ _ parts.0; bytes = λ k d i. ltb-true _ _ (AllPass-from_list_all (λ b. nat_lt b 256) p parts.1 k d i) }
 
 pub params_fit : AreParams two.params
 params_fit = record { some = omega arith; below = omega arith; rings = omega arith; few = omega arith }

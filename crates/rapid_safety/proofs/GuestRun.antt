@@ -15,7 +15,8 @@ use Rattle.rapid_model.proofs.Closure.{least_closed}
 use Rattle.rapid_model.proofs.Rounds.{hear_vote-new, count_of-one_more}
 use Rattle.rapid_safety.specs.Examples.{other, host, guest, two, three, guest_asks, guest_run}
 use Rattle.rapid_safety.proofs.Atoms.{message}
-use Rattle.rapid_safety.proofs.Members.{count_cons, of_map, any_in}
+use Rattle.rapid_safety.proofs.Members.{of_map}
+use Rattle.rapid_model.proofs.Lists.{count_cons, in_any}
 
 -- ---- sets of one
 
@@ -38,7 +39,7 @@ module _ {K : Type 0} {R : K → K → Ordering} (o : IsTotalOrder R) (exact : s
 
   pub items_one : (k x : K) → In (set.items (set.insert (set.empty {R = R}) k)) x → x ≡ k
   items_one k x h =
-      by (eq_by_cmp R x k) refl (sym (contains_one k x) ∙ set.contains-items (set.insert (set.empty {R = R}) k) x ∙ any_in (eq_by_cmp R x) (set.items (set.insert (set.empty {R = R}) k)) x h (itself x))
+      by (eq_by_cmp R x k) refl (sym (contains_one k x) ∙ set.contains-items (set.insert (set.empty {R = R}) k) x ∙ in_any (eq_by_cmp R x) (set.items (set.insert (set.empty {R = R}) k)) x h (itself x))
     where
       by : (b : Bool) → eq_by_cmp R x k ≡ b → (b || false) ≡ true → x ≡ k
       by true e g = (tie_decides o exact x k).0 e

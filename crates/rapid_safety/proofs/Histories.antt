@@ -11,8 +11,8 @@ use Rattle.rapid_safety.proofs.Parts.{Edge, fresh_edge, edge_after, probed, HasD
 use Rattle.rapid_model.proofs.Edges.{down_is_stretch}
 use Rattle.rapid_safety.proofs.Atoms.{taken_in, Lives, marks, ticks, does, lives_me}
 use Rattle.rapid_safety.proofs.Steps.{StandsAt, Comes, by_tick, by_packet, by_probe, by_wish}
-use Rattle.rapid_safety.proofs.Members.{some_is}
 use Rattle.rapid_safety.proofs.NodeWorks.{Stepped, ticks_step, receive_step, probe_step, leave_step}
+use Rattle.std.proofs.lemmas.Option.{same_Some}
 
 -- what happened at p in c
 abbrev pub acts_at : List Entry → Process → Configuration → List Act
@@ -271,7 +271,7 @@ module _ (w : World) (old : Lived w) (i : ℕ) (p q : Peer) (at : StandsAt w i p
   place_next j a h =
       elim (set_get w.peers i j q a h) [
         | inl r ↦ (a, r, refl)
-        | inr r ↦ let is : p ≡ a = some_is (sym at ∙ subst (λ k. slice_get w.peers k ≡ Some a) r.0 h) in (q, r.1, same ∙ ap (λ (x : Peer). x.node.me) is)
+        | inr r ↦ let is : p ≡ a = same_Some _ _ (sym at ∙ subst (λ k. slice_get w.peers k ≡ Some a) r.0 h) in (q, r.1, same ∙ ap (λ (x : Peer). x.node.me) is)
       ]
 
   known_next : (e : Entry) → In next.log e → (j : ℕ) × (b : Peer) × (StandsAt next j b) × (b.node.me ≡ e.who)

@@ -7,10 +7,10 @@ use Rattle.rapid_safety.proofs.Basics.{count_by, and_from, map-append, In, in_fr
 use Rattle.rapid_safety.proofs.Values.{Cut, Configuration, configuration_id, apply, Ballot, Accept}
 use Rattle.rapid_safety.proofs.Working.{Destination, Says}
 use Rattle.rapid_safety.proofs.Worlds.{World, Did, Entry, installs, asks_at, is_asked_in, AcceptsOnce, AsksOnce, IsAgreed, InstallsRise, RunHolds, line_from}
-use Rattle.rapid_safety.proofs.Members.{count_cons}
 use Rattle.rapid_safety.proofs.Lived.{apply_height}
 use Rattle.rapid_safety.proofs.News.{from_acts}
 use Rattle.rapid_safety.proofs.Histories.{acts_at, same_configuration_decides}
+use Rattle.rapid_model.proofs.Lists.{count_cons}
 
 -- ---- one Accept at most goes out at a ballot, so one cut at most is asked
 

@@ -8,9 +8,12 @@ use Rattle.rapid_safety.proofs.Worlds.{World, Peer, Act, Probed, Installed, HasH
 use Rattle.rapid_model.specs.Node as node
 use Rattle.rapid_safety.proofs.Atoms.{taken_in, message, marks, Lives, enters, does, lives_config}
 use Rattle.rapid_safety.proofs.NodeWorks.{length-push, not_below, below_next, Stepped, goes_on, installs}
-use Rattle.rapid_safety.proofs.Members.{position_in, not_below_itself, some_is, or_right}
+use Rattle.rapid_safety.proofs.Members.{position_in, not_below_itself}
 use Rattle.rapid_safety.proofs.Histories.{acts_at, acts_here, acts_elsewhere, here_from, elsewhere, get_push, push_get, Sees, sees_next, windows_fresh, windows_seen, Bare, NodeNow, PastLife, was_not, was, Lived, lived_next, now_same, results_in, no_results, window_after, now_member, results_acts, Met, meets, comes_steps, halts_life}
 use Rattle.rapid_safety.proofs.Steps.{StandsAt, Comes, by_tick, by_packet, by_probe, by_wish, Steps, stays, starts, notes, stops, moves, ends, run_keeps}
+use Rattle.rapid_model.proofs.Lists.{all_at}
+use Rattle.std.proofs.lemmas.Option.{same_Some}
+use Rattle.std.proofs.lemmas.Bool.{or_right}
 
 -- ---- what a step makes of a node that is no member
 
@@ -65,7 +68,7 @@ stays_out_of n (Removed c) node.Tick o out at h = let g : Some (idle n) ≡ Some
 stays_out_of n (Removed c) node.Leave o out at h = let g : Some (idle n) ≡ Some o = subst (λ (x : Phase). step_leave n x ≡ Some o) at h in cc
 stays_out_of n (Removed c) (Receive m) o out at h =
     let g = subst (λ (x : Phase). step_receive n x m ≡ Some o) at h in
-    ap (λ (x : Outcome). x.node) (sym (some_is g))
+    ap (λ (x : Outcome). x.node) (sym (same_Some _ _ g))
 stays_out_of n (Halted c) (EdgeDown id k p) o out at h = let g : Some (idle n) ≡ Some o = subst (λ (x : Phase). step_edge_down n x id k p ≡ Some o) at h in cc
 stays_out_of n (Halted c) node.Tick o out at h = let g : Some (idle n) ≡ Some o = subst (λ (x : Phase). step_tick n x ≡ Some o) at h in cc
 stays_out_of n (Halted c) node.Leave o out at h = let g : Some (idle n) ≡ Some o = subst (λ (x : Phase). step_leave n x ≡ Some o) at h in cc
@@ -106,7 +109,7 @@ goes_now log n s t xs edges heard member life sync fresh windows sees =
       sync = subst (λ d. heard ≡ taken_in me (acts_at new me d)) e (sync ∙ ap (taken_in me) (sym here));
       fresh = λ d above.
           let up : s.config.height < d.height = subst (λ x. x.height < d.height) (sym e) above in
-          acts_elsewhere log me d n xs (elsewhere me d n (λ _ h. let same : s.config ≡ d = some_is (sym (ap member_config member) ∙ h) in let x : d.height < d.height = subst (λ (y : Configuration). y.height < d.height) same up in omega arith))
+          acts_elsewhere log me d n xs (elsewhere me d n (λ _ h. let same : s.config ≡ d = same_Some _ _ (sym (ap member_config member) ∙ h) in let x : d.height < d.height = subst (λ (y : Configuration). y.height < d.height) same up in omega arith))
           ∙ fresh d up;
       windows = λ k. subst (λ d. edge_on edges k ≡ edge_after fresh_edge (results_in k (acts_at new me d))) e (windows k ∙ ap (λ a. edge_after fresh_edge (results_in k a)) (sym here));
       sees = subst (λ d. Sees d me edges) e sees;
@@ -116,7 +119,7 @@ goes_now log n s t xs edges heard member life sync fresh windows sees =
 past_now : (log : List Entry) (n : Node) (s t : MemberState) (d : Option Cut) (xs : List Act) (heard : List Message) → n.phase ≡ Member s →
     Lives s.config n.me (acts_at log n.me s.config ++ xs) heard t d → (c : Configuration) → member_in n ≡ Some c → PastLife (log ++ map (entry n) xs) n.me c
 past_now log n s t d xs heard member life c in_c =
-    let same : s.config ≡ c = some_is (sym (ap member_config member) ∙ in_c) in
+    let same : s.config ≡ c = same_Some _ _ (sym (ap member_config member) ∙ in_c) in
     subst (PastLife (log ++ map (entry n) xs) n.me) same
     (was heard t d (subst (λ a. Lives s.config n.me a heard t d) (sym (acts_here log n.me s.config n xs (here_from s.config n (ap member_config member)))) life))
 
@@ -196,7 +199,7 @@ stepped_now log p before s xs _ member met windows (installs heard t v life full
 
     none_above : (d : Configuration) → s.config.height < d.height → acts_at (log ++ map (entry p.node) xs) p.node.me d ≡ []
     none_above d up =
-        acts_elsewhere log p.node.me d p.node xs (elsewhere p.node.me d p.node (λ _ h. let same : s.config ≡ d = some_is (sym (ap member_config member) ∙ h) in let x : d.height < d.height = subst (λ (y : Configuration). y.height < d.height) same up in omega arith))
+        acts_elsewhere log p.node.me d p.node xs (elsewhere p.node.me d p.node (λ _ h. let same : s.config ≡ d = same_Some _ _ (sym (ap member_config member) ∙ h) in let x : d.height < d.height = subst (λ (y : Configuration). y.height < d.height) same up in omega arith))
         ∙ met.fresh d up
 
     never : (b : Bool) (j : Joiner) → cond b (Member (fresh_member (apply s.config v) p.node.me)) (Removed (apply s.config v)) ≡ Joining j → ⊥
@@ -285,7 +288,7 @@ module _ (w : World) (old : Lived w) where
 
   none_has : {A : Type 0} (f : A → Bool) (xs : List A) (i : ℕ) (x : A) → list_any f xs ≡ false → slice_get xs i ≡ Some x → f x ≡ false
   none_has f [] i x e h = cc
-  none_has f (y ∷ ys) zero x e h = sym (ap (λ z. f z) (some_is h)) ∙ (or_parts (f y) (list_any f ys) e).0
+  none_has f (y ∷ ys) zero x e h = sym (ap (λ z. f z) (same_Some _ _ h)) ∙ (or_parts (f y) (list_any f ys) e).0
   none_has f (y ∷ ys) (suc i) x e h = none_has f ys i x (or_parts (f y) (list_any f ys) e).1 h
 
   module _ (p : Process) (seed : List ℕ) (r : refusal w (Start p seed) ≡ None) where
@@ -339,24 +342,19 @@ lived_kept w _ (ends i p at) old = crashed_lived w old i p at
 
 pub get_map : {A B : Type 0} (f : A → B) (xs : List A) (i : ℕ) (y : B) → slice_get (map f xs) i ≡ Some y → (x : A) × (slice_get xs i ≡ Some x) × (y ≡ f x)
 get_map f [] i y h = cc
-get_map f (x ∷ xs) zero y h = (x, refl, sym (some_is h))
+get_map f (x ∷ xs) zero y h = (x, refl, sym (same_Some _ _ h))
 get_map f (x ∷ xs) (suc i) y h = get_map f xs i y h
-
-all_at : {A : Type 0} (f : A → Bool) (xs : List A) (i : ℕ) (x : A) → list_all f xs ≡ true → slice_get xs i ≡ Some x → f x ≡ true
-all_at f [] i x e h = cc
-all_at f (y ∷ ys) zero x e h = subst (λ z. f z ≡ true) (some_is h) (and_parts _ _ e).0
-all_at f (y ∷ ys) (suc i) x e h = all_at f ys i x (and_parts _ _ e).1 h
 
 pub apart_names : (ms : List Process) (i j : ℕ) (a b : Process) → identifiers_ascend ms ≡ true → slice_get ms i ≡ Some a → slice_get ms j ≡ Some b → identifier a ≡ identifier b → i ≡ j
 apart_names [] i j a b asc ha hb e = cc
 apart_names (m ∷ ms) zero zero a b asc ha hb e = refl
-apart_names (m ∷ ms) zero (suc j) a b asc ha hb e = absurd (not_below_itself (identifier m) (identifier b) (ap identifier (some_is ha) ∙ e) (all_at (λ q. is_lt (bytes_cmp (identifier m) (identifier q))) ms j b (and_parts _ _ asc).0 hb))
-apart_names (m ∷ ms) (suc i) zero a b asc ha hb e = absurd (not_below_itself (identifier m) (identifier a) (ap identifier (some_is hb) ∙ sym e) (all_at (λ q. is_lt (bytes_cmp (identifier m) (identifier q))) ms i a (and_parts _ _ asc).0 ha))
+apart_names (m ∷ ms) zero (suc j) a b asc ha hb e = absurd (not_below_itself (identifier m) (identifier b) (ap identifier (same_Some _ _ ha) ∙ e) (all_at (λ q. is_lt (bytes_cmp (identifier m) (identifier q))) ms j b (and_parts _ _ asc).0 hb))
+apart_names (m ∷ ms) (suc i) zero a b asc ha hb e = absurd (not_below_itself (identifier m) (identifier a) (ap identifier (same_Some _ _ hb) ∙ sym e) (all_at (λ q. is_lt (bytes_cmp (identifier m) (identifier q))) ms i a (and_parts _ _ asc).0 ha))
 apart_names (m ∷ ms) (suc i) (suc j) a b asc ha hb e = ap suc (apart_names ms i j a b (and_parts _ _ asc).1 ha hb e)
 
 is_member_at : (ms : List Process) (i : ℕ) (a : Process) → slice_get ms i ≡ Some a → is_in ms a ≡ true
 is_member_at [] i a h = cc
-is_member_at (m ∷ ms) zero a h = ap (λ b. b || list_any (same_bytes a) ms) ((same_bytes_decides a m).1 (sym (some_is h)))
+is_member_at (m ∷ ms) zero a h = ap (λ b. b || list_any (same_bytes a) ms) ((same_bytes_decides a m).1 (sym (same_Some _ _ h)))
 is_member_at (m ∷ ms) (suc i) a h = or_right (same_bytes a m) _ (is_member_at ms i a h)
 
 opening_acts : (c : Configuration) (ms : List Process) (me : Process) (d : Configuration) → acts_at (map (λ p. record { who = p; at = None; act = Installed c }) ms) me d ≡ []

@@ -3,28 +3,10 @@ use Rattle.std.proofs.Common.{◌≡◌, ◌≤◌, ◌<◌, ◌+◌, ◌⊎◌,
 use Rattle.rapid_safety.proofs.Basics.{position, get_or, slice_get, nat_lt, flat_map, tied_itself, list_any, list_all, position_or_len, range_with_len, is_lt, and_parts, false_from_ne_true, cond_both, not-true, or_parts, position-Some, sum_by-cons, slice_get-get_or, In, in_split, same_bytes_decides, processes_total}
 use Rattle.rapid_safety.proofs.Values.{Process, identifier, bytes_cmp, process_cmp, same_bytes, is_in, same_identifier, same_endpoint, Cut, Configuration, identifiers_ascend, collides, insert_process, with_joiners, apply}
 use Rattle.rapid_safety.proofs.Working.{place}
-
-pub some_is : {A : Type 0} {x y : A} → Some x ≡ Some y → x ≡ y
-some_is e = cc
-
-false_unless : (b : Bool) → (b ≡ true → ⊥) → b ≡ false
-false_unless true f = absurd (f refl)
-false_unless false f = refl
-
-or_cases : (a b : Bool) → (a || b) ≡ true → (a ≡ true) ⊎ (b ≡ true)
-or_cases true b h = inl refl
-or_cases false b h = inr h
-
-pub or_left : (a b : Bool) → a ≡ true → (a || b) ≡ true
-or_left true b h = refl
-or_left false b h = cc
-
-pub or_right : (a b : Bool) → b ≡ true → (a || b) ≡ true
-or_right true b h = refl
-or_right false b h = h
-
-true_false : {P : Type 0} (b : Bool) → b ≡ true → b ≡ false → P
-true_false b h g = let wrong : true ≡ false = sym h ∙ g in cc
+use Rattle.rapid_model.proofs.Logic.{not_both}
+use Rattle.rapid_model.proofs.Lists.{all_in, count_cons}
+use Rattle.rapid_model.proofs.Among.{among_is}
+use Rattle.std.proofs.lemmas.Bool.{or_cases, or_left, or_right, lt-ltb}
 
 pub of_map : {A B : Type 0} (f : A → B) (xs : List A) (y : B) → In (map f xs) y → (x : A) × In xs x × (f x ≡ y)
 of_map f [] y h = absurd h
@@ -41,18 +23,10 @@ passes_filter f (x ∷ xs) q h =
     cond_both (f x) (x ∷ filter f xs) (filter f xs) (λ l. In l q → f q ≡ true)
     (λ e i. elim i [ inl s ↦ subst (λ z. f z ≡ true) s e | inr j ↦ passes_filter f xs q j ]) (λ e. passes_filter f xs q) h
 
-pub any_in : {K : Type 0} (f : K → Bool) (xs : List K) (x : K) → In xs x → f x ≡ true → list_any f xs ≡ true
-any_in f [] x i h = absurd i
-any_in f (y ∷ ys) x (inl e) h = ap (λ b. b || list_any f ys) (ap f e ∙ h)
-any_in f (y ∷ ys) x (inr i) h = or_right (f y) (list_any f ys) (any_in f ys x i h)
-
 -- the members differ
 abbrev pub Distinct : List Process → Type 0
 Distinct [] = Unit {0}
 Distinct (p ∷ ps) = (is_in ps p ≡ false) × Distinct ps
-
-pub count_cons : {A : Type 0} (p : A → Bool) (x : A) (xs : List A) → count_by p (x ∷ xs) ≡ cond (p x) 1 0 + count_by p xs
-count_cons p x xs = sum_by-cons (λ y. cond (p y) 1 0) x xs
 
 pub not_in : (ps : List Process) (p : Process) → is_in ps p ≡ false → In ps p → ⊥
 not_in [] p h i = i
@@ -101,11 +75,8 @@ within p (x ∷ xs) e = by (same_bytes p x) e (λ k. within p xs k)
     by true h f = omega arith
     by false h f = let g = f h in omega arith
 
-is_below_len : (m n : ℕ) → m < n → nat_lt m n ≡ true
-is_below_len m n h = Prim.grind arith
-
 place_is : (p : Process) (ps : List Process) → is_in ps p ≡ true → position (same_bytes p) ps ≡ Some (place_in p ps)
-place_is p ps h = ap (λ b. cond b (Some (place_in p ps)) None) (is_below_len (place_in p ps) (length ps) (within p ps h))
+place_is p ps h = ap (λ b. cond b (Some (place_in p ps)) None) (lt-ltb (place_in p ps) (length ps) (within p ps h))
 
 pub position_in : (p : Process) (ps : List Process) → is_in ps p ≡ true → (k : ℕ) × (position (same_bytes p) ps ≡ Some k)
 position_in p ps h = (place_in p ps, place_is p ps h)
@@ -124,15 +95,10 @@ places_from n (m ∷ ms) d =
     later p i true e = absurd (not_in ms m d.0 (subst (In ms) ((same_bytes_decides p m).0 e) i))
     later p i false e = ap (λ b. n + cond (not b) (1 + place_in p ms) 0) e ∙ omega arith
 
-pub in_is : (ps : List Process) (p : Process) → In ps p → is_in ps p ≡ true
-in_is [] p h = absurd h
-in_is (q ∷ ps) p (inl e) = ap (λ b. b || list_any (same_bytes p) ps) ((same_bytes_decides p q).1 (sym e))
-in_is (q ∷ ps) p (inr h) = or_right (same_bytes p q) _ (in_is ps p h)
-
 -- the places of members that differ are the positions
 pub places_are : (c : Configuration) → Distinct c.members → map (place c) c.members ≡ range_with_len 0 (length c.members)
 places_are c d =
-    map_same (place c) (λ p. 0 + place_in p c.members) c.members (λ p i. ap (λ o. unwrap_or o 0) (place_is p c.members (in_is c.members p i)) ∙ omega arith)
+    map_same (place c) (λ p. 0 + place_in p c.members) c.members (λ p i. ap (λ o. unwrap_or o 0) (place_is p c.members (among_is c.members p i)) ∙ omega arith)
     ∙ places_from 0 c.members d
 
 -- ---- a cut makes of members that differ members that differ
@@ -148,7 +114,7 @@ in_filtered f (m ∷ ms) q h = by (f m) h (in_filtered f ms q)
 distinct_filter : (f : Process → Bool) (ms : List Process) → Distinct ms → Distinct (filter f ms)
 distinct_filter f [] d = tt
 distinct_filter f (m ∷ ms) d =
-    cond_both (f m) (m ∷ filter f ms) (filter f ms) Distinct (λ e. (false_unless _ (λ h. true_false _ (in_filtered f ms m h) d.0), distinct_filter f ms d.1)) (λ e. distinct_filter f ms d.1)
+    cond_both (f m) (m ∷ filter f ms) (filter f ms) Distinct (λ e. (false_from_ne_true _ (λ h. not_both _ (in_filtered f ms m h) d.0), distinct_filter f ms d.1)) (λ e. distinct_filter f ms d.1)
 
 in_inserted : (j : Process) (ms : List Process) (q : Process) → is_in (insert_process j ms) q ≡ true → (q ≡ j) ⊎ (is_in ms q ≡ true)
 in_inserted j [] q h = elim (or_cases (same_bytes q j) false h) [ inl e ↦ inl ((same_bytes_decides q j).0 e) | inr e ↦ cc ]
@@ -163,14 +129,14 @@ distinct_insert j [] d h = (refl, tt)
 distinct_insert j (m ∷ ms) d h = by (is_lt (process_cmp j m)) (distinct_insert j ms d.1)
   where
     apart : same_bytes j m ≡ true → ⊥
-    apart e = true_false _ (or_left (same_bytes j m) (is_in ms j) e) h
+    apart e = not_both _ (or_left (same_bytes j m) (is_in ms j) e) h
 
     rest : is_in ms j ≡ false
-    rest = false_unless _ (λ e. true_false _ (or_right (same_bytes j m) (is_in ms j) e) h)
+    rest = false_from_ne_true _ (λ e. not_both _ (or_right (same_bytes j m) (is_in ms j) e) h)
 
     by : (b : Bool) → (is_in ms j ≡ false → Distinct (insert_process j ms)) → Distinct (cond b (j ∷ m ∷ ms) (m ∷ insert_process j ms))
     by true g = (h, d)
-    by false g = (false_unless _ (λ e. elim (in_inserted j ms m e) [ inl x ↦ apart ((same_bytes_decides j m).1 (sym x)) | inr x ↦ true_false _ x d.0 ]), g rest)
+    by false g = (false_from_ne_true _ (λ e. elim (in_inserted j ms m e) [ inl x ↦ apart ((same_bytes_decides j m).1 (sym x)) | inr x ↦ not_both _ x d.0 ]), g rest)
 
 collides_in : (ms : List Process) (j : Process) → is_in ms j ≡ true → collides ms j ≡ true
 collides_in [] j h = cc
@@ -185,7 +151,7 @@ distinct_joiners ms [] d = d
 distinct_joiners ms (j ∷ js) d = by (not (collides ms j) && nat_lt (length ms) 1024) refl (λ xs k. distinct_joiners xs js k)
   where
     by : (b : Bool) → (not (collides ms j) && nat_lt (length ms) 1024) ≡ b → ((xs : List Process) → Distinct xs → Distinct (with_joiners xs js)) → Distinct (cond b (with_joiners (insert_process j ms) js) (with_joiners ms js))
-    by true e f = f (insert_process j ms) (distinct_insert j ms d (false_unless _ (λ h. true_false _ (collides_in ms j h) (not-true _ (and_parts _ _ e).0))))
+    by true e f = f (insert_process j ms) (distinct_insert j ms d (false_from_ne_true _ (λ h. not_both _ (collides_in ms j h) (not-true _ (and_parts _ _ e).0))))
     by false e f = f ms d
 
 -- the members after a cut differ
@@ -205,11 +171,6 @@ in_of p (q ∷ ps) h = by (same_bytes p q) refl h (in_of p ps)
     by : (b : Bool) → same_bytes p q ≡ b → (b || list_any (same_bytes p) ps) ≡ true → (list_any (same_bytes p) ps ≡ true → In ps p) → In (q ∷ ps) p
     by true e k f = inl (sym ((same_bytes_decides p q).0 e))
     by false e k f = inr (f k)
-
-all_in : {A : Type 0} (f : A → Bool) (xs : List A) (x : A) → list_all f xs ≡ true → In xs x → f x ≡ true
-all_in f [] x h i = absurd i
-all_in f (y ∷ ys) x h (inl e) = subst (λ z. f z ≡ true) e (and_parts _ _ h).0
-all_in f (y ∷ ys) x h (inr i) = all_in f ys x (and_parts _ _ h).1 i
 
 pub founders_differ : (ms : List Process) → identifiers_ascend ms ≡ true → Distinct ms
 founders_differ [] h = tt

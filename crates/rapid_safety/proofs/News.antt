@@ -9,7 +9,8 @@ use Rattle.rapid_safety.specs.Received.{ReceivedWereSaid}
 use Rattle.rapid_safety.proofs.Atoms.{message, taken_in}
 use Rattle.rapid_safety.proofs.Steps.{Steps, stays, starts, notes, stops, moves, ends, run_keeps, StandsAt, Comes, by_tick, by_packet, by_probe, by_wish, log_grows}
 use Rattle.rapid_safety.proofs.Histories.{get_set, get_push, acts_at, of_option, same_configuration_decides}
-use Rattle.rapid_safety.proofs.Members.{of_map, some_is, of_flat}
+use Rattle.rapid_safety.proofs.Members.{of_map, of_flat}
+use Rattle.std.proofs.lemmas.Option.{same_Some}
 
 -- p said b, to somebody
 abbrev pub SaidIn : List Entry → Process → Body → Type 0
@@ -352,8 +353,8 @@ known_said w took p q c b h =
 
     own : (to : Destination) (d : Body) → Rattle.rapid_model.specs.History.own_word p to d ≡ Some (message q b) → (p ≡ q) × (d ≡ b)
     own (To e) d s = cc
-    own Others d s = let m = some_is s in (ap (λ (z : Message). z.sender) m, ap (λ (z : Message). z.body) m)
-    own Itself d s = let m = some_is s in (ap (λ (z : Message). z.sender) m, ap (λ (z : Message). z.body) m)
+    own Others d s = let m = same_Some _ _ s in (ap (λ (z : Message). z.sender) m, ap (λ (z : Message). z.body) m)
+    own Itself d s = let m = same_Some _ _ s in (ap (λ (z : Message). z.sender) m, ap (λ (z : Message). z.body) m)
 
     by : (a : Act) (e : Entry) → In w.log e → e.who ≡ p → e.act ≡ a → taken_by p a ≡ Some (message q b) → SaidIn w.log q b
     by (Took m) e i who act s = let same : m ≡ message q b = cc in subst (λ (z : Message). SaidIn w.log z.sender z.body) same (took e m i act)

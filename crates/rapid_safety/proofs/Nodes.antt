@@ -12,7 +12,8 @@ use Rattle.rapid_safety.proofs.Histories.{acts_at, Bare, Lived, comes_steps, get
 use Rattle.rapid_safety.proofs.Lived.{JoinerSteps, joins_still, joins, joiner_steps, stays_out_of, apply_height, get_map, not_theirs}
 use Rattle.rapid_safety.proofs.News.{SaidIn, PacketsSaid, Moves, came_said, come_stands, log_new, new_at}
 use Rattle.rapid_safety.proofs.Steps.{StandsAt, Comes, by_tick, by_packet, by_probe, by_wish, Steps, stays, starts, notes, stops, moves, ends, log_grows}
-use Rattle.rapid_safety.proofs.Members.{of_map, some_is, Distinct, not_in, founders_differ}
+use Rattle.rapid_safety.proofs.Members.{of_map, Distinct, not_in, founders_differ}
+use Rattle.std.proofs.lemmas.Option.{same_Some}
 
 -- the acts of the node in a configuration after the step, if it is a member there
 abbrev pub acts_then : (w v : World) → Moves w v → Configuration → List Act
@@ -107,7 +108,7 @@ of_installs [] p c h = absurd h
 of_installs (e ∷ log) p c h = by (same_bytes p e.who) refl h (of_installs log p c)
   where
     is_one : (a : Act) (d : Configuration) → installed_of a ≡ Some d → a ≡ Installed d
-    is_one (Installed x) d h = ap Installed (some_is h)
+    is_one (Installed x) d h = ap Installed (same_Some _ _ h)
     is_one a d h = cc
 
     pick : (o : Option Configuration) → installed_of e.act ≡ o → same_bytes p e.who ≡ true → In (cons_option o (installs_in log p)) c → (In (installs_in log p) c → (x : Entry) × In log x × (x.who ≡ p) × (x.act ≡ Installed c)) →
@@ -338,7 +339,7 @@ pub move_present : (w v : World) (m : Moves w v) (c : Configuration) → Present
 move_present w v m c k = let q = come_stands w m.place m.peer m.before m.event m.comes in subst (λ (n : Node). member_in n ≡ Some c → InstalledBy w.log n.me c) q.2 (k.now m.place q.0 c q.1)
 
 ends_in : (xs : List Configuration) (ph : Phase) → EndsIn xs ph → (c : Configuration) → member_config ph ≡ Some c → In xs c
-ends_in xs (Member s) h c e = subst (In xs) (some_is e) (subst (λ l. In l s.config) (sym h.1) (in_right h.0 (s.config ∷ []) s.config (inl refl)))
+ends_in xs (Member s) h c e = subst (In xs) (same_Some _ _ e) (subst (λ l. In l s.config) (sym h.1) (in_right h.0 (s.config ∷ []) s.config (inl refl)))
 ends_in xs x h c e = cc
 
 -- a member installed its configuration

@@ -12,7 +12,7 @@ use Rattle.rapid_agreement.proofs.SetLemmas.{new_in, old_in, insert_known, len_n
 use Rattle.rapid_safety.proofs.Atoms.{push, message, IsIdle, Atom, marks, votes_again, ignores, casts, hears_vote, hears_notice, hears_decision, Lives, enters, does, leaves, atom_config, lives_placed, taken_in, Known, lives_me}
 use Rattle.rapid_safety.proofs.Voting.{in_push}
 use Rattle.rapid_safety.proofs.Deciding.{notices_exact, is_of, of_is, no_notices, says_it, says_so, backed_by, lives_votes, lives_notices}
-use Rattle.rapid_safety.proofs.Members.{some_is, position_in, in_is, one_place, Distinct, count_cons, or_right}
+use Rattle.rapid_safety.proofs.Members.{position_in, one_place, Distinct}
 use Rattle.rapid_safety.proofs.Histories.{acts_at, now_member}
 use Rattle.rapid_safety.proofs.Lived.{lived_run}
 use Rattle.rapid_safety.proofs.News.{received_were_said}
@@ -21,6 +21,10 @@ use Rattle.rapid_safety.proofs.Told.{present_run}
 use Rattle.rapid_safety.proofs.Descent.{installed_distinct}
 use Rattle.rapid_safety.proofs.Rules.{installed_keeps_rules}
 use Rattle.rapid_safety.proofs.Steps.{StandsAt}
+use Rattle.std.proofs.lemmas.Option.{same_Some}
+use Rattle.rapid_model.proofs.Among.{among_is}
+use Rattle.rapid_model.proofs.Lists.{count_cons}
+use Rattle.std.proofs.lemmas.Bool.{or_right}
 
 not_itself : {A : Type 0} (id : List ℕ) → same_bytes id id ≡ false → A
 not_itself id h = let t = (same_bytes_decides id id).1 refl in let wrong : true ≡ false = sym t ∙ h in cc
@@ -53,18 +57,18 @@ vote_heard : (acts : List Act) (heard : List Message) (s : MemberState) (a : Opt
     Atom acts heard s a m t d → (from : Process) (v : Cut) (p : ℕ) → m ≡ Some (message from (FastVote (current_id s) v)) → position_of s.config from ≡ Some p → set.contains t.fast.heard p ≡ true
 vote_heard acts heard s _ _ _ _ mine own (marks x h) from v p e at = cc
 vote_heard acts heard s _ _ _ _ mine own (hears_vote q k u known there) from v p e at =
-    let who : q ≡ from = some_is (ap heard_sender e) in
-    let same : k ≡ p = some_is (sym there ∙ ap (position_of s.config) who ∙ at) in
+    let who : q ≡ from = same_Some _ _ (ap heard_sender e) in
+    let same : k ≡ p = same_Some _ _ (sym there ∙ ap (position_of s.config) who ∙ at) in
     subst (λ n. set.contains (hear_vote s.fast k u).heard n ≡ true) same (own_heard s.fast k u)
 vote_heard acts heard s _ _ _ _ mine own (casts u proposed ok) from v p e at =
-    let same : own_place s ≡ p = some_is (sym mine ∙ ap (position_of s.config) (some_is (ap heard_sender e)) ∙ at) in
+    let same : own_place s ≡ p = same_Some _ _ (sym mine ∙ ap (position_of s.config) (same_Some _ _ (ap heard_sender e)) ∙ at) in
     subst (λ n. set.contains (hear_vote s.fast (own_place s) u).heard n ≡ true) same (own_heard s.fast (own_place s) u)
 vote_heard acts heard s _ _ _ _ mine own (votes_again u voted proposed) from v p e at =
-    let same : own_place s ≡ p = some_is (sym mine ∙ ap (position_of s.config) (some_is (ap heard_sender e)) ∙ at) in
+    let same : own_place s ≡ p = same_Some _ _ (sym mine ∙ ap (position_of s.config) (same_Some _ _ (ap heard_sender e)) ∙ at) in
     subst (λ n. set.contains s.fast.heard n ≡ true) same (own voted)
 vote_heard acts heard s _ _ _ _ mine own (ignores q b known idle) from v p e at =
-    let who : q ≡ from = some_is (ap heard_sender e) in
-    let what : b ≡ FastVote (current_id s) v = some_is (ap heard_body e) in
+    let who : q ≡ from = same_Some _ _ (ap heard_sender e) in
+    let what : b ≡ FastVote (current_id s) v = same_Some _ _ (ap heard_body e) in
     let off : IsIdle s from (FastVote (current_id s) v) = subst (λ x. IsIdle s x (FastVote (current_id s) v)) who (subst (IsIdle s q) what idle) in
     elim off [ inl h ↦ not_itself (current_id s) h | inr h ↦ (let wrong : None ≡ Some p = sym h ∙ at in cc) ]
 vote_heard acts heard s _ _ _ _ mine own x from v p e at = let body = ap heard_body e in cc
@@ -83,17 +87,17 @@ notice_heard : (acts : List Act) (heard : List Message) (s : MemberState) (a : O
 unfolding after_notice
 notice_heard acts heard s _ _ _ _ (marks x h) from b v p e at = cc
 notice_heard acts heard s _ _ _ _ (hears_notice q k a u known there) from b v p e at =
-    let who : q ≡ from = some_is (ap heard_sender e) in
-    let body : Accepted (current_id s) a u ≡ Accepted (current_id s) b v = some_is (ap heard_body e) in
+    let who : q ≡ from = same_Some _ _ (ap heard_sender e) in
+    let body : Accepted (current_id s) a u ≡ Accepted (current_id s) b v = same_Some _ _ (ap heard_body e) in
     let ballot : a ≡ b = cc in
     let cut : u ≡ v = cc in
-    let same : k ≡ p = some_is (sym there ∙ ap (position_of s.config) who ∙ at) in
+    let same : k ≡ p = same_Some _ _ (sym there ∙ ap (position_of s.config) who ∙ at) in
     subst (λ n. set.contains (set.insert s.learner.notices ((a, u), k)) ((b, v), n) ≡ true) same
     (subst (λ x. set.contains (set.insert s.learner.notices ((a, u), k)) ((b, x), k) ≡ true) cut
     (subst (λ x. set.contains (set.insert s.learner.notices ((a, u), k)) ((x, u), k) ≡ true) ballot (new_in notices_total notices_exact s.learner.notices ((a, u), k))))
 notice_heard acts heard s _ _ _ _ (ignores q c known idle) from b v p e at =
-    let who : q ≡ from = some_is (ap heard_sender e) in
-    let what : c ≡ Accepted (current_id s) b v = some_is (ap heard_body e) in
+    let who : q ≡ from = same_Some _ _ (ap heard_sender e) in
+    let what : c ≡ Accepted (current_id s) b v = same_Some _ _ (ap heard_body e) in
     let off : IsIdle s from (Accepted (current_id s) b v) = subst (λ x. IsIdle s x (Accepted (current_id s) b v)) who (subst (IsIdle s q) what idle) in
     elim off [ inl h ↦ not_itself (current_id s) h | inr h ↦ (let wrong : None ≡ Some p = sym h ∙ at in cc) ]
 notice_heard acts heard s _ _ _ _ x from b v p e at = let body = ap heard_body e in cc
@@ -110,7 +114,7 @@ decision_heard : (acts : List Act) (heard : List Message) (s : MemberState) (a :
 decision_heard acts heard s _ _ _ _ (marks x h) none from v e = absurd (cc)
 decision_heard acts heard s _ _ _ _ (hears_decision q u known) none from v e = absurd (cc)
 decision_heard acts heard s _ _ _ _ (ignores q b known idle) none from v e =
-    let what : b ≡ Decision (current_id s) v = some_is (ap heard_body e) in
+    let what : b ≡ Decision (current_id s) v = same_Some _ _ (ap heard_body e) in
     not_itself (current_id s) (subst (IsIdle s q) what idle)
 decision_heard acts heard s _ _ _ _ x none from v e = let body = ap heard_body e in absurd (cc)
 
@@ -292,7 +296,7 @@ module _ (f : Configuration) (es : List MarkedEvent) (are : AreMembers f.members
   voter : (v : Cut) (a : Process) → In c.members a → Received (run es (founded f)) me c a (FastVote (configuration_id c) v) → says_it (λ u. same_cut u v) (lives_votes c me acts heard s None life).votes a ≡ true
   voter v a member h =
       let k = lives_votes c me acts heard s None life in
-      let at = position_in a c.members (in_is c.members a member) in
+      let at = position_in a c.members (among_is c.members a member) in
       let counted = (lives_hearing c me acts heard s None life refl).votes a v at.0 (was_heard a _ h) at.1 in
       let r = k.voter at.0 counted in
       let who : r.0.0 ≡ a = one_place r.0.0 a c.members at.0 r.2 at.1 in
@@ -311,7 +315,7 @@ module _ (f : Configuration) (es : List MarkedEvent) (are : AreMembers f.members
   giver : (b : Ballot) (v : Cut) (a : Process) → In c.members a → Received (run es (founded f)) me c a (Accepted (configuration_id c) b v) → says_it (is_of b v) (lives_notices c me acts heard s None life).notes a ≡ true
   giver b v a member h =
       let k = lives_notices c me acts heard s None life in
-      let at = position_in a c.members (in_is c.members a member) in
+      let at = position_in a c.members (among_is c.members a member) in
       let counted = (lives_hearing c me acts heard s None life refl).notices a b v at.0 (was_heard a _ h) at.1 in
       let r = k.giver (b, v) at.0 counted in
       let who : r.0 ≡ a = one_place r.0 a c.members at.0 r.2 at.1 in
@@ -346,7 +350,7 @@ decisions_are_prompt f es are apart p c there h running member =
     by at (Member s) is =
         let w = run es (founded f) in
         let m = now_member w (lived_run f es are) there.0 p s at is in
-        let same : c ≡ s.config = some_is (sym member ∙ ap member_config is) in
+        let same : c ≡ s.config = same_Some _ _ (sym member ∙ ap member_config is) in
         let r = (present_run f es are).now there.0 p s.config at (ap member_config is) in
         none_heard f es are apart p.node.me s m.heard m.life m.sync (was_installed w.log p.node.me s.config r) (subst (HeardDecision w p.node.me) same h)
     by at ph is = let wrong : None ≡ Some c = sym (ap member_config is) ∙ member in absurd (cc)

@@ -14,7 +14,7 @@ use Rattle.rapid_safety.specs.Examples.{second_ballot, other, host, guest, two, 
 use Rattle.rapid_safety.proofs.GuestRun.{v, id, t, q0, s7, m0, n2, n3, m2, vote, waiting, id_itself, subjects_none, first_vote_is, host_in, other_in, confirms_it, confirms_none, installed_by, j1, out, w6, asked_is, node_joins, installs_of, none_collide}
 use Rattle.rapid_safety.proofs.Deciding.{notices_exact}
 use Rattle.rapid_safety.proofs.Atoms.{message}
-use Rattle.rapid_safety.proofs.Members.{count_cons, any_in}
+use Rattle.rapid_model.proofs.Lists.{count_cons, in_any}
 
 -- ---- the promises
 
@@ -510,7 +510,7 @@ is_others m = same_bytes m.sender other && is_fast_vote m.body
 never_votes : (u : Cut) → Sent w14 other (FastVote id u) → ⊥
 unfolding ticks is_fast_vote
 never_votes u s =
-    let yes : list_any is_others (sent w14) ≡ true = any_in is_others (sent w14) (message other (FastVote id u)) (in_from (sent w14) _ s) refl in
+    let yes : list_any is_others (sent w14) ≡ true = in_any is_others (sent w14) (message other (FastVote id u)) (in_from (sent w14) _ s) refl in
     let wrong : true ≡ false = sym yes in cc
 
 -- a fast quorum of two is both
@@ -550,5 +550,5 @@ pub never_told : (p : Process) (i : List ℕ) (u : Cut) → Sent (run recovered_
 unfolding ticks is_decision
 never_told p i u =
     subst (λ w. Sent w p (Decision i u) → ⊥) (sym run_is)
-    (λ s. let yes : list_any (λ (m : Message). is_decision m.body) (sent w14) ≡ true = any_in (λ m. is_decision m.body) (sent w14) (message p (Decision i u)) (in_from (sent w14) _ s) refl in
+    (λ s. let yes : list_any (λ (m : Message). is_decision m.body) (sent w14) ≡ true = in_any (λ m. is_decision m.body) (sent w14) (message p (Decision i u)) (in_from (sent w14) _ s) refl in
     let wrong : true ≡ false = sym yes in cc)

@@ -12,7 +12,7 @@ use Rattle.rapid_agreement.proofs.Safety.{one_chosen, asked_excludes}
 use Rattle.rapid_safety.proofs.Atoms.{message, IsAside, taken_in, lives_member}
 use Rattle.rapid_safety.proofs.Histories.{acts_at, Lived}
 use Rattle.rapid_safety.proofs.Voting.{Said, lives_vote, VotedIn, AcceptorKept, lives_acceptor}
-use Rattle.rapid_safety.proofs.Members.{Distinct, member_at, one_place, position_in, in_is, places_are, of_map, some_is}
+use Rattle.rapid_safety.proofs.Members.{Distinct, member_at, one_place, position_in, places_are, of_map}
 use Rattle.rapid_safety.proofs.Asking.{Given, report_of, IsGiven, Grounds, LifeIn, life_of, asks_of, asked_once}
 use Rattle.rapid_safety.proofs.News.{TookSaid, from_acts, known_said, SaidIn, sent_said, said_sent, took_said, said_more}
 use Rattle.rapid_safety.proofs.Speaking.{Asides, lives_words, spoken, above_fast, asides_run}
@@ -21,6 +21,8 @@ use Rattle.rapid_safety.proofs.Nodes.{WasInstalled, was_installed}
 use Rattle.rapid_safety.proofs.Told.{present_run}
 use Rattle.rapid_safety.proofs.Steps.{steps, log_grows}
 use Rattle.rapid_safety.proofs.Descent.{installed_distinct}
+use Rattle.rapid_model.proofs.Among.{among_is}
+use Rattle.std.proofs.lemmas.Option.{same_Some}
 
 -- each configuration in which somebody did something was installed
 abbrev pub AtInstalled : World → Type 0
@@ -36,7 +38,7 @@ module _ (w : World) (lived : Lived w) (took : TookSaid w) (asides : Asides w) (
       let k = spoken w lived asides p b s off in
       let e = from_acts w.log p k.config (Did (Says k.said.0 b)) k.said.1 in
       let g = at_installed e.0 k.config e.1 e.3 in
-      subst (λ z. Said (acts_at w.log p z) b) (apart g.0 f k.config c (contains_from w.log g.0 g.1) (contains_from w.log f f_in) g.2 f_is (some_is (sym k.about ∙ about))) k.said
+      subst (λ z. Said (acts_at w.log p z) b) (apart g.0 f k.config c (contains_from w.log g.0 g.1) (contains_from w.log f f_in) g.2 f_is (same_Some _ _ (sym k.about ∙ about))) k.said
 
   sent_here : (p : Process) (b : Body) → Sent w p b → (IsAside b → ⊥) → caught_up_by b ≡ Some id → Said (acts_at w.log p c) b
   sent_here p b h = said_here p b (sent_said w.log p b (in_from (sent w) (message p b) h))
@@ -150,7 +152,7 @@ module _ (w : World) (lived : Lived w) (took : TookSaid w) (asides : Asides w) (
     -- who has the place of a member is it
     same_place : (q a : Process) (k : ℕ) → position_of c q ≡ Some k → Contains c.members a → place c q ≡ place c a → q ≡ a
     same_place q a k e there same =
-        let at = position_in a c.members (in_is c.members a (in_from c.members a there)) in
+        let at = position_in a c.members (among_is c.members a (in_from c.members a there)) in
         let here : place c a ≡ at.0 = ap (λ o. unwrap_or o 0) at.1 in
         let mine : place c q ≡ k = ap (λ o. unwrap_or o 0) e in
         one_place q a c.members k e (at.1 ∙ ap Some (sym here ∙ sym same ∙ mine))

@@ -9,13 +9,16 @@ use Rattle.rapid_safety.proofs.Parts.{accept_cut}
 use Rattle.rapid_agreement.proofs.Asking.{completes}
 use Rattle.rapid_safety.proofs.Atoms.{push, message, Known, IsMark, IsAside, Atom, marks, asks, accepts_cut, Lives, enters, does, leaves, taken_in, lives_member}
 use Rattle.rapid_safety.proofs.Voting.{Said, body_of, said_body, mark_body, taken_more}
-use Rattle.rapid_safety.proofs.Members.{of_map, some_is, member_at, in_is, one_place, count_cons, exists_counted}
+use Rattle.rapid_safety.proofs.Members.{of_map, member_at, one_place, exists_counted}
 use Rattle.rapid_safety.proofs.News.{said_new, TookSaid, to_acts, known_said, SaidIn, from_acts, sent_said}
 use Rattle.rapid_safety.proofs.Told.{all_say, IsTold, step_tells, present_run}
 use Rattle.rapid_safety.proofs.Steps.{Steps, run_keeps}
 use Rattle.rapid_safety.proofs.Histories.{acts_at, Lived, of_option, PastLife, was_not, was}
 use Rattle.rapid_safety.proofs.Asking.{LifeIn, life_of, asks_of, AskKept, lives_asks, new_one, asks_at_place}
 use Rattle.rapid_safety.proofs.Lived.{lived_run}
+use Rattle.std.proofs.lemmas.Option.{same_Some}
+use Rattle.rapid_model.proofs.Among.{among_is}
+use Rattle.rapid_model.proofs.Lists.{count_cons}
 
 -- ---- what is said of a vote is said by a member
 
@@ -111,14 +114,14 @@ module _ (w : World) (lived : Lived w) (took : TookSaid w) (asides : Asides w) (
   pub asked_above : (p : Process) → SaidIn w.log p (Accept id b v) → Before fast_ballot b
   asked_above p s =
       let k = spoken w lived asides p (Accept id b v) s (λ z. z) in
-      above_fast b ((asks_of w.log p k.config k.life).asked b v (subst (λ i. Said (acts_at w.log p k.config) (Accept i b v)) (some_is k.about) k.said)).from_two
+      above_fast b ((asks_of w.log p k.config k.life).asked b v (subst (λ i. Said (acts_at w.log p k.config) (Accept i b v)) (same_Some _ _ k.about) k.said)).from_two
 
   -- and accepted there
   pub accepted_above : (p : Process) → SaidIn w.log p (Accepted id b v) → Before fast_ballot b
   accepted_above p s =
       let k = spoken w lived asides p (Accepted id b v) s (λ z. z) in
       let l = k.life in
-      let same : id ≡ current_id l.state = some_is k.about ∙ ap configuration_id l.config in
+      let same : id ≡ current_id l.state = same_Some _ _ k.about ∙ ap configuration_id l.config in
       let a = (lives_words k.config p _ l.heard l.state l.decided l.life).asked b v (subst (λ i. Said (acts_at w.log p k.config) (Accepted i b v)) same k.said) in
       let known : In (taken_in p (acts_at w.log p k.config)) (message a.0 (Accept id b v)) =
       subst (λ x. In (taken_in x (acts_at w.log p k.config)) (message a.0 (Accept id b v))) (sym l.me) (subst (λ i. In (taken_in l.state.me (acts_at w.log p k.config)) (message a.0 (Accept i b v))) (sym same) a.1) in
@@ -150,8 +153,8 @@ members_speak c es are p id b h belongs =
     let e = from_acts w.log p d (Did (Says k.said.0 b)) k.said.1 in
     let was = (present_run c es are).at e.0 d e.1 e.3 in (
       d,
-      some_is (sym k.about ∙ carries b id belongs),
-      in_is d.members p (member_at p d.members place.0 place.1),
+      same_Some _ _ (sym k.about ∙ carries b id belongs),
+      among_is d.members p (member_at p d.members place.0 place.1),
       (was.0, contains_from w.log was.0 was.1, was.2 ∙ e.2, was.3),
       (k.said.0, contains_from (acts_in w p d) (Did (Says k.said.0 b)) k.said.1),
     )
@@ -168,7 +171,7 @@ words_are_of_members c es are e to b id h is belongs =
           let said : Said (acts_at w.log e.who d) b = (to, subst (In (acts_at w.log e.who d)) is (to_acts w.log e.who d e (in_from w.log e h) refl x.1)) in
           let l = life_of w.log e.who d b ((lived_run c es are).past e.who d) said in
           let own = (lives_words d e.who _ l.heard l.state l.decided l.life).ids b said (not_aside b id belongs) in
-          (d, x.1, ap configuration_id l.config ∙ some_is (sym own ∙ carries b id belongs))
+          (d, x.1, ap configuration_id l.config ∙ same_Some _ _ (sym own ∙ carries b id belongs))
     ]
 
 -- ---- at most one Accept a ballot goes out
@@ -217,7 +220,7 @@ first acts s words k p b vote v e = none_counted _ (λ some. let x = exists_coun
     no : (a : Act) → In acts a → (to : Destination) × (id : List ℕ) × (u : Cut) × (a ≡ Did (Says to (Accept id b u))) → ⊥
     no a i r =
         let said : Said acts (Accept r.1 b r.2) = (r.0, subst (In acts) r.3 i) in
-        let mine : r.1 ≡ current_id s = some_is (words.ids _ said (λ z. z)) in
+        let mine : r.1 ≡ current_id s = same_Some _ _ (words.ids _ said (λ z. z)) in
         let c = completes s.coordinator p b vote s.proposal v e in
         omega (arith, ((k.asked b r.2 (subst (λ id. Said acts (Accept id b r.2)) mine said)).enough (new_one s.coordinator p b c.0).0), c.1)
 
@@ -264,7 +267,7 @@ asker w lived c b e i asked =
     let r = asked_act e.act b parts.1 in
     let said : Said (acts_at w.log e.who c) (Accept r.1 b r.2) = (r.0, subst (In (acts_at w.log e.who c)) r.3 (to_acts w.log e.who c e i refl (of_option e.at c parts.0))) in
     let l = life_of w.log e.who c _ (lived.past e.who c) said in
-    let mine : r.1 ≡ configuration_id c = some_is ((lives_words c e.who _ l.heard l.state l.decided l.life).ids _ said (λ z. z)) ∙ ap configuration_id (sym l.config) in
+    let mine : r.1 ≡ configuration_id c = same_Some _ _ ((lives_words c e.who _ l.heard l.state l.decided l.life).ids _ said (λ z. z)) ∙ ap configuration_id (sym l.config) in
     asks_at_place w.log e.who c b r.2 l (subst (λ id. Said (acts_at w.log e.who c) (Accept id b r.2)) mine said)
 
 accepts_once : (w : World) → Lived w → AcceptsOnce w

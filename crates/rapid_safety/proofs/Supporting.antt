@@ -16,7 +16,7 @@ use Rattle.rapid_safety.proofs.Lived.{lived_founded, lived_kept, lived_run}
 use Rattle.rapid_safety.proofs.Voting.{lives_vote}
 use Rattle.rapid_safety.proofs.Alerts.{lives_detector, detector_taken, batches_of, taken_of-append, formed_all, observers_id, raised_in, justified}
 use Rattle.rapid_safety.proofs.Steps.{Comes, by_tick, by_packet, by_probe, by_wish, Steps, stays, starts, notes, stops, moves, ends, run_keeps}
-use Rattle.rapid_safety.proofs.Members.{some_is, member_at, in_is, in_of, or_left, or_right, exists_counted, of_flat, passes_filter}
+use Rattle.rapid_safety.proofs.Members.{member_at, in_of, exists_counted, of_flat, passes_filter}
 use Rattle.rapid_safety.proofs.News.{from_acts, received_were_said}
 use Rattle.rapid_safety.proofs.Speaking.{asides_run}
 use Rattle.rapid_safety.proofs.Nodes.{WasInstalled, was_installed}
@@ -24,6 +24,9 @@ use Rattle.rapid_safety.proofs.Told.{present_run}
 use Rattle.rapid_safety.proofs.Descent.{reached, descent_run}
 use Rattle.rapid_model.proofs.InOrder.{any_in_order}
 use Rattle.rapid_safety.specs.Cuts.{CutsAreWhole}
+use Rattle.rapid_model.proofs.Among.{cut_parts, among_is}
+use Rattle.std.proofs.lemmas.Bool.{leb-true, or_left, or_right}
+use Rattle.std.proofs.lemmas.Option.{same_Some}
 
 -- the first cut that was proposed in these acts
 abbrev pub first_cut : List Act → Option Cut
@@ -98,7 +101,7 @@ move_cut w lived i p before e o comes h c member v first = by p.node.phase refl
   where
     by : (ph : Phase) → p.node.phase ≡ ph → CutIn c p.node.me (acts_at w.log p.node.me c ++ acts_of before p.node o) v
     by (Member s) at =
-        let same : s.config ≡ c = some_is (sym (ap member_config at) ∙ member) in
+        let same : s.config ≡ c = same_Some _ _ (sym (ap member_config at) ∙ member) in
         let step = subst (λ x. Stepped x (acts_at w.log p.node.me x) p.node (acts_of before p.node o) o.node) same (comes_steps w lived i p before e s o comes at h) in
         stepped_cut c (acts_at w.log p.node.me c) p.node (acts_of before p.node o) o.node step v first
     by ph at = let wrong : None ≡ Some c = sym (ap member_config at) ∙ member in cc
@@ -188,9 +191,6 @@ module _ (t : Observers) (direct : Reports) (s : Process) where
     tally_low : tally t r s ≤ tally t direct s
     tally_low = count_mono (λ k. set.contains r (s, k)) (λ k. set.contains direct (s, k)) (rings t) (λ k h. only_direct k (least.least (fewer r) fewer_includes fewer_closed (s, k) h))
 
-yes : (a b : ℕ) → nat_le a b ≡ true → a ≤ b
-yes a b h = Prim.grind arith
-
 -- who has at least L reports has at least L direct ones
 low_direct : (t : Observers) → AreParams t.params → (direct : Reports) (s : Process) → t.params.l ≤ tally t (reports t direct) s → t.params.l ≤ tally t direct s
 low_direct t params direct s enough = by (nat_le t.params.l (tally t direct s)) refl
@@ -202,7 +202,7 @@ low_direct t params direct s enough = by (nat_le t.params.l (tally t direct s)) 
     wrong l a b x y z = omega arith
 
     by : (b : Bool) → nat_le t.params.l (tally t direct s) ≡ b → t.params.l ≤ tally t direct s
-    by true e = yes _ _ e
+    by true e = leb-true _ _ e
     by false e = let low = no _ _ e in absurd (wrong t.params.l _ _ enough (tally_low t direct s (reports t direct) (least_closed t direct params.some) low) low)
 
 pub stable_direct : (t : Observers) → AreParams t.params → (direct : Reports) (s : Process) → t.params.h ≤ tally t (reports t direct) s → t.params.l ≤ tally t direct s
@@ -229,14 +229,9 @@ is_kept f [] s i h = i
 is_kept f (x ∷ xs) s (inl same) h = subst (λ b. In (cond b (x ∷ filter f xs) (filter f xs)) s) (sym (ap f same ∙ h)) (inl same)
 is_kept f (x ∷ xs) s (inr j) h = cond_both (f x) (x ∷ filter f xs) (filter f xs) (λ l. In l s) (λ e. inr (is_kept f xs s j h)) (λ e. is_kept f xs s j h)
 
-cut_parts : (ss us : List Process) (v : Cut) → cut_if ss us ≡ Some v → (ss ≡ v) × (us ≡ []) × (v ≡ [] → ⊥)
-cut_parts [] us v e = cc
-cut_parts (x ∷ xs) [] v e = let same : x ∷ xs ≡ v = cc in (same, refl, λ none. let wrong : x ∷ xs ≡ [] = same ∙ none in cc)
-cut_parts (x ∷ xs) (u ∷ us) v e = cc
-
 -- each process of a cut is stable
 pub cut_stable : (t : Observers) (direct : Reports) (v : Cut) → cut_of t direct ≡ Some v → (s : Process) → In v s → t.params.h ≤ tally t (reports t direct) s
-cut_stable t direct v h s i = yes _ _ (passes_filter (is_stable t (reports t direct)) (subjects direct) s (subst (λ l. In l s) (sym (cut_parts (stable t direct) (unstable t direct) v h).0) i))
+cut_stable t direct v h s i = leb-true _ _ (passes_filter (is_stable t (reports t direct)) (subjects direct) s (subst (λ l. In l s) (sym (cut_parts (stable t direct) (unstable t direct) v h).0) i))
 
 pub cuts_are_whole : CutsAreWhole
 cuts_are_whole t alerts v params h =
@@ -261,7 +256,7 @@ cuts_are_whole t alerts v params h =
         in_of s (subjects direct) (reported_on direct s k.0 k.2)
 
     by : (s : Process) → t.params.l ≤ tally t (reports t direct) s → (b : Bool) → nat_le t.params.h (tally t (reports t direct) s) ≡ b → t.params.h ≤ tally t (reports t direct) s
-    by s low true e = yes _ _ e
+    by s low true e = leb-true _ _ e
     by s low false e =
         absurd (subst (λ l. In l s) parts.1 (is_kept (is_unstable t (reports t direct)) (subjects direct) s (subject s low)
         (and_from (nat_le t.params.l (tally t (reports t direct) s)) (nat_lt (tally t (reports t direct) s) t.params.h) (Prim.grind (arith, low)) (Prim.grind (arith, e)))))
@@ -330,7 +325,7 @@ some_act (a ∷ acts) v h = (a, inl refl)
 
 member_of : (log : List Entry) (p : Process) (c : Configuration) (a : Act) → In (acts_at log p c) a → PastLife log p c → is_member c p ≡ true
 member_of log p c a i (was_not none) = absurd (subst (λ l. In l a) none i)
-member_of log p c a i (was heard s d l) = let k = lives_member c p _ heard s d l in in_is c.members p (member_at p c.members k.0 k.1)
+member_of log p c a i (was heard s d l) = let k = lives_member c p _ heard s d l in among_is c.members p (member_at p c.members k.0 k.1)
 
 module _ (f : Configuration) (es : List MarkedEvent) (are : AreMembers f.members) (apart : NoCollision (run es (founded f))) (p : Process) (c : Configuration) (here : WasInstalled (run es (founded f)).log c) where
   -- an alert that was taken has a cause here

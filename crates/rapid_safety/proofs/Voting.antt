@@ -8,7 +8,7 @@ use Rattle.rapid_safety.proofs.Worlds.{World, Act, Did, Entry, first_of, propose
 use Rattle.rapid_model.proofs.Acceptors.{accepts-is}
 use Rattle.rapid_safety.proofs.Atoms.{push, taken_in, IsMark, IsAside, Atom, marks, votes_again, hears_batch, proposes, casts, Lives, enters, does, leaves, lives_config, promises, accepts_cut}
 use Rattle.rapid_safety.proofs.Histories.{acts_at, PastLife, was_not, was, Lived}
-use Rattle.rapid_safety.proofs.Members.{some_is}
+use Rattle.std.proofs.lemmas.Option.{same_Some}
 
 -- it was said, to somebody
 abbrev pub Said : List Act → Body → Type 0
@@ -150,7 +150,7 @@ votes_of_life log p c v u (was heard s d l) h g =
     let e : c ≡ s.config = sym (lives_config c p (acts_at log p c) heard s d l) in
     let a = k.for_it v (subst (λ x. Said (acts_at log p c) (FastVote (configuration_id x) v)) e h) in
     let b = k.for_it u (subst (λ x. Said (acts_at log p c) (FastVote (configuration_id x) u)) e g) in
-    some_is (sym a.1 ∙ b.1)
+    same_Some _ _ (sym a.1 ∙ b.1)
 
 pub votes_once : (w : World) → Lived w → VotesOnce w
 votes_once w lived c p v u h g = votes_of_life w.log p c v u (lived.past p c) (said_in w c p _ h) (said_in w c p _ g)
@@ -235,8 +235,8 @@ voted_kept id acts o s b u ok done new quiet k =
         | inl x ↦ let r = k.last a v x in (vote, refl, from_trans b s.rnd a low (from_trans s.rnd r.0.ballot a (k.bounded r.0 r.1) r.2))
         | inr x ↦ (vote, refl, subst (λ z. is_below b z ≡ false) (sym x.0) (from_itself b))
       ];
-      cast = λ x e. subst (λ (z : Vote Cut). VotedIn id (push acts o) z.ballot z.value) (some_is e) done;
-      bounded = λ x e. subst (λ (z : Vote Cut). is_below b z.ballot ≡ false) (some_is e) (from_itself b);
+      cast = λ x e. subst (λ (z : Vote Cut). VotedIn id (push acts o) z.ballot z.value) (same_Some _ _ e) done;
+      bounded = λ x e. subst (λ (z : Vote Cut). is_below b z.ballot ≡ false) (same_Some _ _ e) (from_itself b);
       held = λ c rep h. from_trans b s.rnd c low (k.held c rep (quiet c rep h));
       highest = λ c rep a v h g lower. elim (new a v g) [
         | inl x ↦ k.highest c rep a v (quiet c rep h) x lower
@@ -307,7 +307,7 @@ atom_kept acts heard s _ _ _ _ (marks a h) v k = quiet_kept (current_id s) acts 
 atom_kept acts heard s _ _ _ _ (votes_again u voted own) v k =
     let o : Option Act = Some (Did (Says Others (FastVote (current_id s) u))) in
     let c = v.cast voted in
-    let same : c.0 ≡ u = some_is (sym c.1 ∙ own) in
+    let same : c.0 ≡ u = same_Some _ _ (sym c.1 ∙ own) in
     quiet_kept (current_id s) acts o s.acceptor
     (quiet_by (current_id s) acts o (λ z e. let is : u ≡ z = cc in subst (λ y. Said acts (FastVote (current_id s) y)) (same ∙ is) c.2) (λ b z e. cc) (λ b r e. cc)) k
 atom_kept acts heard s _ _ _ _ (casts u own ok) v k =

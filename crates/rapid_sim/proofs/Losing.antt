@@ -15,6 +15,7 @@ use Rattle.rapid_model.specs.Run.{run, founded}
 use Rattle.rapid_model.specs.StoredWorld.{StoredWorld, world_of}
 use Rattle.rapid_model.specs.SimText.{observes_on, is_observed_under, failing, losing}
 use Rattle.rapid_sim.specs.Losing.{failing_where, losing_by}
+use Rattle.rapid_model.proofs.Lists.{range_push}
 
 -- Whether the process, if there is one, has the identifier.
 abbrev pub has : List ℕ → Option Process → Bool
@@ -30,12 +31,6 @@ observes id None k = refl
 observes id (Some p) k = by_peer id (observed p k)
 
 -- ---- rings
-
-range_push : (a n : ℕ) → range_with_len a (n + 1) ≡ range_with_len a n ++ (a + n) ∷ []
-range_push a zero = let e : a + 0 ≡ a = omega arith in rw e refl
-range_push a (suc n) =
-    let e : (a + 1) + n ≡ a + suc n = omega arith in
-    rw add-one (ap (λ xs. a ∷ xs) (ap (range_with_len (a + 1)) (sym (add-one n)) ∙ range_push (a + 1) n ∙ ap (λ m. range_with_len (a + 1) n ++ m ∷ []) e))
 
 passing : {A : Type 0} (f : ℕ → List A) (p : ℕ → Bool) (xs : List ℕ) (k : ℕ) → flat_map f (filter p (xs ++ k ∷ [])) ≡ flat_map f (filter p xs) ++ cond (p k) (f k) []
 passing f p [] k = by (p k)

@@ -8,6 +8,7 @@ use Rattle.std.specs.Cmp.{eq_by_cmp_equiv, unsigned_tied}
 use Rattle.std.specs.FinSet.{contains-insert, contains-remove, contains-union, contains-from_list, contains-from_list_nat, same_set, nat_cmp-IsAntisymmetric}
 use Rattle.std.specs.Ordering.{nat_cmp, eq_by_cmp}
 use Rattle.rapid_sim.specs.Settling.{settled_by, HasGap}
+use Rattle.rapid_model.proofs.Logic.{or_swap, if_false}
 
 -- A number is one of a range.
 in_range : (a n q : ℕ) → list_any (λ y. nat_eq y q) (range_with_len a n) ≡ (nat_le a q && nat_lt q (a + n))
@@ -19,18 +20,9 @@ pub is_settled : (n : ℕ) (s : set.FinSet nat_cmp) (q : ℕ) → set.contains (
 unfolding settled_by
 is_settled n s q = contains-union nat_cmp_total (set.from_list (range_with_len 1 n)) s q ∙ ap (λ b. b || set.contains s q) (contains-from_list_nat (range_with_len 1 n) q ∙ in_range 1 n q)
 
-or_swaps : (a b c : Bool) → (a || (b || c)) ≡ (b || (a || c))
-or_swaps true true c = refl
-or_swaps true false c = refl
-or_swaps false b c = refl
-
 if_true : (b x : Bool) → cond b true x ≡ (b || x)
 if_true true x = refl
 if_true false x = refl
-
-if_false : (b x : Bool) → cond b false x ≡ (not b && x)
-if_false true x = refl
-if_false false x = refl
 
 -- ---- a set of numbers
 
@@ -86,7 +78,7 @@ pub settled_above : (n p : ℕ) (s : set.FinSet nat_cmp) → settled_by n (set.i
 settled_above n p s =
     same_numbers _ _ (λ q.
     is_settled n (set.insert s p) q ∙ ap (λ b. (nat_le 1 q && nat_lt q (1 + n)) || b) (inserted s p q)
-    ∙ or_swaps (nat_le 1 q && nat_lt q (1 + n)) (nat_eq q p) (set.contains s q)
+    ∙ or_swap (nat_le 1 q && nat_lt q (1 + n)) (nat_eq q p) (set.contains s q)
     ∙ ap (λ b. nat_eq q p || b) (sym (is_settled n s q)) ∙ sym (inserted (settled_by n s) p q))
 
 -- It is the next.

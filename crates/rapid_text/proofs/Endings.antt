@@ -6,19 +6,15 @@ use Rattle.std.specs.Io.BufRead.{drop_through}
 use Rattle.rapid_model.specs.EndpointText.{in_front}
 use Rattle.rapid_model.specs.Lines.{line_feed, carriage_return, ends_here, lines}
 use Rattle.rapid_text.specs.Endings.{has_no_end, without_return}
+use Rattle.std.proofs.lemmas.Bool.{and_parts}
 
 -- ---- bytes in which no line ends
 
-both_true : (a b : Bool) → (a && b) ≡ true → (a ≡ true) × (b ≡ true)
-both_true true true e = (refl, refl)
-both_true true false e = absurd cc
-both_true false b e = absurd cc
-
 pub no_end_tail : (x : ℕ) (xs : List ℕ) → has_no_end (x ∷ xs) ≡ true → has_no_end xs ≡ true
-no_end_tail x xs h = (both_true _ _ h).1
+no_end_tail x xs h = (and_parts _ _ h).1
 
 pub no_end_head : (x : ℕ) (xs : List ℕ) → has_no_end (x ∷ xs) ≡ true → (x == line_feed) ≡ false
-no_end_head x xs h = at (x == line_feed) (both_true _ _ h).0
+no_end_head x xs h = at (x == line_feed) (and_parts _ _ h).0
   where
     at : (b : Bool) → not b ≡ true → b ≡ false
     at true e = absurd cc

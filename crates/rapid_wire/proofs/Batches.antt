@@ -9,19 +9,16 @@ use Rattle.rapid_model.proofs.Orders.{same_bytes_decides}
 use Rattle.rapid_model.specs.Message.{AlertItem, item_of, batch_alerts, alert_of as read_as}
 use Rattle.rapid_alerts.specs.Alerts.{ListedAlerts, alerts_in}
 use Rattle.rapid_message.specs.Bodies.{IsFrom}
-
-both : (a b : Bool) → a ≡ true → b ≡ true → (a && b) ≡ true
-both true b h k = k
-both false b h k = cc
+use Rattle.std.proofs.lemmas.Bool.{and_from}
 
 alike : (from : Process) (id : List ℕ) (a x : Alert) → IsFrom from id a → IsFrom from id x → is_alike a x ≡ true
 alike from id a x first other =
-    both (same_bytes x.observer a.observer) (same_bytes x.config a.config) ((same_bytes_decides x.observer a.observer).1 (other.0 ∙ sym first.0)) ((same_bytes_decides x.config a.config).1 (other.1 ∙ sym first.1))
+    and_from (same_bytes x.observer a.observer) (same_bytes x.config a.config) ((same_bytes_decides x.observer a.observer).1 (other.0 ∙ sym first.0)) ((same_bytes_decides x.config a.config).1 (other.1 ∙ sym first.1))
 
 all_alike : (from : Process) (id : List ℕ) (a : Alert) (xs : List Alert) → IsFrom from id a → All (IsFrom from id) xs → list_all (is_alike a) xs ≡ true
 all_alike from id a [] first h = refl
 all_alike from id a (x ∷ xs) first h =
-    both (is_alike a x) (list_all (is_alike a) xs) (alike from id a x first (h 0 x (omega arith))) (all_alike from id a xs first (λ i d l. h (suc i) d (omega (arith, l))))
+    and_from (is_alike a x) (list_all (is_alike a) xs) (alike from id a x first (h 0 x (omega arith))) (all_alike from id a xs first (λ i d l. h (suc i) d (omega (arith, l))))
 
 -- 1 to 2,048 alerts of one observer for one configuration are a batch
 pub are_a_batch : (from : Process) (id : List ℕ) (xs : List Alert) → All (IsFrom from id) xs → 1 ≤ length xs → length xs ≤ 2048 → batch_fault xs ≡ None

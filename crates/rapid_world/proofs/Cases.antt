@@ -3,7 +3,7 @@ use Rattle.std.proofs.Common.{◌≡◌, ℕ, zero, suc, ◌-◌, ◌<◌, Bool,
 use Rattle.std.specs.Prelude.{Contains, position, is_some, nat_lt, map, All}
 use Rattle.std.specs.List.{list_any, position_or_len}
 use Rattle.std.proofs.lemmas.Bool.{and_parts}
-use Rattle.std.proofs.lemmas.List.{map_push}
+use Rattle.std.proofs.lemmas.List.{map_push, append-nil}
 use Rattle.std.proofs.lemmas.Option.{slice_get-get_or}
 use Rattle.rapid_world.specs.Windows.{edge_of}
 use Rattle.rapid_model.specs.Process.{Process, identifier, endpoint}
@@ -29,6 +29,7 @@ use Rattle.rapid_world.specs.Worlds.{IsRunOf}
 use Rattle.rapid_world.proofs.Doing.{Read, new_acts, reads_hands, does_read, one_more, lives}
 use Rattle.rapid_world.proofs.Keeping.{keeps_at}
 use Rattle.rapid_world.proofs.Storing.{one_started}
+use Rattle.rapid_model.proofs.Lists.{contains_later, contains_at}
 
 -- ---- who is found
 
@@ -65,17 +66,9 @@ is_named : (w : World) (id : List ℕ) (i : ℕ) (p : Peer) → running_under w 
 is_named w id i p e h =
     ap Some (sym ((same_bytes_decides id (identifier p.node.me)).0 (and_parts _ _ (found (λ q. is_running q && has_identifier id q) w.peers i p e h)).1))
 
-later : {A : Type 0} (y x : A) (xs : List A) → Contains xs x → Contains (y ∷ xs) x
-later y x xs (k, h, e) = (suc k, omega arith, e)
-
-is_there : {A : Type 0} (xs : List A) (k : ℕ) (x : A) → slice_get xs k ≡ Some x → Contains xs x
-is_there [] k x h = cc
-is_there (y ∷ ys) zero x h = let same : y ≡ x = cc in (0, omega arith, same)
-is_there (y ∷ ys) (suc k) x h = later y x ys (is_there ys k x h)
-
 was_sent : (w : World) (k : ℕ) (x : Packet) (first : Bool) → cond first None (slice_get w.packets (k - 1)) ≡ Some x → Contains w.packets x
 was_sent w k x true h = cc
-was_sent w k x false h = is_there w.packets (k - 1) x h
+was_sent w k x false h = contains_at w.packets (k - 1) x h
 
 -- ---- refusals
 
@@ -177,12 +170,8 @@ deliver_hands s k x i are isopen sent e =
           (by_packet t.0 x t.1 (was_sent w k x (k == 0) sent) ((same_bytes_decides _ _).0 f.1));
     }
 
-nil_end : {A : Type 0} (xs : List A) → xs ++ [] ≡ xs
-nil_end [] = refl
-nil_end (x ∷ xs) = ap (λ l. x ∷ l) (nil_end xs)
-
 reads_crashed : (w : World) (i : ℕ) (p : Peer) (h : Bool) → Read w (crashed w i p) i (crash_of p h)
-reads_crashed w i p h = record { peers = refl; packets = sym (nil_end w.packets); reports = new_acts w.log p.node (Crashed ∷ []) [] (λ acts. refl) }
+reads_crashed w i p h = record { peers = refl; packets = sym (append-nil w.packets); reports = new_acts w.log p.node (Crashed ∷ []) [] (λ acts. refl) }
 
 pub crash_does : (s : StoredWorld) (id : List ℕ) (i : ℕ) → Open s → running_under (world_of s) id ≡ Some i → (p : Peer) × Does s (Crash id) i p (crash_of p)
 unfolding world_step
@@ -214,7 +203,7 @@ reads_told w i p x k ok h = by (probed (edge_on p.edges k) ok).is_down
 
         reads_same : Read w (hands w i (with_edge p k e) (Probed k ok ∷ []) ev h) i (handed (with_edge p k e) ev h)
         reads_same = r
-    by false = record { peers = refl; packets = sym (nil_end w.packets); reports = new_acts w.log p.node (Probed k ok ∷ []) [] (λ acts. refl) }
+    by false = record { peers = refl; packets = sym (append-nil w.packets); reports = new_acts w.log p.node (Probed k ok ∷ []) [] (λ acts. refl) }
 
 pub probe_does : (s : StoredWorld) (id : List ℕ) (k : ℕ) (ok : Bool) (i : ℕ) (p : Peer) (x : Configuration × Process) → AreMembers s.founding.members → Open s → running_under (world_of s) id ≡ Some i →
     slice_get (world_of s).peers i ≡ Some p → observed p k ≡ Some x → Probes s (Probe id k ok) i p k ok (EdgeDown (configuration_id x.0) k x.1)

@@ -1,7 +1,7 @@
 -- Steps of a world, read off what they do to the peer at a place.
 use Rattle.std.proofs.Common.{◌≡◌, ℕ, zero, suc, Bool, true, false, cond, List, [], ◌∷◌, ◌++◌, map, length, drop, slice_get, slice_set, refl, sym, ap, subst, ◌∙◌, Option, Some, None, append_assoc}
 use Rattle.std.specs.Prelude.{IsTrue, All}
-use Rattle.std.proofs.lemmas.List.{map-append}
+use Rattle.std.proofs.lemmas.List.{map-append, append-nil}
 use Rattle.std.proofs.lemmas.List.Elements.{All-append}
 use Rattle.std.specs.List.{list_any}
 use Rattle.rapid_model.specs.Process.{Process}
@@ -104,10 +104,6 @@ behind : {A : Type 0} (xs ys : List A) → drop (length xs) (xs ++ ys) ≡ ys
 behind [] ys = refl
 behind (x ∷ xs) ys = behind xs ys
 
-nil_end : {A : Type 0} (xs : List A) → xs ++ [] ≡ xs
-nil_end [] = refl
-nil_end (x ∷ xs) = ap (λ l. x ∷ l) (nil_end xs)
-
 did_quiet : (n : Node) (es : List Effect) (acts : List Act) → reports_of (map (entry n) (map Did es ++ acts)) ≡ reports_of (map (entry n) acts)
 did_quiet n [] acts = refl
 did_quiet n (x ∷ es) acts = did_quiet n es acts
@@ -127,7 +123,7 @@ pub record Read (w v : World) (i : ℕ) (d : Handed) : Type 0 where
   pub reports : reports_of (drop (length w.log) v.log) ≡ d.reports
 
 reads_halted : (w : World) (i : ℕ) (p : Peer) (before : List Act) → AreQuiet p.node before → Read w (halted w i p before) i (stopped p)
-reads_halted w i p before quiet = record { peers = refl; packets = sym (nil_end w.packets); reports = new_acts w.log p.node before (HasHalted ∷ []) quiet }
+reads_halted w i p before quiet = record { peers = refl; packets = sym (append-nil w.packets); reports = new_acts w.log p.node before (HasHalted ∷ []) quiet }
 
 reads_moved : (w : World) (i : ℕ) (p : Peer) (before : List Act) (o : Outcome) → AreQuiet p.node before → Read w (moved w i p before o) i (went_on p o)
 reads_moved w i p before o quiet =

@@ -4,11 +4,11 @@ use Rattle.std.specs.Prelude.{position, is_some}
 use Rattle.std.specs.List.{list_any, list_all, find, position_or_len}
 use Rattle.std.specs.Option.{option_map, option_and_then}
 use Rattle.std.specs.FinMap as finmap
-use Rattle.std.proofs.lemmas.Bool.{and_parts, false_from_ne_true, lt-ltb, le-ltb}
+use Rattle.std.proofs.lemmas.Bool.{and_parts, false_from_ne_true, lt-ltb, le-ltb, not-true}
 use Rattle.std.proofs.lemmas.List.{set-get_or}
 use Rattle.std.proofs.lemmas.List.Folds.{list_any_at, find_at}
 use Rattle.std.proofs.lemmas.List.Sums.{position_or_len_is}
-use Rattle.std.proofs.lemmas.Option.{slice_get_within, slice_get-get_or, slice_get_past, get_or_from_slice_get}
+use Rattle.std.proofs.lemmas.Option.{slice_get_within, slice_get-get_or, slice_get_past, get_or_from_slice_get, same_Some}
 use Rattle.rapid_model.proofs.Orders.{processes_total, same_bytes_decides}
 use Rattle.rapid_model.specs.Configuration.{Configuration, AreMembers, identifiers_ascend, endpoints_differ}
 use Rattle.rapid_model.specs.Process.{Process, identifier, endpoint, same_endpoint}
@@ -21,12 +21,11 @@ use Rattle.rapid_safety.proofs.Histories.{get_set, get_push}
 use Rattle.rapid_safety.proofs.Lived.{get_map, apart_names}
 use Rattle.rapid_world.specs.Found.{Places, AreFound, IsOnlyAt, RunsAt, IsNew}
 use Rattle.rapid_world.specs.Handed.{handed, told, stepped, KeepsAt}
+use Rattle.rapid_model.proofs.Lists.{all_at}
+use Rattle.std.proofs.lemmas.Map.Keys.{any_passes_from_place}
 
 differ : {b : Bool} → b ≡ true → b ≡ false → ⊥
 differ h k = let no : true ≡ false = sym h ∙ k in cc
-
-some_is : {A : Type 0} {x y : A} → Some x ≡ Some y → x ≡ y
-some_is e = cc
 
 -- ---- an element that passes alone
 
@@ -41,7 +40,7 @@ first_is {A} f xs i x at ok only =
   where
     before : i < length xs → (k : ℕ) → k < i → f (get_or xs k x) ≡ false
     before l k less =
-        false_from_ne_true (f (get_or xs k x)) (λ t. let e : i ≡ k = some_is (only k (get_or xs k x) (slice_get-get_or xs k x (omega (arith, l, less))) t) in omega (arith, e, less))
+        false_from_ne_true (f (get_or xs k x)) (λ t. let e : i ≡ k = same_Some _ _ (only k (get_or xs k x) (slice_get-get_or xs k x (omega (arith, l, less))) t) in omega (arith, e, less))
 
 none_is : {A : Type 0} (f : A → Bool) (xs : List A) → NonePasses f xs → position_or_len f xs ≡ length xs
 none_is f [] none = refl
@@ -66,16 +65,13 @@ find_there f xs i x at ok only = find_at f xs ∙ ap (slice_get xs) (first_is f 
 pub find_none : {A : Type 0} (f : A → Bool) (xs : List A) → NonePasses f xs → find f xs ≡ None
 find_none f xs none = let e = none_is f xs none in find_at f xs ∙ slice_get_past xs (position_or_len f xs) (omega (arith, e))
 
-pub any_of : {A : Type 0} (f : A → Bool) (xs : List A) (i : ℕ) (x : A) → slice_get xs i ≡ Some x → f x ≡ true → list_any f xs ≡ true
-any_of f xs i x at ok = list_any_at f xs i x (slice_get_within xs i x at) (ap f (get_or_from_slice_get xs i x x at) ∙ ok)
-
 pub any_none : {A : Type 0} (f : A → Bool) (xs : List A) → NonePasses f xs → list_any f xs ≡ false
 any_none f [] none = refl
 any_none f (x ∷ xs) none = ap (λ b. b || list_any f xs) (false_from_ne_true (f x) (λ t. none 0 x refl t)) ∙ any_none f xs (λ j y. none (suc j) y)
 
 -- and the other way round
 pub none_by_any : {A : Type 0} (f : A → Bool) (xs : List A) → list_any f xs ≡ false → NonePasses f xs
-none_by_any f xs e j y at ok = differ (any_of f xs j y at ok) e
+none_by_any f xs e j y at ok = differ (any_passes_from_place f xs j y at ok) e
 
 first_within : {A : Type 0} (f : A → Bool) (xs : List A) (j : ℕ) (y : A) → slice_get xs j ≡ Some y → f y ≡ true → position_or_len f xs < length xs
 first_within f [] j y at ok = cc
@@ -83,7 +79,7 @@ first_within f (x ∷ xs) j y at ok = by (f x) refl j at (λ i h. first_within f
   where
     by : (b : Bool) → f x ≡ b → (j : ℕ) → slice_get (x ∷ xs) j ≡ Some y → ((i : ℕ) → slice_get xs i ≡ Some y → position_or_len f xs < length xs) → position_or_len f (x ∷ xs) < length (x ∷ xs)
     by true t j at again = let e = position_or_len_is f (x ∷ xs) 0 x (omega arith) (λ k l. absurd (omega (arith, l))) (λ _. t) in omega (arith, e)
-    by false t zero at again = absurd (differ (ap f (some_is at) ∙ ok) t)
+    by false t zero at again = absurd (differ (ap f (same_Some _ _ at) ∙ ok) t)
     by false t (suc j) at again = let l = again j at in let e : position_or_len f (x ∷ xs) ≡ 1 + position_or_len f xs = ap (λ b. cond (not b) (1 + position_or_len f xs) 0) t in omega (arith, l, e)
 
 pub none_by_position : {A : Type 0} (f : A → Bool) (xs : List A) → is_some (position f xs) ≡ false → NonePasses f xs
@@ -104,7 +100,7 @@ there xs (Some i) x at = (i, refl, sym at)
 -- another stands there
 other : {A : Type 0} (f : A → Bool) (xs : List A) (place : Option ℕ) (x : A) → IsOnlyAt f xs place → Some x ≡ There xs place → f x ≡ false → NonePasses f xs
 other f xs place x only at fails j y h ok =
-    let same : x ≡ y = some_is (at ∙ ap (There xs) (only j y h ok) ∙ h) in
+    let same : x ≡ y = same_Some _ _ (at ∙ ap (There xs) (only j y h ok) ∙ h) in
     differ (ap f same ∙ ok) fails
 
 -- no peer is at that place
@@ -151,7 +147,7 @@ pub any_there : {A : Type 0} (f : A → Bool) (xs : List A) (place : Option ℕ)
 any_there f xs place x b only at is = is ∙ by (f x) refl
   where
     by : (c : Bool) → f x ≡ c → c ≡ list_any f xs
-    by true t = let at' = there xs place x at in sym (any_of f xs at'.0 x at'.2 t)
+    by true t = let at' = there xs place x at in sym (any_passes_from_place f xs at'.0 x at'.2 t)
     by false t = sym (any_none f xs (other f xs place x only at t))
 
 pub any_nowhere : {A : Type 0} (f : A → Bool) (xs : List A) (place : Option ℕ) → IsOnlyAt f xs place → None ≡ There xs place → false ≡ list_any f xs
@@ -349,23 +345,14 @@ starts_new ps p me is unused free =
     both true b h k = k
     both false b h k = cc
 
-all_at : {A : Type 0} (f : A → Bool) (xs : List A) (i : ℕ) (x : A) → list_all f xs ≡ true → slice_get xs i ≡ Some x → f x ≡ true
-all_at f [] i x e h = cc
-all_at f (y ∷ ys) zero x e h = subst (λ z. f z ≡ true) (some_is h) (and_parts _ _ e).0
-all_at f (y ∷ ys) (suc i) x e h = all_at f ys i x (and_parts _ _ e).1 h
-
-un_not : (b : Bool) → not b ≡ true → b ≡ false
-un_not true h = cc
-un_not false h = refl
-
 -- no two founders have one endpoint
 apart_ends : (ms : List Process) (i j : ℕ) (a b : Process) → endpoints_differ ms ≡ true → slice_get ms i ≡ Some a → slice_get ms j ≡ Some b → endpoint a ≡ endpoint b → i ≡ j
 apart_ends [] i j a b h ha hb e = cc
 apart_ends (m ∷ ms) zero zero a b h ha hb e = refl
 apart_ends (m ∷ ms) zero (suc j) a b h ha hb e =
-    absurd (differ ((same_bytes_decides (endpoint m) (endpoint b)).1 (ap endpoint (some_is ha) ∙ e)) (un_not _ (all_at (λ q. not (same_endpoint m q)) ms j b (and_parts _ _ h).0 hb)))
+    absurd (differ ((same_bytes_decides (endpoint m) (endpoint b)).1 (ap endpoint (same_Some _ _ ha) ∙ e)) (not-true _ (all_at (λ q. not (same_endpoint m q)) ms j b (and_parts _ _ h).0 hb)))
 apart_ends (m ∷ ms) (suc i) zero a b h ha hb e =
-    absurd (differ ((same_bytes_decides (endpoint m) (endpoint a)).1 (ap endpoint (some_is hb) ∙ sym e)) (un_not _ (all_at (λ q. not (same_endpoint m q)) ms i a (and_parts _ _ h).0 ha)))
+    absurd (differ ((same_bytes_decides (endpoint m) (endpoint a)).1 (ap endpoint (same_Some _ _ hb) ∙ sym e)) (not-true _ (all_at (λ q. not (same_endpoint m q)) ms i a (and_parts _ _ h).0 ha)))
 apart_ends (m ∷ ms) (suc i) (suc j) a b h ha hb e = ap suc (apart_ends ms i j a b (and_parts _ _ h).1 ha hb e)
 
 take_get : {A : Type 0} (xs : List A) (n i : ℕ) (x : A) → slice_get (take n xs) i ≡ Some x → (i < n) × (slice_get xs i ≡ Some x)

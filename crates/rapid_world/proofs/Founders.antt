@@ -11,10 +11,7 @@ use Rattle.rapid_model.specs.WorldStep.{added}
 use Rattle.rapid_model.specs.StoredWorld.{new_world, world_of}
 use Rattle.rapid_world.specs.Framed.{HasFrame}
 use Rattle.rapid_world.specs.Worlds.{IsRunOf}
-
-or_right : (x y : Bool) → y ≡ true → (x || y) ≡ true
-or_right true y e = refl
-or_right false y e = e
+use Rattle.std.proofs.lemmas.Bool.{or_right}
 
 stands_in : (ms : List Process) (i : ℕ) (p : Process) → i < length ms → p ≡ get_or ms i p → is_in ms p ≡ true
 stands_in [] i p l e = absurd (omega arith)

@@ -30,6 +30,7 @@ use Rattle.rapid_model.specs.World.{Peer}
 use Rattle.rapid_node.specs.Steps.{HasOutcome}
 use Rattle.rapid_world.specs.Going.{has_room_after, has_room}
 use Rattle.rapid_world.specs.Handed.{handed, stepped, went_on, stopped}
+use Rattle.std.proofs.lemmas.Bool.{not-true}
 
 -- ---- work leaves the configuration as it is
 
@@ -186,16 +187,12 @@ tick_keeps s = one_after s (batch_tick s) recovers (one_after s (quiet_tick s) s
 
 -- ---- outcomes
 
-full_not : (b : Bool) → not b ≡ true → b ≡ false
-full_not true h = cc
-full_not false h = refl
-
 settles : (n : Node) (s : MemberState) (w : Work) → Keeps s w → not (is_history_full n.installed s.config) ≡ true → is_some (settle n w) ≡ true
 unfolding settle
 settles n s w keeps room = by w.decided
   where
     full : is_history_full n.installed w.state.config ≡ false
-    full = ap (is_history_full n.installed) keeps ∙ full_not _ room
+    full = ap (is_history_full n.installed) keeps ∙ not-true _ room
 
     by : (d : Option Cut) → is_some (settle_at n w d) ≡ true
     by None = refl

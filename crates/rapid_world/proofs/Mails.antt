@@ -7,6 +7,7 @@ use Rattle.std.proofs.lemmas.Option.{slice_get_past, slice_get_within, get_or_fr
 use Rattle.rapid_world.specs.Framed.{FramedPacket}
 use Rattle.rapid_world.specs.Sent.{Sent, all_packets, AreNumbered, HasSent, Tells, numbered_packet}
 use Rattle.rapid_world.proofs.Packets.{get_left, get_right}
+use Rattle.std.proofs.lemmas.Bool.{ltb-true, lt-ltb, ltb-false}
 
 -- as many as are counted
 pub sent_from : (n : ℕ) (ss : List Sent) (total : ℕ) → AreNumbered n ss total → total ≡ n + length (all_packets ss)
@@ -54,17 +55,8 @@ rise n (s ∷ ss) total h (suc i) (suc j) d le l = rise (n + length s.packets) s
 abbrev pub begins_before : ℕ → Sent → Bool
 begins_before k s = nat_lt s.first k
 
-less : (a b : ℕ) → nat_lt a b ≡ true → a < b
-less a b h = Prim.grind (arith, h)
-
-is_less : (a b : ℕ) → a < b → nat_lt a b ≡ true
-is_less a b h = Prim.grind (arith, h)
-
-not_less : (a b : ℕ) → nat_lt a b ≡ false → b ≤ a
-not_less a b h = Prim.grind (arith, h)
-
 pub those_before_first : (ss : List Sent) (total : ℕ) (number : ℕ) → AreNumbered 0 ss total → IsPartitionedBy (begins_before number) ss
-those_before_first ss total number h i j d le l e = let r = rise 0 ss total h i j d le l in let t = less _ _ e in is_less _ _ (omega arith)
+those_before_first ss total number h i j d le l e = let r = rise 0 ss total h i j d le l in let t = ltb-true _ _ e in lt-ltb _ _ (omega arith)
 
 -- those from a place on begin after the packet, those before it do not
 Parts : ℕ → List Sent → ℕ → Type 0
@@ -72,7 +64,7 @@ Parts k ss i = ((j : ℕ) (d : Sent) → j < i → (get_or ss j d).first < k) ×
 
 parts : (k : ℕ) (ss : List Sent) (i : ℕ) → IsPartitionPoint (λ s. begins_before k s ≡ true) (λ s. begins_before k s ≡ false) ss i → Parts k ss i
 unfolding Parts
-parts k ss i h = (λ j d l. less _ _ (h.0 j d (omega arith) l), λ j d le l. not_less _ _ (h.1 j d le l))
+parts k ss i h = (λ j d l. ltb-true _ _ (h.0 j d (omega arith) l), λ j d le l. ltb-false _ _ (h.1 j d le l))
 
 rest : (k : ℕ) (s : Sent) (ss : List Sent) (i : ℕ) → Parts k (s ∷ ss) (suc i) → Parts k ss i
 unfolding Parts
@@ -94,9 +86,9 @@ found_from n k (s ∷ ss) total zero d h l w p = by (nat_lt ((k - 1) - n) (lengt
     here = ap (λ x. slice_get s.packets ((k - 1) - x)) (sym h.0)
 
     by : (b : Bool) → nat_lt ((k - 1) - n) (length s.packets) ≡ b → slice_get (s.packets ++ all_packets ss) ((k - 1) - n) ≡ slice_get s.packets ((k - 1) - s.first)
-    by true e = get_left s.packets (all_packets ss) ((k - 1) - n) (less _ _ e) ∙ here
+    by true e = get_left s.packets (all_packets ss) ((k - 1) - n) (ltb-true _ _ e) ∙ here
     by false e =
-        let past : length s.packets ≤ (k - 1) - n = not_less _ _ e in
+        let past : length s.packets ≤ (k - 1) - n = ltb-false _ _ e in
         get_right s.packets (all_packets ss) ((k - 1) - n) past
         ∙ none_after (n + length s.packets) k ss total _ h.1 (omega arith) (rest k s ss zero p)
         ∙ sym (slice_get_past s.packets ((k - 1) - n) past)

@@ -6,7 +6,7 @@ use Rattle.std.specs.List.Sorted.{IsStrictlySortedBy}
 use Rattle.std.specs.Ordering.{is_lt}
 use Rattle.std.specs.BTreeSet.{insert_key}
 use Rattle.std.specs.FinMap as finmap
-use Rattle.std.proofs.lemmas.Bool.{and_parts}
+use Rattle.std.proofs.lemmas.Bool.{and_parts, or_right}
 use Rattle.std.proofs.lemmas.List.Kept.{IsStrictlySortedBy-filter}
 use Rattle.std.proofs.lemmas.Map.Views.{any-filter_same}
 use Rattle.rapid_model.specs.Bytes.{Identifier}
@@ -17,15 +17,9 @@ use Rattle.rapid_model.proofs.Orders.{processes_total, processes_exact, same_byt
 use Rattle.rapid_model.proofs.InOrder.{any_insert, any_in_order, sorted_in_order, same_sorted}
 use Rattle.rapid_world.specs.Found.{Places, AreFound, HasAll, runs, running_of}
 use Rattle.rapid_world.proofs.Finding.{position_none, any_none, none_by_any, none_by_position}
-
-not_both : {A : Type 0} (b : Bool) → b ≡ true → b ≡ false → A
-not_both b h k = let never : true ≡ false = sym h ∙ k in absurd cc
+use Rattle.rapid_model.proofs.Logic.{not_both}
 
 -- ---- the identifiers that are kept
-
-or_right : (a b : Bool) → b ≡ true → (a || b) ≡ true
-or_right true b h = refl
-or_right false b h = h
 
 pub none_there : (ids : List Identifier) (m : Places) → m ≡ finmap.empty → HasAll ids m
 none_there ids m e = λ q h. let none : is_some (finmap.get m q) ≡ false = ap (λ (x : Places). is_some (finmap.get x q)) e ∙ ap is_some (finmap.get-empty bytes_cmp q) in not_both _ h none

@@ -10,19 +10,10 @@ use Rattle.rapid_model.specs.Packets.{other_members}
 use Rattle.rapid_model.proofs.Orders.{same_bytes_decides}
 use Rattle.rapid_safety.proofs.Members.{not_below_itself}
 use Rattle.rapid_world.specs.Recipients.{without}
+use Rattle.rapid_model.proofs.Among.{same_turned}
 
 abbrev others : Process → List Process → List Process
 others me ms = filter (λ p. not (same_bytes p me)) ms
-
--- whether it is the same does not depend on the side
-turned : (p q : Process) → same_bytes p q ≡ same_bytes q p
-turned p q = by (same_bytes p q) (same_bytes q p) refl refl
-  where
-    by : (a b : Bool) → same_bytes p q ≡ a → same_bytes q p ≡ b → a ≡ b
-    by true true h k = refl
-    by false false h k = refl
-    by true false h k = let t : same_bytes q p ≡ true = (same_bytes_decides q p).1 (sym ((same_bytes_decides p q).0 h)) in sym t ∙ k
-    by false true h k = let t : same_bytes p q ≡ true = (same_bytes_decides p q).1 (sym ((same_bytes_decides q p).0 k)) in sym h ∙ t
 
 -- who stands below all of these is none of them
 all_others : (me : Process) (ms : List Process) → list_all (λ q. is_lt (bytes_cmp (identifier me) (identifier q))) ms ≡ true → others me ms ≡ ms
@@ -46,11 +37,11 @@ without_one me (m ∷ ms) h = by (same_bytes me m) refl (without_one me ms (and_
         others me (m ∷ ms) ≡ take (cond (not b) (1 + k) 0) (m ∷ ms) ++ drop (suc (cond (not b) (1 + k) 0)) (m ∷ ms)
     by true e rest =
         let is : me ≡ m = (same_bytes_decides me m).0 e in
-        ap (λ b. cond (not b) (m ∷ others me ms) (others me ms)) (turned m me ∙ e)
+        ap (λ b. cond (not b) (m ∷ others me ms) (others me ms)) (same_turned m me ∙ e)
         ∙ all_others me ms (subst (λ (p : Process). list_all (λ q. is_lt (bytes_cmp (identifier p) (identifier q))) ms ≡ true) (sym is) (and_parts _ _ h).0)
     by false e rest =
         let one : 1 + k ≡ suc k = omega arith in
-        ap (λ b. cond (not b) (m ∷ others me ms) (others me ms)) (turned m me ∙ e)
+        ap (λ b. cond (not b) (m ∷ others me ms) (others me ms)) (same_turned m me ∙ e)
         ∙ ap (λ l. m ∷ l) rest
         ∙ sym (ap (λ j. take j (m ∷ ms) ++ drop (suc j) (m ∷ ms)) one)
 

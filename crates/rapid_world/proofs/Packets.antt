@@ -2,7 +2,7 @@
 use Rattle.std.proofs.Common.{◌≡◌, ℕ, zero, suc, ◌+◌, ◌-◌, ◌<◌, ◌≤◌, List, [], ◌∷◌, ◌++◌, map, length, get_or, take, drop, slice_get, refl, sym, ap, subst, ◌∙◌, Option, Some, None, arith}
 use Rattle.std.specs.Prelude.{flat_map}
 use Rattle.std.specs.Option.{option_map}
-use Rattle.std.proofs.lemmas.List.{length-map, length-append, drop_more, drop_all, take_more}
+use Rattle.std.proofs.lemmas.List.{length-map, length-append, drop_more, drop_all, take_more, append-nil}
 use Rattle.std.proofs.lemmas.Option.{slice_get-map, slice_get_past}
 use Rattle.rapid_model.specs.Process.{Process, endpoint}
 use Rattle.rapid_model.specs.Node.{Destination, To, Others}
@@ -34,14 +34,10 @@ made_append : (rs : List Process) (xs ys : List FramedOutput) → made rs (xs ++
 made_append rs [] ys = refl
 made_append rs (x ∷ xs) ys = ap (λ l. frames_of rs x ++ l) (made_append rs xs ys) ∙ sym (Rattle.std.proofs.Common.append_assoc (frames_of rs x) (made rs xs) (made rs ys))
 
-nil_end : {A : Type 0} (xs : List A) → xs ++ [] ≡ xs
-nil_end [] = refl
-nil_end (x ∷ xs) = ap (λ l. x ∷ l) (nil_end xs)
-
 pub count_more : (rs : List Process) (os : List FramedOutput) (i : ℕ) (d : FramedOutput) → i < length os → length (made rs (take (i + 1) os)) ≡ length (made rs (take i os)) + length (frames_of rs (get_or os i d))
 count_more rs os i d h =
     ap (λ l. length (made rs l)) (take_more os i d h)
-    ∙ ap length (made_append rs (take i os) (get_or os i d ∷ []) ∙ ap (λ l. made rs (take i os) ++ l) (nil_end (frames_of rs (get_or os i d))))
+    ∙ ap length (made_append rs (take i os) (get_or os i d ∷ []) ∙ ap (λ l. made rs (take i os) ++ l) (append-nil (frames_of rs (get_or os i d))))
     ∙ length-append (made rs (take i os)) (frames_of rs (get_or os i d))
 
 -- the packets to the others, by place

@@ -1,7 +1,7 @@
 -- What a world stores in few bytes.
 use Rattle.std.proofs.Common.{◌≡◌, ℕ, ◌<◌, Bool, false, List, [], ◌∷◌, ◌++◌, length, map, get_or, refl, sym, ap, ◌∙◌, Option, arith, append_assoc}
 use Rattle.std.specs.Prelude.{All, flat_map}
-use Rattle.std.proofs.lemmas.List.{map_push, flat_map_more, get_or_append_left, length-append}
+use Rattle.std.proofs.lemmas.List.{map_push, flat_map_more, get_or_append_left, length-append, append-nil}
 use Rattle.std.proofs.lemmas.List.Elements.{All-nil, All-head, All-tail, All-push, All-weaker}
 use Rattle.rapid_model.specs.Process.{Process, identifier}
 use Rattle.rapid_model.specs.Configuration.{Configuration}
@@ -13,10 +13,6 @@ use Rattle.rapid_world.specs.declared.stored.StoredEvent.TheVariants as stored
 use Rattle.rapid_world.specs.Stored.{Names, Says, AreStored, IsWithin, is_start, starters_by, started_in, who_of, id_at, start_of, marked_in}
 
 -- ---- a start more
-
-nil_end : {A : Type 0} (xs : List A) → xs ++ [] ≡ xs
-nil_end [] = refl
-nil_end (x ∷ xs) = ap (λ l. x ∷ l) (nil_end xs)
 
 last_is : (ss : List Started) (x d : Started) → get_or (ss ++ x ∷ []) (length ss) d ≡ x
 last_is [] x d = refl
@@ -108,7 +104,7 @@ event_stored fs ss es x p m are names says =
       starters = ap (flat_map (λ (n : MarkedEvent). starters_by n.event)) (event_says fs ss es x m says)
           ∙ starters_more (map (marked_in fs ss) es) m
           ∙ ap (λ (ps : List Process). flat_map (λ (n : MarkedEvent). starters_by n.event) (map (marked_in fs ss) es) ++ ps) (none_starts p m.event names)
-          ∙ nil_end (flat_map (λ (n : MarkedEvent). starters_by n.event) (map (marked_in fs ss) es))
+          ∙ append-nil (flat_map (λ (n : MarkedEvent). starters_by n.event) (map (marked_in fs ss) es))
           ∙ are.starters;
     }
 
@@ -118,7 +114,7 @@ same_started s m p names =
     ap (λ (ps : List Process). s.founding.members ++ ps)
     (starters_more s.events m
     ∙ ap (λ (ps : List Process). flat_map (λ (n : MarkedEvent). starters_by n.event) s.events ++ ps) (none_starts p m.event names)
-    ∙ nil_end (flat_map (λ (n : MarkedEvent). starters_by n.event) s.events))
+    ∙ append-nil (flat_map (λ (n : MarkedEvent). starters_by n.event) s.events))
 
 -- one more started
 pub one_started : (s : StoredWorld) (p : Process) (seed : List ℕ) → started_in (with_event s (unmarked (Start p seed))) ≡ started_in s ++ p ∷ []

@@ -3,8 +3,8 @@ use Rattle.std.specs.Cmp.{nat_cmp_total}
 use Rattle.std.proofs.lemmas.Map.Lookups.{exact_unsigned}
 use Rattle.std.proofs.lemmas.Map.Views.{btree_map_get_iff}
 use Rattle.rapid_model.proofs.Orders.{same_cut_decides}
-use Rattle.rapid_repeats.proofs.Tables.{some_same}
 use Rattle.rapid_repeats.proofs.kept.is_last_vote.Goals as goal
+use Rattle.std.proofs.lemmas.Option.{same_Some}
 
 pub returns-in-Some-clause-same : goal.returns-in-Some-clause-same
 returns-in-Some-clause-same c e =
@@ -14,7 +14,7 @@ returns-in-Some-clause-same c e =
 pub returns-in-Some-clause-told : goal.returns-in-Some-clause-told
 returns-in-Some-clause-told c h =
     let found = (btree_map_get_iff nat_cmp_total exact_unsigned c.args.votes.now c.len.ensures.ordered c.args.place c.args.vote.now).1 h in
-    c.eq.ensures ∙ (same_cut_decides c.in-Some.last.now c.args.vote.now).1 (some_same (c.in-Some.ensures.value ∙ found))
+    c.eq.ensures ∙ (same_cut_decides c.in-Some.last.now c.args.vote.now).1 (same_Some _ _ (c.in-Some.ensures.value ∙ found))
 
 pub returns-in-None-clause-told : goal.returns-in-None-clause-told
 returns-in-None-clause-told c h =
