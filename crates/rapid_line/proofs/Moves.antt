@@ -142,8 +142,8 @@ module _ {T : Type 0} where
 
     -- a pass takes in what the other knows to be put, or to be taken
     join : (port : ℕ) (v : Post T) (other : ℕ) (u : Post T) (put taken : List T)
-      → ((writer reader : ℕ) (p t : List T) → Fits writer reader p t port v → Fits writer reader p t other u → Fits writer reader p t port (post v.puts v.takes put taken))
-      → Merges (Kept next) port v other u (post v.puts v.takes put taken) (post false false [] [])
+        → ((writer reader : ℕ) (p t : List T) → Fits writer reader p t port v → Fits writer reader p t other u → Fits writer reader p t port (post v.puts v.takes put taken))
+        → Merges (Kept next) port v other u (post v.puts v.takes put taken) (post false false [] [])
     join port v other u put taken says items views k at apart there =
         let f = k.each port v at in
         let w : Post T = post v.puts v.takes put taken in

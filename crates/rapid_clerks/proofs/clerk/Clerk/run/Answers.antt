@@ -26,5 +26,5 @@ loop-job-preserved g c =
       search rules,
       All-more g.B.DoJob.answered jobs n job c.loop-job-test.true i.6 (subst g.B.DoJob.answered c.job-item.is answer.answered),
       subst (λ a. HandedIn g.B.DoJob.handed from (take (n + 1) jobs) a) same
-      (handed_next g.B.DoJob.handed from before after jobs n job c.loop-job-test.true i.7 (subst (λ j. g.B.DoJob.handed before j after) c.job-item.is answer.handed)),
+          (handed_next g.B.DoJob.handed from before after jobs n job c.loop-job-test.true i.7 (subst (λ j. g.B.DoJob.handed before j after) c.job-item.is answer.handed)),
     )
