@@ -1,6 +1,6 @@
 -- Clauses of public calls cite this file.
--- Jobs that were done in order.
-use Rattle.std.specs.Prelude.{List, [], ◌∷◌, ◌++◌}
+-- Jobs that were handed in, or done, in order.
+use Rattle.std.specs.Prelude.{ℕ, List, [], ◌∷◌, ◌++◌}
 use Rattle.rapid_model.specs.Run.{WorldReport}
 use Rattle.rapid_clerks.specs.Clusters.{ClusterState, DoesJob}
 use Rattle.rapid_clerks.specs.declared.job.Job.{Job}
@@ -9,3 +9,8 @@ use Rattle.rapid_clerks.specs.declared.job.Job.{Job}
 pub data DoesJobs : ClusterState → List Job → ClusterState → Type 0 where
   none : (c : ClusterState) → DoesJobs c [] c
   one_more : (c d e : ClusterState) (js : List Job) (j : Job) (reports : List WorldReport) → DoesJobs c js d → DoesJob j d e reports → DoesJobs c (js ++ j ∷ []) e
+
+-- These jobs were handed in one after another, each with a share of the amount that the one before it had left.
+pub data HandedIn {J : Type 0} (handed : ℕ → J → ℕ → Type 0) (from : ℕ) : List J → ℕ → Type 0 where
+  no_job : HandedIn handed from [] from
+  one_job : (js : List J) (j : J) (before after : ℕ) → HandedIn handed from js before → handed before j after → HandedIn handed from (js ++ j ∷ []) after

@@ -2,6 +2,7 @@
 
 ghost use Rattle.std.specs.Prelude.{◌≡◌, ◌≢◌, ◌+◌, ◌<◌, ◌≤◌, All, length, take};
 ghost use Rattle.rapid_world.specs.declared.error.WorldError.TheVariants.{EventsFull, OutOfMemory};
+ghost use Rattle.rapid_clerks.specs.Jobs.{HandedIn};
 ghost use Rattle.rapid_clerks.specs.declared.verdict.Ended.TheVariants as ended;
 
 use crate::verdict::{Verdict, judge};
@@ -37,8 +38,8 @@ impl<L: Ledger> Clerk<L> {
         }
     }
 
-    /// Does these jobs in order, each under the lock, and says how many were done. A refused job is
-    /// not counted. The clerk stops if no further event is accepted, or if out of memory. Before
+    /// Does these jobs in order, each under the lock, and says how many were done. Each job is
+    /// handed in with the share as the job before it has left it. A refused job is not counted. The clerk stops if no further event is accepted, or if out of memory. Before
     /// each job and after it the clerk calls the gate, while it holds no lock. It stops if the gate
     /// does not let it in. Afterwards `passed` and `ended` say what became of the jobs that were
     /// not done.
@@ -54,6 +55,7 @@ impl<L: Ledger> Clerk<L> {
         ensures most { result + self.new.passed ≤ length jobs.now }
         ensures through { self.new.ended ≡ ended.Through → result + self.new.passed ≡ length jobs.now }
         ensures early { self.new.ended ≢ ended.Through → result + self.new.passed < length jobs.now }
+        ensures order { HandedIn B.handed self.old.share.amount (take (result + self.new.passed) jobs.now) self.new.share.amount }
         ensures each { All B.answered (take (result + self.new.passed) jobs.now) }
         ensures shut { self.new.ended ≡ ended.Shut → G.has_shut }
         ensures full { self.new.ended ≡ ended.Full → B.refused_by EventsFull }

@@ -10,8 +10,9 @@ pub record SinkState (T : Type 0) : Type 0 where
   pub known : List T
   pub room : ℕ
 
--- The end that takes: the queue, what was taken, and for how many items there is room.
+-- The end that takes: the queue, what was taken, what is known to be put, and for how many items there is room.
 pub record SourceState (T : Type 0) : Type 0 where
   pub queue : TableId
   pub taken : List T
+  pub known : List T
   pub room : ℕ

@@ -20,6 +20,10 @@ module _ {T : Type 0} where
   abbrev pub Untaken : List T → List T → ℕ → Type 0
   Untaken put known n = (items : List T) × (length items ≡ n) × Waiting put known items
 
+  -- at one moment these were still to be taken: with what had been taken they begin with all that is known to be put
+  abbrev pub Coming : List T → List T → List T → Type 0
+  Coming taken known items = StartsWith (taken ++ items) known
+
   -- each item may follow those before it
   abbrev pub Follows : (List T → T → Type 0) → List T → List T → Type 0
   Follows next before [] = Unit {0}
@@ -29,6 +33,8 @@ module _ {T : Type 0} where
   pub record Fits (writer reader : ℕ) (put taken : List T) (port : ℕ) (v : Post T) : Type 0 where
     pub puts : v.puts ≡ true → (port ≡ writer) × (v.put ≡ put)
     pub takes : v.takes ≡ true → (port ≡ reader) × (v.taken ≡ taken)
+    -- what a pass knows to be put is a beginning of what is put
+    pub told : StartsWith put v.put
     -- what a pass knows to be taken is a beginning of what is taken
     pub claims : StartsWith taken v.taken
 

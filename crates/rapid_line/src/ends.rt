@@ -5,7 +5,7 @@ ghost use Rattle.std.specs.Arc.{arc_value};
 ghost use Rattle.crossbeam_queue.specs.Passes.{view, IsPassOf, ruled_capacity};
 ghost use Rattle.rapid_line.specs.Line.{post, StartsWith, Untaken};
 
-use crate::{Compares, Order, Post, Puts, Queue, Roles, TakenNote, Takes};
+use crate::{Compares, Order, Post, PutNote, Puts, Queue, Roles, TakenNote, Takes};
 use crossbeam_queue::{Pass, RuledArrayQueue};
 use std::alloc::{AllocError, Global};
 use std::marker::Model;
@@ -32,8 +32,8 @@ impl<T: Drop, P: Order<T>> Model for Sink<T, P> {
     ghost invariant = { λ s. IsPassOf (arc_value s.queue) s.pass × ((pass_view s.pass).puts ≡ true) × ((pass_view s.pass).takes ≡ false) };
 }
 
-/// The end that takes. Contracts see the queue, what was taken, and for how many items there is
-/// room.
+/// The end that takes. Contracts see the queue, what was taken, what is known to be put in it, and
+/// for how many items there is room.
 #[derive(Drop)]
 pub struct Source<T: Drop, P: Order<T>> {
     queue: Arc<Queue<T, P>>,
@@ -48,9 +48,9 @@ impl<T: Drop, P: Order<T>> Model for Source<T, P> {
 
     ghost Value = { SourceState T };
 
-    ghost view = { λ s. record { queue = s.pass.table_id; taken = (pass_view s.pass).taken; room = ruled_capacity (arc_value s.queue) } };
+    ghost view = { λ s. record { queue = s.pass.table_id; taken = (pass_view s.pass).taken; known = (pass_view s.pass).put; room = ruled_capacity (arc_value s.queue) } };
 
-    ghost invariant = { λ s. IsPassOf (arc_value s.queue) s.pass × ((pass_view s.pass).takes ≡ true) };
+    ghost invariant = { λ s. IsPassOf (arc_value s.queue) s.pass × ((pass_view s.pass).puts ≡ false) × ((pass_view s.pass).takes ≡ true) };
 }
 
 /// An empty queue for this many items, at least one.
@@ -61,6 +61,7 @@ pub fn line<T: Drop, P: Order<T>>(
     requires { 0 < capacity }
     ensures empty { IfOk result (λ r. (r.0.queue ≡ r.1.queue) × (r.0.put ≡ []) × (r.1.taken ≡ [])) }
     ensures room { IfOk result (λ r. (r.0.known ≡ []) × (r.0.room ≡ capacity) × (r.1.room ≡ capacity)) }
+    ensures known { IfOk result (λ r. r.1.known ≡ []) }
 {
     let (queue, mut writer) = RuledArrayQueue::ruled(alloc, capacity)?;
     let reader = queue.another::<Roles>(&mut writer);
@@ -125,12 +126,23 @@ impl<T: Drop, P: Order<T>> Sink<T, P> {
 }
 
 impl<T: Drop, P: Order<T>> Source<T, P> {
-    /// Takes the oldest item.
+    /// Takes the oldest item. It takes none only if the queue was empty at one moment of the call.
+    /// Then all that is known to be put was taken before.
     pub fn take<R: Wait>(&mut self, rt: &R) -> Option<T>
-        ensures queue { (self.new.queue ≡ self.old.queue) × (self.new.room ≡ self.old.room) }
+        ensures queue { (self.new.queue ≡ self.old.queue) × (self.new.room ≡ self.old.room) × (self.new.known ≡ self.old.known) }
         ensures taken { MatchOption result (self.new.taken ≡ self.old.taken) (λ x. (self.new.taken ≡ self.old.taken ++ x ∷ []) × P.next self.old.taken x) }
+        ensures none { MatchOption result (StartsWith self.old.taken self.old.known) (λ _. Unit {0}) }
     {
         pop(rt, &self.queue, &mut self.pass)
+    }
+
+    /// What the other end has put is known to be put from then on.
+    pub fn compare(&mut self, sink: &mut Sink<T, P>)
+        requires { self.old.queue ≡ sink.old.queue }
+        ensures same { (self.new.queue ≡ self.old.queue) × (self.new.taken ≡ self.old.taken) × (self.new.room ≡ self.old.room) × (sink.new ≡ sink.old) }
+        ensures known { self.new.known ≡ sink.old.put }
+    {
+        hear(&self.queue, &mut self.pass, &mut sink.pass);
     }
 }
 
@@ -161,8 +173,9 @@ fn pop<T: Drop, P: Order<T>, R: Wait>(
     requires queue { IsPassOf queue.now pass.old }
     requires takes { (view pass.old).takes ≡ true }
     ensures queue { IsPassOf queue.now pass.new }
-    ensures same { (view pass.new).takes ≡ (view pass.old).takes }
+    ensures same { ((view pass.new).puts ≡ (view pass.old).puts) × ((view pass.new).takes ≡ (view pass.old).takes) }
     ensures taken { MatchOption result (view pass.new ≡ view pass.old) (λ x. (view pass.new ≡ post (view pass.old).puts (view pass.old).takes (view pass.old).put ((view pass.old).taken ++ x ∷ [])) × P.next (view pass.old).taken x) }
+    ensures none { MatchOption result (StartsWith (view pass.old).taken (view pass.old).put) (λ _. Unit {0}) }
 {
     queue.pop_as::<Takes<P>, R>(rt, pass)
 }
@@ -184,6 +197,23 @@ fn compare<T: Drop, P: Order<T>>(
     let note = queue.another::<TakenNote>(theirs);
     queue.absorb::<TakenNote>(pass, note);
     queue.learn_as::<Compares>(pass);
+}
+
+/// What the other pass has put is known to be put.
+fn hear<T: Drop, P: Order<T>>(
+    queue: &Queue<T, P>,
+    pass: &mut Pass<T, Post<T>>,
+    theirs: &mut Pass<T, Post<T>>,
+)
+    requires queue { IsPassOf queue.now pass.old }
+    requires theirs { IsPassOf queue.now theirs.old }
+    requires takes { ((view pass.old).puts ≡ false) × ((view pass.old).takes ≡ true) }
+    ensures queue { IsPassOf queue.now pass.new × IsPassOf queue.now theirs.new }
+    ensures view { view pass.new ≡ post (view pass.old).puts (view pass.old).takes (view theirs.old).put (view pass.old).taken }
+    ensures theirs { view theirs.new ≡ view theirs.old }
+{
+    let note = queue.another::<PutNote>(theirs);
+    queue.absorb::<PutNote>(pass, note);
 }
 
 /// How many items are in the queue.

@@ -72,6 +72,27 @@ impl<T> Join<Post<T>> for TakenNote {
     ghost spent = { post false false [] [] };
 }
 
+// A note of what was put.
+pub(crate) struct PutNote;
+
+impl<T> Split<Post<T>> for PutNote {
+    ghost use Rattle.std.specs.Prelude.{false, []};
+    ghost use Rattle.rapid_line.specs.Line.{post};
+
+    ghost left = { λ v. v };
+
+    ghost right = { λ v. post false false v.put [] };
+}
+
+impl<T> Join<Post<T>> for PutNote {
+    ghost use Rattle.std.specs.Prelude.{false, []};
+    ghost use Rattle.rapid_line.specs.Line.{post};
+
+    ghost both = { λ v w. post v.puts v.takes w.put v.taken };
+
+    ghost spent = { post false false [] [] };
+}
+
 pub(crate) struct Puts;
 
 impl<T> Outcome<T, Post<T>> for Puts {
@@ -99,7 +120,9 @@ impl<T, P: Order<T>> Outcome<T, Post<T>> for Takes<P> {
 }
 
 impl<T, P: Order<T>> Lesson<T, Post<T>> for Takes<P> {
-    ghost fact = { λ v items. Unit {0} };
+    ghost use Rattle.rapid_line.specs.Line.{Coming};
+
+    ghost fact = { λ v items. Coming v.taken v.put items };
 }
 
 pub(crate) struct Compares;

@@ -1,6 +1,6 @@
 -- Clauses of public calls cite this file.
 -- The two ends of a sender's queue.
-use Rattle.std.specs.Prelude.{ℕ, List}
+use Rattle.std.specs.Prelude.{◌≡◌, ℕ, List, []}
 use Rattle.atomic_table.specs.Seated.{TableId}
 
 -- A frame, and the bytes of the endpoint that it goes to.
@@ -16,8 +16,13 @@ pub record Putting : Type 0 where
   pub room : ℕ
   pub full : ℕ
 
--- What was taken from the queue, and how many of these frames were lost.
+-- What was taken from the queue, what is known to be put in it, and how many of the frames taken were lost.
 pub record Taking : Type 0 where
   pub queue : TableId
   pub taken : List Frame
+  pub known : List Frame
   pub failed : ℕ
+
+-- Nothing was taken by this end, and nothing was lost.
+abbrev pub IsUnused : Taking → Type 0
+IsUnused end = (end.taken ≡ []) × (end.failed ≡ 0)

@@ -1,7 +1,9 @@
 // The peers of a node: it listens to them, reads what they send, and sends to them.
 
-ghost use Rattle.std.specs.Prelude.{◌≡◌, ◌≤◌, ◌<◌, vec_len, IfErr, IfOk};
+ghost use Rattle.std.specs.Prelude.{◌≡◌, ◌+◌, ◌≤◌, ◌<◌, [], All, vec_len, IfErr, IfOk, OnOk};
+ghost use Rattle.rapid_transport.specs.Queues.{IsUnused};
 ghost use Rattle.rapid_transport.specs.declared.error.TransportError.TheVariants.{QueueFull};
+ghost use Rattle.rapid_transport.specs.declared.error.ListenError.TheVariants as listen;
 
 use crate::connections::{address_of, is_exhausted};
 use crate::counted::Metered;
@@ -56,7 +58,11 @@ pub struct Peers {
 }
 
 /// A queue behind a lock, and the end that takes.
-fn make_lane(alloc: Global, ends: &mut Vec<SenderEnd>) -> Result<Lane, AllocError> {
+fn make_lane(alloc: Global, ends: &mut Vec<SenderEnd>) -> Result<Lane, AllocError>
+    requires { All IsUnused ends.old.items }
+    ensures one_more { OnOk result (vec_len ends.new ≡ vec_len ends.old + 1) }
+    ensures unused { OnOk result (All IsUnused ends.new.items) }
+{
     let (queue, end) = SenderQueue::new(alloc, CAPACITY)?;
     ends.push(end)?;
     Ok(Lane {
@@ -92,7 +98,7 @@ where
 
 impl Peers {
     /// Listens at the endpoint, and makes the senders' queues. No thread runs yet; connections wait
-    /// until `run`. The second answer is for `run`.
+    /// until `run`. The second answer is for `run`: the ends of the four queues, all of them empty.
     ///
     /// # Errors
     ///
@@ -104,6 +110,7 @@ impl Peers {
     ) -> Result<(Peers, Vec<SenderEnd>), ListenError>
     where
         R: Net<Listener = TcpListener, Stream = TcpStream>,
+        ensures ends { IfOk result (λ made. (vec_len made.1 ≡ 4) × All IsUnused made.1.items) }
     {
         let Ok(listener) = TcpListener::bind(rt, address_of(at)) else {
             return Err(ListenError::NoPort);
@@ -194,6 +201,7 @@ impl Peers {
     where
         R: Net<Listener = TcpListener, Stream = TcpStream> + Threads + Wait + Clock + Sync,
         I: Inbox<R> + Sync,
+        ensures error { IfErr result (λ e. e ≡ listen.OutOfMemory) }
     {
         thread::scope(thread::scope_env(), rt, |scope| {
             self.start_senders(rt, alloc, scope, ends)?;
@@ -212,6 +220,7 @@ impl Peers {
     ) -> Result<(), ListenError>
     where
         R: Net<Listener = TcpListener, Stream = TcpStream> + Threads + Wait + Clock + Sync,
+        ensures error { IfErr result (λ e. e ≡ listen.OutOfMemory) }
     {
         for (lane, end) in self.lanes.iter().zip(ends) {
             let context = self.context(lane);

@@ -42,7 +42,7 @@ impl Model for SenderQueue {
 }
 
 /// The end of a sender's queue that takes. Contracts see the queue, the frames that were taken, and
-/// how many of them were said to be lost.
+/// those that are known to be put. They also see how many of the frames taken were said to be lost.
 #[derive(Drop)]
 pub struct SenderEnd {
     source: Source<(Endpoint, Bytes), AnyOrder>,
@@ -56,7 +56,7 @@ impl Model for SenderEnd {
 
     ghost Value = { Taking };
 
-    ghost view = { λ e. record { queue = e.source.queue; taken = e.source.taken; failed = e.failed } };
+    ghost view = { λ e. record { queue = e.source.queue; taken = e.source.taken; known = e.source.known; failed = e.failed } };
 }
 
 impl SenderQueue {
@@ -66,6 +66,7 @@ impl SenderQueue {
         requires { (0 < capacity) × (capacity ≤ most_waiting_frames) }
         ensures queue { IfOk result (λ ends. ends.0.queue ≡ ends.1.queue) }
         ensures empty { IfOk result (λ ends. (ends.0.put ≡ []) × (ends.0.known ≡ []) × (ends.1.taken ≡ [])) }
+        ensures known { IfOk result (λ ends. ends.1.known ≡ []) }
         ensures room { IfOk result (λ ends. ends.0.room ≡ capacity) }
         ensures no_losses { IfOk result (λ ends. (ends.0.full ≡ 0) × (ends.1.failed ≡ 0)) }
     {
@@ -127,19 +128,30 @@ impl SenderQueue {
 }
 
 impl SenderEnd {
-    /// Takes the oldest frame and its endpoint; none if there is none.
+    /// Takes the oldest frame and its endpoint. It takes none only if the queue was empty at one
+    /// moment of the call. Then each frame that is known to be put was taken before.
     pub fn take<R: Wait>(&mut self, rt: &R) -> Option<(Endpoint, Bytes)>
-        ensures queue { self.new.queue ≡ self.old.queue }
+        ensures queue { (self.new.queue ≡ self.old.queue) × (self.new.known ≡ self.old.known) }
         ensures taken { MatchOption result (self.new.taken ≡ self.old.taken) (λ frame. self.new.taken ≡ self.old.taken ++ frame ∷ []) }
+        ensures none { MatchOption result (StartsWith self.old.taken self.old.known) (λ _. Unit {0}) }
         ensures failed { self.new.failed ≡ self.old.failed }
     {
         self.source.take(rt)
     }
 
+    /// What the other end has put is known to be put from then on.
+    pub fn compare(&mut self, queue: &mut SenderQueue)
+        requires { self.old.queue ≡ queue.old.queue }
+        ensures known { self.new ≡ record self.old { known = queue.old.put } }
+        ensures same { queue.new ≡ queue.old }
+    {
+        self.source.compare(&mut queue.sink);
+    }
+
     /// A frame that was taken was not sent: it counts as a loss.
     pub fn lose(&mut self)
         ensures failed { self.new.failed ≡ one_more self.old.failed }
-        ensures same { (self.new.queue ≡ self.old.queue) × (self.new.taken ≡ self.old.taken) }
+        ensures same { (self.new.queue ≡ self.old.queue) × (self.new.taken ≡ self.old.taken) × (self.new.known ≡ self.old.known) }
     {
         self.failed = self.failed.saturating_add(1);
         // a store suffices: no other thread writes this word

@@ -72,3 +72,14 @@ fn frames_that_failed_are_losses(rt: HostRuntime) -> Result<(), Fail> {
     assert_eq!(rt; queue.losses(), 2);
     Ok(())
 }
+
+/// What is known to be put is taken before an end takes none.
+#[test]
+fn an_end_takes_what_it_is_told_of(rt: HostRuntime) -> Result<(), Fail> {
+    let (mut queue, mut end) = SenderQueue::new(rt.alloc(), 1)?;
+    queue.put(&rt, endpoint(0), Bytes::from_static(b"frame"))?;
+    end.compare(&mut queue);
+    assert!(rt; end.take(&rt).is_some());
+    assert!(rt; end.take(&rt).is_none());
+    Ok(())
+}

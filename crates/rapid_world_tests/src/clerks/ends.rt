@@ -120,3 +120,41 @@ fn a_clerk_says_why_it_stops_if_out_of_memory(rt: HostRuntime) -> Result<(), Fai
     assert_eq!(rt; door.came(), done.wrapping_add(u64::from(done != 6)));
     Ok(())
 }
+
+/// What refuses each turn, and counts those that are handed in.
+#[derive(Drop)]
+struct RefusingBook {
+    asked: u64,
+}
+
+impl<L: Ledger> DoJob<L, TurnJob> for RefusingBook {
+    fn do_job(&mut self, _share: &mut Share<L>, _job: &TurnJob) -> Result<Vec<Report>, WorldError> {
+        self.asked = self.asked.saturating_add(1);
+        Err(WorldError::NoSuchNode)
+    }
+}
+
+/// How often a clerk of this ledger hands in two turns, each of which is refused.
+fn asked_when_refused<L: Ledger, R: Wait>(
+    rt: &R,
+    alloc: Global,
+    blank: Blank,
+    door: &Door,
+) -> Result<u64, Fail>
+    requires name { blank.name ≡ L.name }
+    requires parts { blank.parts ≡ L.parts }
+    requires room { 33 ≤ blank.parts }
+{
+    let (_book, share) = alone::<L>(alloc, blank)?;
+    let book = Mutex::new(RefusingBook { asked: 0 });
+    let _done = Clerk::new(0, share).run(rt, &book, door, &[TurnJob, TurnJob]);
+    Ok(book.into_inner().asked)
+}
+
+#[test]
+fn a_refused_job_is_handed_in_once(rt: HostRuntime) -> Result<(), Fail> {
+    let door = Door::until(2);
+    let asked = asked_when_refused::<Brand, HostRuntime>(&rt, rt.alloc(), Blank::new(33), &door)?;
+    assert_eq!(rt; asked, 2);
+    Ok(())
+}

@@ -1,0 +1,30 @@
+use Rattle.std.proofs.Common.{◌≡◌, ◌+◌, take, subst, rules}
+use Rattle.std.proofs.lemmas.List.Elements.{All-more}
+use Rattle.rapid_clerks.specs.Jobs.{HandedIn, no_job}
+use Rattle.rapid_clerks.proofs.Handing.{handed_next}
+use Rattle.rapid_clerks.proofs.clerk.Clerk.run.Goals as goal
+
+pub loop-job-init : goal.loop-job-init
+loop-job-init g c = (search rules, search rules, search rules, search rules, search rules, search rules, search rules, no_job)
+
+pub loop-job-preserved : goal.loop-job-preserved
+loop-job-preserved g c =
+    let i = c.loop-job.invariant in
+    let jobs = c.args.jobs.now in
+    let n = c.loop-job.job-index in
+    let job = c.job-item.result in
+    let answer = c.do_job-answer.ensures in
+    let before = c.loop-job.self.share.amount in
+    let after = c.do_job-answer.new.share.amount in
+    let from = c.args.self.now.share.amount in
+    let same : after ≡ c.match-judge.self.share.amount = search rules in (
+      search rules,
+      search rules,
+      search rules,
+      search rules,
+      search rules,
+      search rules,
+      All-more g.B.DoJob.answered jobs n job c.loop-job-test.true i.6 (subst g.B.DoJob.answered c.job-item.is answer.answered),
+      subst (λ a. HandedIn g.B.DoJob.handed from (take (n + 1) jobs) a) same
+          (handed_next g.B.DoJob.handed from before after jobs n job c.loop-job-test.true i.7 (subst (λ j. g.B.DoJob.handed before j after) c.job-item.is answer.handed)),
+    )
