@@ -39,10 +39,10 @@ impl<L: Ledger> Clerk<L> {
     }
 
     /// Does these jobs in order, each under the lock, and says how many were done. Each job is
-    /// handed in with the share as the job before it has left it. A refused job is not counted. The clerk stops if no further event is accepted, or if out of memory. Before
-    /// each job and after it the clerk calls the gate, while it holds no lock. It stops if the gate
-    /// does not let it in. Afterwards `passed` and `ended` say what became of the jobs that were
-    /// not done.
+    /// handed in with the share as the job before it has left it. A refused job is not counted. The
+    /// clerk stops if no further event is accepted, or if out of memory. Before each job and after it
+    /// the clerk calls the gate, while it holds no lock. It stops if the gate does not let it in.
+    /// Afterwards `passed` and `ended` say what became of the jobs that were not done.
     pub fn run<J, B: DoJob<L, J>, G: Gate, R: Wait>(
         &mut self,
         rt: &R,
