@@ -1,10 +1,11 @@
 -- Clauses of public calls cite this file.
 -- The edges that a node observes in a view, their board, and the parts into which their probes are cut.
-use Rattle.std.specs.Prelude.{◌≡◌, ℕ, ◌%◌, ◌==◌, false, if◌then◌else◌, List, [], map, zip, flat_map, Option, Some, None, option_to_list}
+use Rattle.std.specs.Prelude.{◌≡◌, ◌≢◌, ℕ, ◌<◌, ◌%◌, ◌==◌, Bool, true, false, if◌then◌else◌, List, [], map, zip, flat_map, length, get_or, Option, Some, None, option_to_list}
 use Rattle.std.specs.List.{range_with_len}
 use Rattle.rapid_model.specs.Bytes.{Endpoint, ConfigurationId}
 use Rattle.rapid_model.specs.Configuration.{Configuration, configuration_id}
 use Rattle.rapid_model.specs.Process.{Process, endpoint}
+use Rattle.rapid_monitor.specs.BoardRule.{IsIn}
 use Rattle.rapid_monitor.specs.Boards.{Watching, Owned, IsSize, fresh_watcher, fresh_seat}
 use Rattle.rapid_monitor.specs.Probes.{BookValue, book_when, part_of}
 use Rattle.rapid_rounds.specs.declared.edge_state.EdgeState.{EdgeState}
@@ -21,6 +22,25 @@ abbrev pub SameBoard : Option Watching → Option Watching → Type 0
 SameBoard None new = new ≡ None
 SameBoard (Some b) None = ⊥
 SameBoard (Some b) (Some c) = (c.board ≡ b.board) × (c.edges ≡ b.edges)
+
+-- A watcher, if there is one, knows the edge with this number to be down.
+abbrev pub KnowsDown : Option Watching → ℕ → Type 0
+KnowsDown None edge = ⊥
+KnowsDown (Some b) edge = (edge < b.edges) × IsIn edge b.known
+
+-- Whether an edge is down is what a watcher answers: yes exactly if it knows so afterwards. Of others it learns nothing.
+pub record Answered (old new : Option Watching) (edge : ℕ) (is_down : Bool) : Type 0 where
+  pub down : is_down ≡ true → KnowsDown new edge
+  pub known : KnowsDown new edge → is_down ≡ true
+  pub others : (other : ℕ) → other ≢ edge → KnowsDown new other → KnowsDown old other
+  pub kept : (other : ℕ) → KnowsDown old other → KnowsDown new other
+
+-- Whether each edge is down, by number, is what a watcher answers: yes exactly if it knows so afterwards. What it knew
+-- before it still knows.
+pub record AllAnswered (old new : Option Watching) (downs : List Bool) : Type 0 where
+  pub down : (edge : ℕ) → edge < length downs → get_or downs edge false ≡ true → KnowsDown new edge
+  pub known : (edge : ℕ) → edge < length downs → KnowsDown new edge → get_or downs edge false ≡ true
+  pub kept : (edge : ℕ) → KnowsDown old edge → KnowsDown new edge
 
 -- The configuration of a part, and its book.
 abbrev pub told_of : Part → ConfigurationId × BookValue
@@ -57,3 +77,7 @@ edge_of e = (e.0, endpoint e.1)
 -- The same of what is said of an edge.
 abbrev pub place_of : EdgeState → ℕ × Endpoint
 place_of s = (s.ring, s.endpoint)
+
+-- Whether an edge is down.
+abbrev pub down_of : EdgeState → Bool
+down_of s = s.is_down

@@ -3,7 +3,7 @@
 ghost use Rattle.std.specs.Prelude.{◌≡◌, ◌≢◌, ◌⊎◌, ◌<◌, ◌%◌, ◌==◌, ◌++◌, ℕ, List, map, vec_len, Some, None, true, false, if◌then◌else◌, option_to_list, IfSome, IfNone, IfOk, OnOk, OnErr};
 ghost use Rattle.rapid_model.specs.Ring.{subjects_of};
 ghost use Rattle.rapid_monitor.specs.Boards.{Owned};
-ghost use Rattle.rapid_rounds.specs.Edges.{IsBoard, SameBoard, all_blank, blank_part, told_of, seats_of, dealt_seats, all_dealt, edge_of, place_of};
+ghost use Rattle.rapid_rounds.specs.Edges.{IsBoard, SameBoard, Answered, AllAnswered, down_of, all_blank, blank_part, told_of, seats_of, dealt_seats, all_dealt, edge_of, place_of};
 
 use crate::edge_state::EdgeState;
 use crate::part::Part;
@@ -154,12 +154,13 @@ impl ObservedEdges {
         }
     }
 
-    /// Each edge by ring, and whether it is down now.
+    /// Each edge by ring, and whether it is down now: once it was, it always is.
     pub fn states(&mut self) -> Result<Vec<EdgeState>, AllocError>
         ensures edges { IfOk result (λ states. map place_of states.items ≡ map edge_of self.old.edges.items) }
         ensures same { (self.new.rings ≡ self.old.rings) × (self.new.me ≡ self.old.me) × (self.new.edges.items ≡ self.old.edges.items) × (self.new.parted ≡ self.old.parted) }
         ensures seats { self.new.seats.items ≡ self.old.seats.items }
         ensures board { SameBoard self.old.board self.new.board }
+        ensures down { IfOk result (λ states. AllAnswered self.old.board self.new.board (map down_of states.items)) }
     {
         states_of(self.alloc, self.edges.as_slice(), &mut self.board)
     }
@@ -213,7 +214,7 @@ fn seats_in(
 }
 
 /// Each of these edges, and whether a watcher, if there is one, answers that it is down.
-#[tactic(auto, using(crate::proofs::Observing::same_itself))]
+#[tactic(auto, using(crate::proofs::Observing::same_itself, crate::proofs::Observing::nothing_asked))]
 fn states_of(
     alloc: Global,
     edges: &[(u8, Process)],
@@ -221,6 +222,7 @@ fn states_of(
 ) -> Result<Vec<EdgeState>, AllocError>
     ensures edges { IfOk result (λ states. map place_of states.items ≡ map edge_of edges.now) }
     ensures board { SameBoard board.old board.new }
+    ensures down { IfOk result (λ states. AllAnswered board.old board.new (map down_of states.items)) }
 {
     let mut states = Vec::with_capacity(alloc, edges.len())?;
     for i in 0..edges.len() {
@@ -242,9 +244,10 @@ fn state_of(edge: &(u8, Process), is_down: bool) -> EdgeState
 }
 
 /// Whether a watcher, if there is one, answers that an edge is down.
-#[tactic(auto, using(crate::proofs::Observing::same_itself))]
+#[tactic(auto, using(crate::proofs::Observing::same_itself, crate::proofs::Observing::unwatched, crate::proofs::Observing::not_on_board, crate::proofs::Observing::known_by))]
 fn is_down(board: &mut Option<EdgeBoard>, edge: usize) -> bool
-    ensures { SameBoard board.old board.new }
+    ensures board { SameBoard board.old board.new }
+    ensures answer { Answered board.old board.new edge result }
 {
     match board {
         Some(board) if edge < board.edges() => board.is_down(edge),

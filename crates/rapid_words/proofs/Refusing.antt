@@ -1,5 +1,5 @@
 -- Words that are refused.
-use Rattle.std.proofs.Common.{◌≡◌, ◌⊎◌, ℕ, List, codes, refl, sym, ap, subst, ◌∙◌, Option, Some, None, IfSome, IfNone, Result, Err, inl, inr}
+use Rattle.std.proofs.Common.{◌≡◌, ℕ, List, codes, refl, sym, ap, subst, ◌∙◌, Option, Some, None, IfSome, IfNone, Result, Err, inl, inr}
 use Rattle.std.specs.Prelude.{option_map, ◌≤◌}
 use Rattle.std.specs.Str.Parse.{ParsesUnsigned}
 use Rattle.clap.specs.Words.{Row, Text, HasKind, ReadsOne, fault_of, kind_of, one_of, one_text, rows_of, subcommand_of}

@@ -181,6 +181,7 @@ pub fn tell<S: AsStr, O: Write, E: Write>(
     err: &mut E,
 ) -> u8
     ensures memory { kind_of error.now ≡ ErrorKind.OutOfMemory → result ≡ 3 }
+    ensures only_memory { result ≡ 3 → kind_of error.now ≡ ErrorKind.OutOfMemory }
     ensures refused { kind_of error.now ≢ ErrorKind.OutOfMemory → kind_of error.now ≢ ErrorKind.DisplayHelp
         → kind_of error.now ≢ ErrorKind.DisplayVersion → result ≡ 2 }
     ensures status { result ≤ 3 }
