@@ -236,8 +236,6 @@ impl<R: Wait + Copy + Drop, P: Post + Drop> Service<R, P> {
     /// after it was entered.
     pub fn take_parts(&mut self, parts: u8) -> Result<Option<Vec<Part>>, RunningFault>
         ensures none { self.old.present ≡ None → IfOk result (λ r. r ≡ None) }
-        ensures parts { IfSome self.old.present (λ present. IfOk result (λ r. IfSome r (λ all. map told_of all.items ≡ all_blank present.view (subjects_of present.view self.old.me) parts parts))) }
-        ensures seats { IfSome self.old.present (λ present. IfOk result (λ r. IfSome r (λ all. map seats_of all.items ≡ all_dealt (subjects_of present.view self.old.me) present.watch.seats.items parts parts))) }
         ensures once { IfSome self.old.present (λ present. IfOk result (λ r. IfSome r (λ _. (present.watch.parted ≡ false) × (0 < parts)))) }
         ensures spent { IfSome self.old.present (λ present. IfOk result (λ r. IfNone r ((present.watch.parted ≡ true) ⊎ (parts ≡ 0)))) }
         ensures desk { self.new.desk ≡ self.old.desk }
