@@ -5,5 +5,6 @@ pub mod Presents
 pub mod Filters
 pub mod Seats
 pub mod Entering
+pub mod Noting
 pub mod Subscribing
 pub mod HandingOn

@@ -15,4 +15,5 @@ pub(crate) struct Present {
     pub(crate) watch: ObservedEdges,
     pub(crate) repeats: Repeats,
     ghost here: { watch.edges.items ≡ subjects_of view watch.me },
+    ghost same: { watch.rings ≡ view },
 }

@@ -1,6 +1,6 @@
 // One node at its desk, with its probes.
 
-ghost use Rattle.std.specs.Prelude.{◌≡◌, ◌==◌, ℕ, ◌+◌, ◌%◌, ◌<◌, ◌≤◌, ◌++◌, [], ◌∷◌, ◌↔◌, ◌⊎◌, map, true, false, Ok, Some, None, length, option_to_list, vec_len, IfOk, IfErr, IfSome, IsSome, IsSomeAnd, OnOk, OnErr};
+ghost use Rattle.std.specs.Prelude.{◌≡◌, ◌==◌, IfNone, ℕ, ◌+◌, ◌%◌, ◌<◌, ◌≤◌, ◌++◌, [], ◌∷◌, ◌↔◌, ◌⊎◌, map, true, false, Ok, Some, None, length, option_to_list, vec_len, IfOk, IfErr, IfSome, IsSome, IsSomeAnd, OnOk, OnErr};
 ghost use Rattle.std.specs.Option.{option_map};
 ghost use Rattle.std.proofs.Props.{props};
 ghost use Rattle.rapid_desk.specs.Desks.{NotSubscribed, seed_state, joiner_state, shown_height};
@@ -14,10 +14,11 @@ ghost use Rattle.rapid_node.specs.Steps.{event_of};
 ghost use Rattle.rapid_lines.specs.ViewText.{view_text};
 ghost use Rattle.rapid_lines.specs.declared.note.Answer.TheVariants.{Nothing};
 ghost use Rattle.rapid_repeats.specs.Remembering.{IsRepeatFor};
-ghost use Rattle.rapid_rounds.specs.Edges.{place_of};
+ghost use Rattle.rapid_rounds.specs.Edges.{place_of, told_of, all_blank, seats_of, all_dealt};
 ghost use Rattle.rapid_service.specs.Entering.{EntersOne, EntersSome, views_of};
 ghost use Rattle.rapid_service.specs.Filters.{IsFresh, StaysOrFresh, TickedOrFresh, HeardOrFresh, TickedIn, HeardIn, filter_of};
 ghost use Rattle.rapid_service.specs.HandingOn.{down_on, downs_from};
+ghost use Rattle.rapid_service.specs.Noting.{KeepsNotes, NotesRemoval};
 ghost use Rattle.rapid_service.specs.Presents.{edges_in};
 ghost use Rattle.rapid_service.specs.Seats.{had_seats};
 ghost use Rattle.rapid_service.specs.Stepping.{HasStepped, HasRefused, Steps, StepsAll, Fails, FailsAmong, FailsIn, Tells};
@@ -221,6 +222,9 @@ impl<R: Wait + Copy + Drop, P: Post + Drop> Service<R, P> {
         ensures given { OnOk result ((self.new.changes.taken ≡ self.old.changes.taken) ⊎ (self.new.desk.seats ≡ false)) }
         ensures all { OnOk result (had_seats self.old.desk self.new.desk ≡ true → self.new.desk.seats ≡ false → vec_len self.new.seats ≡ self.old.desk.count) }
         ensures rest { (self.new.me ≡ self.old.me) × (self.new.desk.count ≡ self.old.desk.count) }
+        ensures kept { had_seats self.old.desk self.new.desk ≡ false → self.new.seats ≡ self.old.seats }
+        ensures failed { OnErr result ((self.new.present ≡ self.old.present) × (self.new.seats ≡ self.old.seats) × (self.new.rounds ≡ self.old.rounds)) }
+        ensures notes { KeepsNotes self.old.notes.waiting.items self.new.notes.waiting.items }
     {
         self.step(Event::Tick)?;
         self.count_tick();
@@ -232,6 +236,8 @@ impl<R: Wait + Copy + Drop, P: Post + Drop> Service<R, P> {
     /// after it was entered.
     pub fn take_parts(&mut self, parts: u8) -> Result<Option<Vec<Part>>, RunningFault>
         ensures none { self.old.present ≡ None → IfOk result (λ r. r ≡ None) }
+        ensures once { IfSome self.old.present (λ present. IfOk result (λ r. IfSome r (λ _. (present.watch.parted ≡ false) × (0 < parts)))) }
+        ensures spent { IfSome self.old.present (λ present. IfOk result (λ r. IfNone r ((present.watch.parted ≡ true) ⊎ (parts ≡ 0)))) }
         ensures desk { self.new.desk ≡ self.old.desk }
         ensures views { views_of self.new.changes.taken self.new.lines.items self.new.present ≡ views_of self.old.changes.taken self.old.lines.items self.old.present }
         ensures rest { (self.new.me ≡ self.old.me) × (self.new.rounds ≡ self.old.rounds) × (self.new.notes ≡ self.old.notes) × (self.new.seats ≡ self.old.seats) }
@@ -253,6 +259,8 @@ impl<R: Wait + Copy + Drop, P: Post + Drop> Service<R, P> {
         ensures fault { IfErr result (FailsIn self.old.desk (downs_from round.now.id 0 round.now.downs) self.new.desk) }
         ensures seats { OnOk result ((self.new.seats ≡ self.old.seats) ⊎ (vec_len self.new.seats ≡ self.old.desk.count)) }
         ensures rest { (self.new.rounds ≡ self.old.rounds) × (self.new.me ≡ self.old.me) × (self.new.desk.count ≡ self.old.desk.count) }
+        ensures all { OnOk result (had_seats self.old.desk self.new.desk ≡ true → self.new.desk.seats ≡ false → vec_len self.new.seats ≡ self.old.desk.count) }
+        ensures notes { KeepsNotes self.old.notes.waiting.items self.new.notes.waiting.items }
     {
         self.hand_down(round.id, &round.downs)?;
         let frame = frame_of(self.alloc, &probe_of(self.me, round.id))?;
@@ -291,6 +299,9 @@ impl<R: Wait + Copy + Drop, P: Post + Drop> Service<R, P> {
         ensures given { OnOk result ((self.new.changes.taken ≡ self.old.changes.taken) ⊎ (self.new.desk.seats ≡ false)) }
         ensures all { IfOk result (λ received. received ≡ fate.Taken → had_seats self.old.desk self.new.desk ≡ true → self.new.desk.seats ≡ false → vec_len self.new.seats ≡ self.old.desk.count) }
         ensures rest { (self.new.rounds ≡ self.old.rounds) × (self.new.me ≡ self.old.me) × (self.new.desk.count ≡ self.old.desk.count) }
+        ensures kept { had_seats self.old.desk self.new.desk ≡ false → self.new.seats ≡ self.old.seats }
+        ensures failed { OnErr result (HeardIn true message self.old.present self.new.present × (self.new.seats ≡ self.old.seats)) }
+        ensures notes { NotesRemoval (name_of self.new.desk.state.node.phase) self.new.present self.old.notes.waiting.items self.new.notes.waiting.items }
     {
         if let Body::Reply(joiner, reply) = message.body() {
             self.hear(joiner, reply);
@@ -314,6 +325,9 @@ impl<R: Wait + Copy + Drop, P: Post + Drop> Service<R, P> {
         ensures given { OnOk result ((self.new.changes.taken ≡ self.old.changes.taken) ⊎ (self.new.desk.seats ≡ false)) }
         ensures all { OnOk result (had_seats self.old.desk self.new.desk ≡ true → self.new.desk.seats ≡ false → vec_len self.new.seats ≡ self.old.desk.count) }
         ensures rest { (self.new.rounds ≡ self.old.rounds) × (self.new.me ≡ self.old.me) × (self.new.desk.count ≡ self.old.desk.count) }
+        ensures kept { had_seats self.old.desk self.new.desk ≡ false → self.new.seats ≡ self.old.seats }
+        ensures failed { OnErr result ((self.new.present ≡ self.old.present) × (self.new.seats ≡ self.old.seats)) }
+        ensures notes { NotesRemoval (name_of self.new.desk.state.node.phase) self.new.present self.old.notes.waiting.items self.new.notes.waiting.items }
     {
         self.step(Event::Leave)
     }
@@ -326,6 +340,7 @@ impl<R: Wait + Copy + Drop, P: Post + Drop> Service<R, P> {
         ensures desk { self.new.desk ≡ self.old.desk }
         ensures views { views_of self.new.changes.taken self.new.lines.items self.new.present ≡ views_of self.old.changes.taken self.old.lines.items self.old.present }
         ensures rest { (self.new.rounds ≡ self.old.rounds) × (self.new.me ≡ self.old.me) × (self.new.seats ≡ self.old.seats) }
+        ensures notes { self.new.notes.waiting.items ≡ self.old.notes.waiting.items }
     {
         match &mut self.present {
             Some(present) => present.repeats.admits(message),
@@ -339,6 +354,7 @@ impl<R: Wait + Copy + Drop, P: Post + Drop> Service<R, P> {
         ensures desk { self.new.desk ≡ self.old.desk }
         ensures views { views_of self.new.changes.taken self.new.lines.items self.new.present ≡ views_of self.old.changes.taken self.old.lines.items self.old.present }
         ensures rest { (self.new.rounds ≡ self.old.rounds) × (self.new.me ≡ self.old.me) × (self.new.seats ≡ self.old.seats) }
+        ensures notes { self.new.notes.waiting.items ≡ self.old.notes.waiting.items }
     {
         if let Some(present) = &mut self.present {
             present.repeats.tick();
@@ -351,6 +367,7 @@ impl<R: Wait + Copy + Drop, P: Post + Drop> Service<R, P> {
         ensures desk { self.new.desk ≡ self.old.desk }
         ensures views { views_of self.new.changes.taken self.new.lines.items self.new.present ≡ views_of self.old.changes.taken self.old.lines.items self.old.present }
         ensures rest { (self.new.rounds ≡ self.old.rounds) × (self.new.me ≡ self.old.me) × (self.new.seats ≡ self.old.seats) × (self.new.present ≡ self.old.present) }
+        ensures notes { KeepsNotes self.old.notes.waiting.items self.new.notes.waiting.items }
     {
         if let Some(asking) = &mut self.asking
             && let Some(note) = asking.tick()
@@ -366,6 +383,7 @@ impl<R: Wait + Copy + Drop, P: Post + Drop> Service<R, P> {
         ensures desk { self.new.desk ≡ self.old.desk }
         ensures views { views_of self.new.changes.taken self.new.lines.items self.new.present ≡ views_of self.old.changes.taken self.old.lines.items self.old.present }
         ensures rest { (self.new.rounds ≡ self.old.rounds) × (self.new.me ≡ self.old.me) × (self.new.seats ≡ self.old.seats) }
+        ensures notes { self.new.notes.waiting.items ≡ self.old.notes.waiting.items }
     {
         if let Some(asking) = &mut self.asking
             && *joiner == self.me
@@ -475,6 +493,9 @@ impl<R: Wait + Copy + Drop, P: Post + Drop> Service<R, P> {
         ensures given { OnOk result ((self.new.changes.taken ≡ self.old.changes.taken) ⊎ (self.new.desk.seats ≡ false)) }
         ensures all { OnOk result (had_seats self.old.desk self.new.desk ≡ true → self.new.desk.seats ≡ false → vec_len self.new.seats ≡ self.old.desk.count) }
         ensures rest { (self.new.rounds ≡ self.old.rounds) × (self.new.me ≡ self.old.me) × (self.new.desk.count ≡ self.old.desk.count) }
+        ensures kept { had_seats self.old.desk self.new.desk ≡ false → self.new.seats ≡ self.old.seats }
+        ensures failed { OnErr result ((self.new.present ≡ self.old.present) × (self.new.seats ≡ self.old.seats)) }
+        ensures notes { NotesRemoval (name_of self.new.desk.state.node.phase) self.new.present self.old.notes.waiting.items self.new.notes.waiting.items }
     {
         let sent = self.at_desk(event)?;
         // before a new view is entered: the other members are those of the view of the step
@@ -492,6 +513,7 @@ impl<R: Wait + Copy + Drop, P: Post + Drop> Service<R, P> {
         ensures closed { OnErr result (self.new.desk.subscriptions ≡ []) }
         ensures views { views_of self.new.changes.taken self.new.lines.items self.new.present ≡ views_of self.old.changes.taken self.old.lines.items self.old.present }
         ensures rest { (self.new.rounds ≡ self.old.rounds) × (self.new.me ≡ self.old.me) × (self.new.seats ≡ self.old.seats) × (self.new.present ≡ self.old.present) × (self.new.desk.count ≡ self.old.desk.count) }
+        ensures notes { self.new.notes.waiting.items ≡ self.old.notes.waiting.items }
     {
         // a journal for which there is no memory now grows on, and the next step tries again
         let _ = shorten(&mut self.desk);
@@ -509,6 +531,7 @@ impl<R: Wait + Copy + Drop, P: Post + Drop> Service<R, P> {
         ensures desk { self.new.desk ≡ self.old.desk }
         ensures views { views_of self.new.changes.taken self.new.lines.items self.new.present ≡ views_of self.old.changes.taken self.old.lines.items self.old.present }
         ensures rest { (self.new.rounds ≡ self.old.rounds) × (self.new.me ≡ self.old.me) × (self.new.seats ≡ self.old.seats) × (self.new.present ≡ self.old.present) }
+        ensures notes { self.new.notes.waiting.items ≡ self.old.notes.waiting.items }
     {
         for output in sent {
             self.send(output)?;
@@ -521,6 +544,7 @@ impl<R: Wait + Copy + Drop, P: Post + Drop> Service<R, P> {
         ensures desk { self.new.desk ≡ self.old.desk }
         ensures views { views_of self.new.changes.taken self.new.lines.items self.new.present ≡ views_of self.old.changes.taken self.old.lines.items self.old.present }
         ensures rest { (self.new.rounds ≡ self.old.rounds) × (self.new.me ≡ self.old.me) × (self.new.seats ≡ self.old.seats) × (self.new.present ≡ self.old.present) }
+        ensures notes { self.new.notes.waiting.items ≡ self.old.notes.waiting.items }
     {
         let frame = frame_of(self.alloc, output.message())?;
         match output.to() {
@@ -537,6 +561,7 @@ impl<R: Wait + Copy + Drop, P: Post + Drop> Service<R, P> {
         ensures desk { self.new.desk ≡ self.old.desk }
         ensures views { views_of self.new.changes.taken self.new.lines.items self.new.present ≡ views_of self.old.changes.taken self.old.lines.items self.old.present }
         ensures rest { (self.new.rounds ≡ self.old.rounds) × (self.new.me ≡ self.old.me) × (self.new.seats ≡ self.old.seats) × (self.new.present ≡ self.old.present) }
+        ensures notes { self.new.notes.waiting.items ≡ self.old.notes.waiting.items }
     {
         match &self.present {
             Some(present) => broadcast(
@@ -560,6 +585,9 @@ impl<R: Wait + Copy + Drop, P: Post + Drop> Service<R, P> {
         ensures given { OnOk result ((self.new.changes.taken ≡ self.old.changes.taken) ⊎ (self.new.desk.seats ≡ false)) }
         ensures all { OnOk result (self.old.desk.seats ≡ true → self.new.desk.seats ≡ false → vec_len self.new.seats ≡ self.old.desk.count) }
         ensures rest { (self.new.rounds ≡ self.old.rounds) × (self.new.me ≡ self.old.me) × (self.new.desk.count ≡ self.old.desk.count) }
+        ensures kept { self.old.desk.seats ≡ false → self.new.seats ≡ self.old.seats }
+        ensures failed { OnErr result ((self.new.present ≡ self.old.present) × (self.new.seats ≡ self.old.seats)) }
+        ensures notes { NotesRemoval (name_of self.new.desk.state.node.phase) self.new.present self.old.notes.waiting.items self.new.notes.waiting.items }
     {
         match self.changes.take(&self.rt) {
             Taken::Change(view) => self.enter(view),
@@ -583,6 +611,9 @@ impl<R: Wait + Copy + Drop, P: Post + Drop> Service<R, P> {
         ensures all { OnOk result (self.old.desk.seats ≡ true → vec_len self.new.seats ≡ self.old.desk.count) }
         ensures fault { IfErr result (λ e. e ≡ OutOfMemory) }
         ensures rest { (self.new.rounds ≡ self.old.rounds) × (self.new.me ≡ self.old.me) × (self.new.desk.count ≡ self.old.desk.count) }
+        ensures kept { self.old.desk.seats ≡ false → self.new.seats ≡ self.old.seats }
+        ensures failed { OnErr result ((self.new.present ≡ self.old.present) × (self.new.seats ≡ self.old.seats)) }
+        ensures notes { NotesRemoval (name_of self.new.desk.state.node.phase) self.new.present self.old.notes.waiting.items self.new.notes.waiting.items }
     {
         write_view(view.configuration(), &mut self.lines)?;
         let watch = self.watch(view.configuration())?;
@@ -608,6 +639,7 @@ impl<R: Wait + Copy + Drop, P: Post + Drop> Service<R, P> {
     fn watch(&self, configuration: &Configuration) -> Result<ObservedEdges, AllocError>
         ensures edges { IfOk result (λ w. w.edges.items ≡ subjects_of configuration.now self.now.me) }
         ensures me { IfOk result (λ w. w.me ≡ self.now.me) }
+        ensures rings { IfOk result (λ w. w.rings ≡ configuration.now) }
     {
         match &self.present {
             Some(present) => present.watch.next(configuration),
@@ -627,6 +659,8 @@ impl<R: Wait + Copy + Drop, P: Post + Drop> Service<R, P> {
         ensures fault { IfErr result (FailsAmong self.old.desk (downs_from id 0 downs.now) self.new.desk) }
         ensures seats { OnOk result ((self.new.seats ≡ self.old.seats) ⊎ (vec_len self.new.seats ≡ self.old.desk.count)) }
         ensures rest { (self.new.rounds ≡ self.old.rounds) × (self.new.me ≡ self.old.me) × (self.new.desk.count ≡ self.old.desk.count) }
+        ensures all { OnOk result (had_seats self.old.desk self.new.desk ≡ true → self.new.desk.seats ≡ false → vec_len self.new.seats ≡ self.old.desk.count) }
+        ensures notes { KeepsNotes self.old.notes.waiting.items self.new.notes.waiting.items }
     {
         for ring in 0..MOST_RINGS {
             self.hand_edge(id, ring as u8, downs[ring])?;
@@ -647,6 +681,8 @@ impl<R: Wait + Copy + Drop, P: Post + Drop> Service<R, P> {
         ensures fault { IfErr result (FailsAmong self.old.desk (down_on id ring down) self.new.desk) }
         ensures seats { OnOk result ((self.new.seats ≡ self.old.seats) ⊎ (vec_len self.new.seats ≡ self.old.desk.count)) }
         ensures rest { (self.new.rounds ≡ self.old.rounds) × (self.new.me ≡ self.old.me) × (self.new.desk.count ≡ self.old.desk.count) }
+        ensures all { OnOk result (had_seats self.old.desk self.new.desk ≡ true → self.new.desk.seats ≡ false → vec_len self.new.seats ≡ self.old.desk.count) }
+        ensures notes { KeepsNotes self.old.notes.waiting.items self.new.notes.waiting.items }
     {
         match down {
             Some(subject) => self.step(Event::EdgeDown(id, ring, subject)),

@@ -6,11 +6,12 @@ use Rattle.rapid_text.proofs.Streams.{handed_on}
 use Rattle.rapid_service.proofs.Entering.{enters_more}
 use Rattle.rapid_service.proofs.Filtering.{stays_more}
 use Rattle.rapid_service.proofs.Handing.{steps_more, downs_more, downs_fail}
-use Rattle.rapid_service.proofs.Seating.{seats_more}
+use Rattle.rapid_service.proofs.Noting.{keeps_same, keeps_more}
+use Rattle.rapid_service.proofs.Seating.{seats_more, all_more, none_at_first}
 use Rattle.rapid_service.proofs.service.Service.hand_down.Goals as goal
 
 pub loop-ring-init : goal.loop-ring-init
-loop-ring-init g c = record { steps = refl; views = ([], refl); filter = inl (refl, refl); seats = inl refl; rounds = refl; me = refl; count = refl }
+loop-ring-init g c = record { steps = refl; views = ([], refl); filter = inl (refl, refl); seats = inl refl; all = λ had none. absurd (none_at_first c.args.self.now.desk had none); notes = keeps_same _ _ refl; rounds = refl; me = refl; count = refl }
 
 -- The edge of a ring is a step, if it went down.
 pub loop-ring-preserved : goal.loop-ring-preserved
@@ -27,6 +28,8 @@ loop-ring-preserved g c =
       views = enters_more _ _ _ c.loop-ring.invariant.views c.in_ok-hand_edge.ensures.views;
       filter = stays_more _ _ _ _ _ _ before.filter c.in_ok-hand_edge.ensures.filter;
       seats = seats_more vec_len c.args.self.now.desk.count c.loop-ring.self.desk.count _ _ _ before.count before.seats c.in_ok-hand_edge.ensures.seats;
+      all = all_more vec_len c.args.self.now.desk.count c.loop-ring.self.desk.count c.args.self.now.desk c.loop-ring.self.desk c.hand_edge.new.self.desk _ _ before.count before.all c.in_ok-hand_edge.ensures.all c.in_ok-hand_edge.ensures.seats;
+      notes = keeps_more _ _ _ before.notes c.hand_edge.ensures.notes;
       rounds = after.0 ∙ before.rounds;
       me = after.1 ∙ before.me;
       count = after.2 ∙ before.count;

@@ -1,7 +1,9 @@
-use Rattle.std.proofs.Common.{◌≡◌, ◌⊎◌, take, vec_len}
+use Rattle.std.proofs.Common.{◌≡◌, ◌⊎◌, take, vec_len, true, false}
 use Rattle.rapid_service.specs.Entering.{EntersSome, views_of}
 use Rattle.rapid_service.specs.Filters.{StaysOrFresh}
 use Rattle.rapid_service.specs.HandingOn.{downs_from}
+use Rattle.rapid_service.specs.Noting.{KeepsNotes}
+use Rattle.rapid_service.specs.Seats.{had_seats}
 use Rattle.rapid_service.specs.Stepping.{StepsAll}
 use Rattle.rapid_service.proofs.service.Service.hand_down.Given as goal
 
@@ -12,6 +14,8 @@ invariant-loop-ring g l =
       views : EntersSome (views_of l.fn.self.changes.taken l.fn.self.lines.items l.fn.self.present) (views_of l.self.changes.taken l.self.lines.items l.self.present);
       filter : StaysOrFresh l.fn.self.changes.taken l.fn.self.present l.self.changes.taken l.self.present;
       seats : (l.self.seats ≡ l.fn.self.seats) ⊎ (vec_len l.self.seats ≡ l.fn.self.desk.count);
+      all : had_seats l.fn.self.desk l.self.desk ≡ true → l.self.desk.seats ≡ false → vec_len l.self.seats ≡ l.fn.self.desk.count;
+      notes : KeepsNotes l.fn.self.notes.waiting.items l.self.notes.waiting.items;
       rounds : l.self.rounds ≡ l.fn.self.rounds;
       me : l.self.me ≡ l.fn.self.me;
       count : l.self.desk.count ≡ l.fn.self.desk.count;

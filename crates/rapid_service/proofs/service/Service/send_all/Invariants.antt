@@ -9,6 +9,7 @@ invariant-loop-output g l =
       rounds : l.self.rounds ≡ l.fn.self.rounds;
       me : l.self.me ≡ l.fn.self.me;
       seats : l.self.seats ≡ l.fn.self.seats;
+      notes : l.self.notes.waiting.items ≡ l.fn.self.notes.waiting.items;
       present : l.self.present ≡ l.fn.self.present;
       views : views_of l.self.changes.taken l.self.lines.items l.self.present ≡ views_of l.fn.self.changes.taken l.fn.self.lines.items l.fn.self.present;
     }

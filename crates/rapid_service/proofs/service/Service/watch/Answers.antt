@@ -13,3 +13,6 @@ pub returns-in-Some-clause-me : goal.returns-in-Some-clause-me
 returns-in-Some-clause-me g c =
     let mine = subst (λ o. IfSome o (λ p. p.watch.me ≡ c.args.self.now.me)) c.in-Some.is c.args.self.now.mine in
     IfOk-weaker c.next.result _ _ (λ w made. made.1 ∙ mine) c.next.ensures.made
+
+pub returns-in-Some-clause-rings : goal.returns-in-Some-clause-rings
+returns-in-Some-clause-rings g c = IfOk-weaker c.next.result _ _ (λ w made. made.0) c.next.ensures.made
