@@ -76,7 +76,7 @@ all_observed : (c : Configuration) (j o : Process) → is_member c o ≡ true �
 all_observed c j o member other k h =
     let x = some_before c.members k o j (is_among c.members o member) other in
     let found = find_from (is_next_before c.members k j) c.members x.0 x.1 x.2 in
-    (found_in.0, on_ring c k j h ∙ found_in.1)
+    (found.0, on_ring c k j h ∙ found.1)
 
 pub observers_stand_by_ring : ObserversStandByRing
 unfolding observers_of
