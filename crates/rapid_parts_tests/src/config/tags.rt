@@ -59,6 +59,7 @@ fn tags_are_gone_over(rt: HostRuntime) -> Result<(), Fail> {
 
 /// A tag of 64 bytes, and one of 65.
 const LONGEST: [u8; 64] = [b'x'; 64];
+
 const TOO_LONG: [u8; 65] = [b'x'; 65];
 
 /// Lists that are refused, and why.
