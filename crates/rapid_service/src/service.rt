@@ -14,12 +14,12 @@ ghost use Rattle.rapid_node.specs.Steps.{event_of};
 ghost use Rattle.rapid_lines.specs.ViewText.{view_text};
 ghost use Rattle.rapid_lines.specs.declared.note.Answer.TheVariants.{Nothing};
 ghost use Rattle.rapid_repeats.specs.Remembering.{IsRepeatFor};
-ghost use Rattle.rapid_rounds.specs.Edges.{place_of, told_of, all_blank, seats_of, all_dealt};
+ghost use Rattle.rapid_rounds.specs.Edges.{place_of, down_of, told_of, all_blank, seats_of, all_dealt};
 ghost use Rattle.rapid_service.specs.Entering.{EntersOne, EntersSome, views_of};
 ghost use Rattle.rapid_service.specs.Filters.{IsFresh, StaysOrFresh, TickedOrFresh, HeardOrFresh, TickedIn, HeardIn, filter_of};
 ghost use Rattle.rapid_service.specs.HandingOn.{down_on, downs_from};
 ghost use Rattle.rapid_service.specs.Noting.{KeepsNotes, NotesRemoval};
-ghost use Rattle.rapid_service.specs.Presents.{edges_in};
+ghost use Rattle.rapid_service.specs.Presents.{edges_in, ShowsDown, SameBoards};
 ghost use Rattle.rapid_service.specs.Seats.{had_seats};
 ghost use Rattle.rapid_service.specs.Stepping.{HasStepped, HasRefused, Steps, StepsAll, Fails, FailsAmong, FailsIn, Tells};
 ghost use Rattle.rapid_service.specs.declared.fault.RunningFault.TheVariants.{OutOfMemory};
@@ -233,11 +233,15 @@ impl<R: Wait + Copy + Drop, P: Post + Drop> Service<R, P> {
     }
 
     /// The parts of the probes in the current view, as many as are asked for: once for each view,
-    /// after it was entered.
+    /// after it was entered. They are of those whom the process observes in it.
     pub fn take_parts(&mut self, parts: u8) -> Result<Option<Vec<Part>>, RunningFault>
         ensures none { self.old.present ≡ None → IfOk result (λ r. r ≡ None) }
         ensures once { IfSome self.old.present (λ present. IfOk result (λ r. IfSome r (λ _. (present.watch.parted ≡ false) × (0 < parts)))) }
         ensures spent { IfSome self.old.present (λ present. IfOk result (λ r. IfNone r ((present.watch.parted ≡ true) ⊎ (parts ≡ 0)))) }
+        ensures parts { IfSome self.old.present (λ present. IfOk result (λ r. IfSome r (λ all. map told_of all.items ≡ all_blank present.view (subjects_of present.view self.old.me) parts parts))) }
+        ensures seats { IfSome self.old.present (λ present. IfOk result (λ r. IfSome r (λ all. map seats_of all.items ≡ all_dealt present.watch.edges.items present.watch.seats.items parts parts))) }
+        ensures given { IfOk result (λ r. IfSome r (λ _. IfSome self.new.present (λ present. present.watch.parted ≡ true))) }
+        ensures board { SameBoards self.old.present self.new.present }
         ensures desk { self.new.desk ≡ self.old.desk }
         ensures views { views_of self.new.changes.taken self.new.lines.items self.new.present ≡ views_of self.old.changes.taken self.old.lines.items self.old.present }
         ensures rest { (self.new.me ≡ self.old.me) × (self.new.rounds ≡ self.old.rounds) × (self.new.notes ≡ self.old.notes) × (self.new.seats ≡ self.old.seats) }
@@ -271,6 +275,7 @@ impl<R: Wait + Copy + Drop, P: Post + Drop> Service<R, P> {
     /// The observed edges by ring, and whether each is down; none before the first view.
     pub fn edges(&mut self) -> Result<Vec<EdgeState>, AllocError>
         ensures edges { IfOk result (λ states. map place_of states.items ≡ edges_in self.old.me self.old.present) }
+        ensures down { IfOk result (λ states. ShowsDown self.old.present self.new.present (map down_of states.items)) }
         ensures desk { self.new.desk ≡ self.old.desk }
         ensures views { views_of self.new.changes.taken self.new.lines.items self.new.present ≡ views_of self.old.changes.taken self.old.lines.items self.old.present }
         ensures rest { (self.new.me ≡ self.old.me) × (self.new.rounds ≡ self.old.rounds) × (self.new.notes ≡ self.old.notes) × (self.new.seats ≡ self.old.seats) }
