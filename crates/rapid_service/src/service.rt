@@ -14,7 +14,7 @@ ghost use Rattle.rapid_node.specs.Steps.{event_of};
 ghost use Rattle.rapid_lines.specs.ViewText.{view_text};
 ghost use Rattle.rapid_lines.specs.declared.note.Answer.TheVariants.{Nothing};
 ghost use Rattle.rapid_repeats.specs.Remembering.{IsRepeatFor};
-ghost use Rattle.rapid_rounds.specs.Edges.{place_of, down_of, told_of, all_blank, seats_of, all_dealt};
+ghost use Rattle.rapid_rounds.specs.Edges.{SameBoard, place_of, down_of, told_of, all_blank, seats_of, all_dealt};
 ghost use Rattle.rapid_service.specs.Entering.{EntersOne, EntersSome, views_of};
 ghost use Rattle.rapid_service.specs.Filters.{IsFresh, StaysOrFresh, TickedOrFresh, HeardOrFresh, TickedIn, HeardIn, filter_of};
 ghost use Rattle.rapid_service.specs.HandingOn.{down_on, downs_from};
@@ -136,6 +136,7 @@ impl<R: Wait + Copy + Drop, P: Post + Drop> Service<R, P> {
         ensures blank { IfOk result (λ s. (s.present ≡ None) × (s.asking ≡ None) × (s.lines.items ≡ []) × (s.notes.waiting.items ≡ []) × (s.rounds ≡ 0)) }
         ensures own { IfOk result (λ s. (s.desk.subscriptions ≡ desk.subscriptions ++ record { queue = s.changes.queue; since = shown_height desk.state.published; capacity = 4; put = []; known = [] } ∷ []) × (s.changes.taken ≡ [])) }
         ensures seats { IfOk result (λ s. (s.desk.seats ≡ desk.seats) × (s.desk.count ≡ desk.count) × (vec_len s.seats ≡ 0)) }
+        ensures post { IfOk result (λ s. s.post ≡ post) }
         ensures fault { IfErr result (λ e. desk.subscriptions ≡ [] → e ≡ OutOfMemory) }
     {
         let changes = desk.subscribe(CHANGES)?;
@@ -170,6 +171,8 @@ impl<R: Wait + Copy + Drop, P: Post + Drop> Service<R, P> {
         ensures own { IfOk result (λ s. (s.desk.subscriptions ≡ record { queue = s.changes.queue; since = shown_height s.desk.state.published; capacity = 4; put = []; known = [] } ∷ []) × (s.changes.taken ≡ [])) }
         ensures seats { IfOk result (λ s. (vec_len s.seats ≡ 8) × (s.desk.count ≡ 8)) }
         ensures filter { IfOk result (λ s. IsSomeAnd s.present IsFresh) }
+        ensures quiet { IfOk result (λ s. (s.asking ≡ None) × (s.notes.waiting.items ≡ [])) }
+        ensures post { IfOk result (λ s. s.post ≡ post) }
         ensures rounds { IfOk result (λ s. s.rounds ≡ 0) }
         ensures fault { IfErr result (λ e. e ≡ OutOfMemory) }
     {
@@ -199,6 +202,8 @@ impl<R: Wait + Copy + Drop, P: Post + Drop> Service<R, P> {
         ensures desk { IfOk result (λ s. (s.desk.state ≡ joiner_state me seed) × (s.me ≡ me)) }
         ensures asks { IfOk result (λ s. s.asking ≡ Some (record { seed = seed; ticks = 0; answer = Nothing })) }
         ensures blank { IfOk result (λ s. (s.present ≡ None) × (s.lines.items ≡ [])) }
+        ensures quiet { IfOk result (λ s. s.notes.waiting.items ≡ []) }
+        ensures post { IfOk result (λ s. s.post ≡ post) }
         ensures own { IfOk result (λ s. (s.desk.subscriptions ≡ record { queue = s.changes.queue; since = shown_height s.desk.state.published; capacity = 4; put = []; known = [] } ∷ []) × (s.changes.taken ≡ [])) }
         ensures seats { IfOk result (λ s. (vec_len s.seats ≡ 0) × (s.desk.count ≡ 8)) }
         ensures rounds { IfOk result (λ s. s.rounds ≡ 0) }
@@ -242,10 +247,13 @@ impl<R: Wait + Copy + Drop, P: Post + Drop> Service<R, P> {
         ensures seats { IfSome self.old.present (λ present. IfOk result (λ r. IfSome r (λ all. map seats_of all.items ≡ all_dealt present.watch.edges.items present.watch.seats.items parts parts))) }
         ensures given { IfOk result (λ r. IfSome r (λ _. IfSome self.new.present (λ present. present.watch.parted ≡ true))) }
         ensures board { SameBoards self.old.present self.new.present }
+        ensures lost { IfSome self.new.present (λ present. OnErr result (present.watch.parted ≡ true)) }
+        ensures kept { IfSome self.old.present (λ before. IfSome self.new.present (λ after. IfOk result (λ r. IfNone r ((after.watch.parted ≡ before.watch.parted) × (after.watch.seats.items ≡ before.watch.seats.items))))) }
         ensures desk { self.new.desk ≡ self.old.desk }
         ensures views { views_of self.new.changes.taken self.new.lines.items self.new.present ≡ views_of self.old.changes.taken self.old.lines.items self.old.present }
         ensures rest { (self.new.me ≡ self.old.me) × (self.new.rounds ≡ self.old.rounds) × (self.new.notes ≡ self.old.notes) × (self.new.seats ≡ self.old.seats) }
         ensures filter { filter_of self.new.present ≡ filter_of self.old.present }
+        ensures silent { (self.new.asking ≡ self.old.asking) × (self.new.post ≡ self.old.post) }
         ensures fault { IfErr result (λ e. e ≡ OutOfMemory) }
     {
         match &mut self.present {
@@ -276,10 +284,13 @@ impl<R: Wait + Copy + Drop, P: Post + Drop> Service<R, P> {
     pub fn edges(&mut self) -> Result<Vec<EdgeState>, AllocError>
         ensures edges { IfOk result (λ states. map place_of states.items ≡ edges_in self.old.me self.old.present) }
         ensures down { IfOk result (λ states. ShowsDown self.old.present self.new.present (map down_of states.items)) }
+        ensures board { IfSome self.old.present (λ before. IfSome self.new.present (λ after. SameBoard before.watch.board after.watch.board)) }
+        ensures parts { IfSome self.old.present (λ before. IfSome self.new.present (λ after. (after.watch.parted ≡ before.watch.parted) × (after.watch.seats.items ≡ before.watch.seats.items))) }
         ensures desk { self.new.desk ≡ self.old.desk }
         ensures views { views_of self.new.changes.taken self.new.lines.items self.new.present ≡ views_of self.old.changes.taken self.old.lines.items self.old.present }
         ensures rest { (self.new.me ≡ self.old.me) × (self.new.rounds ≡ self.old.rounds) × (self.new.notes ≡ self.old.notes) × (self.new.seats ≡ self.old.seats) }
         ensures filter { filter_of self.new.present ≡ filter_of self.old.present }
+        ensures silent { (self.new.asking ≡ self.old.asking) × (self.new.post ≡ self.old.post) }
     {
         match &mut self.present {
             Some(present) => present.watch.states(),
@@ -403,6 +414,7 @@ impl<R: Wait + Copy + Drop, P: Post + Drop> Service<R, P> {
         ensures some { IsSome result ↔ (0 < vec_len self.old.seats) }
         ensures same { (self.new.desk ≡ self.old.desk) × (self.new.me ≡ self.old.me) × (self.new.rounds ≡ self.old.rounds) × (self.new.notes ≡ self.old.notes) × (self.new.present ≡ self.old.present) }
         ensures views { views_of self.new.changes.taken self.new.lines.items self.new.present ≡ views_of self.old.changes.taken self.old.lines.items self.old.present }
+        ensures silent { (self.new.asking ≡ self.old.asking) × (self.new.post ≡ self.old.post) }
     {
         self.seats.pop()
     }
@@ -439,6 +451,7 @@ impl<R: Wait + Copy + Drop, P: Post + Drop> Service<R, P> {
         ensures unserved { IfErr result (λ e. StillServes self.old.desk capacity e self.new.desk.subscriptions) }
         ensures views { views_of self.new.changes.taken self.new.lines.items self.new.present ≡ views_of self.old.changes.taken self.old.lines.items self.old.present }
         ensures rest { (self.new.desk.count ≡ self.old.desk.count) × (self.new.rounds ≡ self.old.rounds) × (self.new.notes ≡ self.old.notes) × (self.new.seats ≡ self.old.seats) × (self.new.present ≡ self.old.present) }
+        ensures silent { (self.new.asking ≡ self.old.asking) × (self.new.post ≡ self.old.post) }
     {
         let subscription = self.desk.subscribe(capacity)?;
         match &self.present {
@@ -455,6 +468,7 @@ impl<R: Wait + Copy + Drop, P: Post + Drop> Service<R, P> {
         ensures closed { self.new.desk ≡ record self.old.desk { subscriptions = [] } }
         ensures views { views_of self.new.changes.taken self.new.lines.items self.new.present ≡ views_of self.old.changes.taken self.old.lines.items self.old.present }
         ensures rest { (self.new.me ≡ self.old.me) × (self.new.rounds ≡ self.old.rounds) × (self.new.notes ≡ self.old.notes) × (self.new.seats ≡ self.old.seats) × (self.new.present ≡ self.old.present) }
+        ensures silent { (self.new.asking ≡ self.old.asking) × (self.new.post ≡ self.old.post) }
     {
         // nobody compares what was taken with what was put
         drop(self.desk.close());
@@ -466,6 +480,7 @@ impl<R: Wait + Copy + Drop, P: Post + Drop> Service<R, P> {
         ensures none { self.new.lines.items ≡ [] }
         ensures same { (self.new.desk ≡ self.old.desk) × (self.new.me ≡ self.old.me) × (self.new.changes ≡ self.old.changes) × (self.new.present ≡ self.old.present) }
         ensures rest { (self.new.rounds ≡ self.old.rounds) × (self.new.notes ≡ self.old.notes) × (self.new.seats ≡ self.old.seats) }
+        ensures silent { (self.new.asking ≡ self.old.asking) × (self.new.post ≡ self.old.post) }
     {
         mem::replace(&mut self.lines, Vec::new(self.alloc))
     }
@@ -477,6 +492,7 @@ impl<R: Wait + Copy + Drop, P: Post + Drop> Service<R, P> {
         ensures none { self.new.notes.waiting.items ≡ [] }
         ensures same { (self.new.desk ≡ self.old.desk) × (self.new.me ≡ self.old.me) × (self.new.rounds ≡ self.old.rounds) × (self.new.seats ≡ self.old.seats) × (self.new.present ≡ self.old.present) }
         ensures views { views_of self.new.changes.taken self.new.lines.items self.new.present ≡ views_of self.old.changes.taken self.old.lines.items self.old.present }
+        ensures silent { (self.new.asking ≡ self.old.asking) × (self.new.post ≡ self.old.post) }
     {
         self.notes.take()
     }
@@ -611,6 +627,7 @@ impl<R: Wait + Copy + Drop, P: Post + Drop> Service<R, P> {
         ensures fresh { OnOk result (IsSomeAnd self.new.present IsFresh) }
         ensures asks { OnOk result (self.new.asking ≡ None) }
         ensures changes { self.new.changes ≡ self.old.changes }
+        ensures post { self.new.post ≡ self.old.post }
         ensures seats { OnOk result ((self.new.seats ≡ self.old.seats) ⊎ (vec_len self.new.seats ≡ self.old.desk.count)) }
         ensures given { OnOk result (self.new.desk.seats ≡ false) }
         ensures all { OnOk result (self.old.desk.seats ≡ true → vec_len self.new.seats ≡ self.old.desk.count) }
