@@ -308,6 +308,15 @@ impl Node {
         self.enter(&*member, &view, cut)
     }
 
+    /// Whether there is no room for a view after the one that this member is in.
+    #[inline(always)]
+    fn is_full_for(&self, member: &MemberState) -> bool
+        ensures full { result ≡ step.is_history_full self.now.installed member.now.config }
+        ensures room { result ≡ false → member.now.config.height < 2 ^ 64 - 1 }
+    {
+        self.installed().len() >= Node::MOST_VIEWS || member.configuration().height() == u64::MAX
+    }
+
     /// What the node is after its member's work: that member, or what the decided cut makes of it.
     #[tactic(auto, unfolding(rapid_model::specs::NodeStep::settle))]
     #[inline(always)]
@@ -328,9 +337,7 @@ impl Node {
             self.be_member(member);
             return Ok(());
         };
-        if self.past.installed.as_slice().len() >= Node::MOST_VIEWS
-            || member.configuration().height() == u64::MAX
-        {
+        if self.is_full_for(&*member) {
             return Err(NodeFault::HistoryFull);
         }
         self.install(views, out, member, cut)?;
