@@ -1,13 +1,13 @@
 -- What is held and published after each outcome of a step.
 use Rattle.std.proofs.Common.{◌≡◌, ◌<◌, length, Bool, true, false, List, [], ◌∷◌, refl, sym, ap, ◌∙◌, subst}
-use Rattle.std.specs.Prelude.{Option, Some, None, Result, Ok, Err, IsSome, OnOk, OnErr, IfErr}
+use Rattle.std.specs.Prelude.{◌&&◌, ◌||◌, not, Option, Some, None, Result, Ok, Err, IsSome, OnOk, OnErr, IfErr}
 use Rattle.rapid_model.specs.Configuration.{Configuration, Stamp}
 use Rattle.rapid_model.specs.Node.{Node, Event, configuration_of, has_installed, halt}
 use Rattle.rapid_model.specs.Journal.{with_event}
 use Rattle.rapid_desk.specs.declared.error.DeskError.{DeskError}
 use Rattle.rapid_desk.specs.declared.error.DeskError.TheVariants as error
 use Rattle.rapid_desk.specs.States.{DeskState}
-use Rattle.rapid_desk.specs.Desks.{HeldValue, BoardValue, NotTaken, Refused, state_with, state_of, is_blank, Keeps, Advances, Tried, Installs, Grown, NotEntered}
+use Rattle.rapid_desk.specs.Desks.{HeldValue, BoardValue, NotTaken, Refused, state_with, state_of, is_blank, Keeps, Advances, Tried, Installs, Grown, Shown, NotEntered}
 use Rattle.rapid_desk.proofs.Moving.{enters_shows}
 use Rattle.rapid_desk.proofs.Keeping.{enters, has_room}
 use Rattle.rapid_desk.proofs.Stepping.{Well, goes_on, begins, not_shown, stays_full, halts}
@@ -57,6 +57,32 @@ pub not_blank : (shown : Option Configuration) (old new : List Stamp) → Grown 
 not_blank None old new h = absurd h
 not_blank (Some c) [] new h = ap is_blank h.0
 not_blank (Some c) (s ∷ old) new h = ap is_blank h.0
+
+-- ---- the seats, and what is shown
+
+blank_before : (was now : Bool) → now ≡ false → was ≡ (was && not now)
+blank_before true now h = rw h refl
+blank_before false now h = refl
+
+-- a view that is published has seats
+pub seats_shown : {A : Type 0} (r : Result A DeskError) (shown : Option Configuration) (b b1 : BoardValue) → OnOk r (b1.seats ≡ (b.seats || is_blank b.published)) → OnOk r (Grown shown b.published b1.published)
+    → OnOk r (b1.seats ≡ (b.seats || (is_blank b.published && not (is_blank b1.published))))
+seats_shown (Ok a) shown b b1 seats grown =
+    seats ∙ ap (λ (x : Bool). b.seats || x) (blank_before (is_blank b.published) (is_blank b1.published) (not_blank shown b.published b1.published grown))
+seats_shown (Err e) shown b b1 seats grown = tt
+
+-- as long as nothing is published the seats stay
+pub seats_same : (seats blank : Bool) → seats ≡ (seats || (blank && not blank))
+seats_same true blank = refl
+seats_same false true = refl
+seats_same false false = refl
+
+pub shown_grown : {A : Type 0} (r : Result A DeskError) (some : Bool) (shown : Option Configuration) (old new : List Stamp) → some ≡ true → OnOk r (Grown shown old new) → OnOk r (Shown some shown old new)
+shown_grown (Ok a) some shown old new is grown = subst (λ x. Shown x shown old new) (sym is) grown
+shown_grown (Err e) some shown old new is grown = tt
+
+pub shown_same : (some : Bool) (shown : Option Configuration) (stamps : List Stamp) → some ≡ false → Shown some shown stamps stamps
+shown_same some shown stamps is = subst (λ x. Shown x shown stamps stamps) (sym is) refl
 
 -- ---- by what the calls answer
 
