@@ -103,6 +103,13 @@ impl MemberState {
         &self.context.configuration
     }
 
+    /// What memory is taken from. A method that reads no other field asks for it here, so that a
+    /// proof need not take the member apart.
+    #[inline(always)]
+    fn alloc(&self) -> Global {
+        self.alloc
+    }
+
     /// The process.
     fn me(&self) -> Process
         ensures { result ≡ self.now.me }

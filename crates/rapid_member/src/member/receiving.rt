@@ -74,7 +74,7 @@ impl MemberState {
                 Some(place) => self.take_accepted(place, *ballot, cut),
                 None => Ok(None),
             },
-            Body::Decision(_, cut) => Ok(Some(cut.try_copy(self.alloc)?)),
+            Body::Decision(_, cut) => Ok(Some(cut.try_copy(self.alloc())?)),
             Body::Leave(_, ring) => {
                 self.take_leave(from, *ring)?;
                 Ok(None)
@@ -109,7 +109,7 @@ impl MemberState {
                 if id == self.configuration().id() {
                     self.take_message(out, from, body)
                 } else {
-                    decisions.catch_up(self.alloc, out, self.me(), from, id)?;
+                    decisions.catch_up(self.alloc(), out, self.me(), from, id)?;
                     Ok(None)
                 }
             }
@@ -130,7 +130,7 @@ impl MemberState {
         ensures out { OnOk result (out.new.items ≡ out.old.items ++ outputs self.old.me (receive.answer_to joiner.now (host_answer_of answered.now))) }
         ensures same { IsSameMember self.old self.new }
     {
-        say_answer(self.alloc, out, self.me(), joiner, answered)?;
+        say_answer(self.alloc(), out, self.me(), joiner, answered)?;
         match answered {
             HostAnswer::Nothing => Ok(()),
             HostAnswer::Reply(_) => Ok(()),

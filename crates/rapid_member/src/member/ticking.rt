@@ -225,7 +225,7 @@ impl MemberState {
         ensures same { IsSameMember self.old self.new }
     {
         let id = self.configuration().id();
-        let said = batch.try_copy(self.alloc)?;
+        let said = batch.try_copy(self.alloc())?;
         say(out, self.me(), Body::Batch(id, said))?;
         self.take_batch(out, batch.alerts())
     }

@@ -134,7 +134,7 @@ impl MemberState {
         say(
             out,
             self.me(),
-            Body::Accept(id, ballot, cut.try_copy(self.alloc)?),
+            Body::Accept(id, ballot, cut.try_copy(self.alloc())?),
         )?;
         self.take_accept(out, ballot, cut)
     }
@@ -181,7 +181,7 @@ impl MemberState {
         let Some(place) = self.configuration().position(from) else {
             return Ok(None);
         };
-        let vote = copy_vote(self.alloc, vote)?;
+        let vote = copy_vote(self.alloc(), vote)?;
         self.take_promise(out, place, &Promise { ballot, vote })
     }
 
