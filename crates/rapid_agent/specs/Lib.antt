@@ -1,4 +1,1 @@
-pub mod Changing
-pub mod Following
-pub mod Laws
 pub mod Opening

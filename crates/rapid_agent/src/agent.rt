@@ -1,22 +1,22 @@
 // A member in one's own program.
 
-ghost use Rattle.std.specs.Prelude.{◌≡◌, ◌+◌, ◌<◌, ◌≤◌, ◌++◌, [], ℕ, None, Ok, IfOk, IfErr, IfSome, OnOk};
+ghost use Rattle.std.specs.Prelude.{◌≡◌, ◌+◌, ◌<◌, ◌≤◌, ◌++◌, [], ℕ, max, min, None, Ok, IfOk, IfErr, IfSome, OnOk};
 ghost use Rattle.std.specs.Thread.{IsSync};
-ghost use Rattle.rapid_model.specs.Limits.{most_waiting_views};
+ghost use Rattle.rapid_model.specs.Limits.{most_probers, most_waiting_views};
 ghost use Rattle.rapid_model.specs.Process.{endpoint};
 ghost use Rattle.rapid_desk.specs.Desks.{NotSubscribed, joiner_state};
-ghost use Rattle.rapid_service.specs.declared.fault.RunningFault.TheVariants.{NoIdentifier};
+ghost use Rattle.rapid_signals.specs.declared.fault.RunningFault.TheVariants.{NoIdentifier};
 ghost use Rattle.rapid_agent.specs.Opening.{IsOpenedBy, opening_state};
 
 use crate::arrivals::Arrivals;
 use crate::posts::Posts;
-use crate::subscriber::Subscriber;
 use rapid_config::Params;
 use rapid_desk::DeskError;
 use rapid_endpoint::{Endpoint, Process, ProcessId};
 use rapid_node::Phase;
 use rapid_options::NodeOptions;
 use rapid_service::{RunningFault, Service, Shared, identify, run_prober, run_ticker};
+use rapid_subscriber::Subscriber;
 use rapid_transport::{Counters, ListenError, Peers, SenderEnd};
 use rapid_view::ViewSeat;
 use std::alloc::{AllocError, Global};
@@ -101,6 +101,24 @@ fn open_service<'a, W: Wait>(
     }
 }
 
+/// What the threads of such a process share. The line of its first view waits at the console, if it
+/// has a view.
+fn open_shared<'a, W: Wait>(
+    rt: &'a W,
+    alloc: Global,
+    options: &NodeOptions,
+    me: Process,
+    posts: Posts,
+    probers: u8,
+) -> Result<Shared<&'a W, Posts>, RunningFault>
+    ensures { IfOk result (λ shared. shared.probers ≡ max 1 (min probers most_probers)) }
+{
+    let service = open_service(rt, alloc, options, me, posts)?;
+    let shared = Shared::new(alloc, service, probers)?;
+    shared.begin(rt)?;
+    Ok(shared)
+}
+
 impl<'a, W: Wait> Agent<'a, W> {
     /// A member that founds a cluster or joins one, as its options say. It listens at its endpoint
     /// from now on. Without an identifier in its options it draws one from the source.
@@ -145,10 +163,8 @@ impl<'a, W: Wait> Agent<'a, W> {
     {
         let me = process_at(options.listen, options.id, source)?;
         let (peers, ends) = listen(rt, alloc, options.listen)?;
-        let service = open_service(rt, alloc, options, me, posts(&peers)?)?;
         let probers = options.probers.min(MOST_PROBERS);
-        let shared = Shared::new(alloc, service, probers)?;
-        shared.begin(rt)?;
+        let shared = open_shared(rt, alloc, options, me, posts(&peers)?, probers)?;
         Ok(Agent {
             rt,
             alloc,

@@ -1,14 +1,12 @@
 //! One running node of the membership service: its peers over loopback TCP, its lines and its
-//! clock, each in threads of their own.
+//! clock, each in threads of their own. By it the command line of `rapidd` runs its nodes.
 #![tactic(auto)]
 
+mod loopback;
 mod node;
-mod polled;
 mod run;
-mod streams;
-mod threads;
-mod until;
+mod words;
 
-pub use polled::Polled;
+pub use rapid_threads::{Polled, Streams};
 pub use run::run_node;
-pub use streams::Streams;
+pub use words::run_words;

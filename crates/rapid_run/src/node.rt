@@ -2,28 +2,15 @@
 
 use rapid_agent::Agent;
 use rapid_lines::Note;
-use rapid_service::{Ending, run_lines};
+use rapid_session::run_lines;
+use rapid_signals::Ending;
+use rapid_threads::Node;
 use std::alloc::Global;
 use std::io::Read;
 use std::sync::Wait;
 
-/// What the threads of a node ask of it. They see no more of it, so that no proof about them looks
-/// into an agent.
-pub(crate) trait Node {
-    /// Whether it goes on.
-    fn ending(&self) -> &Ending;
-
-    /// Takes out what it has to report.
-    fn take_notes(&self) -> Vec<Note>;
-
-    /// Whether no file descriptor was left for a connection.
-    fn lacks_descriptors(&self) -> bool;
-
-    /// Answers the lines of an input until it ends or the node does, and then ends the node.
-    fn answer<I: Read>(&self, reader: &mut I);
-}
-
-/// The node of an agent.
+/// The node of an agent. Its methods and the function that opens the agent are all that looks into
+/// one.
 #[derive(Drop)]
 pub(crate) struct AgentNode<'n, 'a, W: Wait> {
     pub rt: &'n W,

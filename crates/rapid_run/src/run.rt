@@ -3,11 +3,10 @@
 ghost use Rattle.std.specs.Thread.{IsSync};
 
 use crate::node::AgentNode;
-use crate::streams::Streams;
-use crate::threads::{run_threads, tell};
 use rapid_agent::Agent;
 use rapid_options::NodeOptions;
-use rapid_service::RunningFault;
+use rapid_signals::RunningFault;
+use rapid_threads::{Streams, run_threads, tell_fault};
 use std::alloc::Global;
 use std::io::{Read, Write};
 use std::net::{Net, TcpListener, TcpStream};
@@ -114,7 +113,7 @@ where
     if let Err(fault) = &ended
         && !told.load(Ordering::SeqCst)
     {
-        tell(*fault, err);
+        tell_fault(*fault, err);
     }
     ended
 }

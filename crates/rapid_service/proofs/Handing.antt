@@ -6,7 +6,7 @@ use Rattle.rapid_model.specs.Node.{Event, Output, configuration_of, has_installe
 use Rattle.rapid_desk.specs.Desks.{DeskValue, Announced}
 use Rattle.rapid_service.specs.HandingOn.{down_on, downs_from}
 use Rattle.rapid_service.specs.Stepping.{HasStepped, Steps, StepsAll, Fails, FailsAmong, Tells}
-use Rattle.rapid_service.specs.declared.fault.RunningFault.{RunningFault}
+use Rattle.rapid_signals.specs.declared.fault.RunningFault.{RunningFault}
 
 -- What was put is the same for a desk with the same node and the same subscriptions before.
 pub tells_since : (old before new : DeskValue) → before.state.node ≡ old.state.node → before.subscriptions ≡ old.subscriptions → Tells before new → Tells old new

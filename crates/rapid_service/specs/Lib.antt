@@ -1,6 +1,5 @@
-pub mod Statuses
+pub mod Faults
 pub mod Stepping
-pub mod Endings
 pub mod Presents
 pub mod Filters
 pub mod Seats

@@ -7,9 +7,9 @@ use Rattle.rapid_node.specs.Steps.{HasOutcome}
 use Rattle.rapid_desk.specs.States.{DeskState}
 use Rattle.rapid_desk.specs.Desks.{DeskValue, Advances, Announced, Refused}
 use Rattle.rapid_desk.specs.declared.error.DeskError.{DeskError}
-use Rattle.rapid_service.specs.Statuses.{fault_of}
-use Rattle.rapid_service.specs.declared.fault.RunningFault.{RunningFault}
-use Rattle.rapid_service.specs.declared.fault.RunningFault.TheVariants.{OutOfMemory}
+use Rattle.rapid_service.specs.Faults.{fault_of}
+use Rattle.rapid_signals.specs.declared.fault.RunningFault.{RunningFault}
+use Rattle.rapid_signals.specs.declared.fault.RunningFault.TheVariants.{OutOfMemory}
 
 -- The journal may have been begun anew: the node and what is published stay.
 abbrev pub HasSameNode : DeskState → DeskState → Type 0

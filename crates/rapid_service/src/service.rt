@@ -15,6 +15,7 @@ ghost use Rattle.rapid_lines.specs.ViewText.{view_text};
 ghost use Rattle.rapid_lines.specs.declared.note.Answer.TheVariants.{Nothing};
 ghost use Rattle.rapid_repeats.specs.Remembering.{IsRepeatFor};
 ghost use Rattle.rapid_rounds.specs.Edges.{SameBoard, place_of, down_of, told_of, all_blank, seats_of, all_dealt};
+ghost use Rattle.rapid_signals.specs.declared.fault.RunningFault.TheVariants.{OutOfMemory};
 ghost use Rattle.rapid_service.specs.Entering.{EntersOne, EntersSome, views_of};
 ghost use Rattle.rapid_service.specs.Filters.{IsFresh, StaysOrFresh, TickedOrFresh, HeardOrFresh, TickedIn, HeardIn, filter_of};
 ghost use Rattle.rapid_service.specs.HandingOn.{down_on, downs_from};
@@ -22,11 +23,10 @@ ghost use Rattle.rapid_service.specs.Noting.{KeepsNotes, NotesRemoval};
 ghost use Rattle.rapid_service.specs.Presents.{edges_in, ShowsDown, SameBoards};
 ghost use Rattle.rapid_service.specs.Seats.{had_seats};
 ghost use Rattle.rapid_service.specs.Stepping.{HasStepped, HasRefused, Steps, StepsAll, Fails, FailsAmong, FailsIn, Tells};
-ghost use Rattle.rapid_service.specs.declared.fault.RunningFault.TheVariants.{OutOfMemory};
 ghost use Rattle.rapid_service.specs.Subscribing.{StillServes};
 ghost use Rattle.rapid_service.specs.declared.received.Received.TheVariants as fate;
 
-use crate::fault::RunningFault;
+use crate::fault::fault_of;
 use crate::journal::shorten;
 use crate::post::Post;
 use crate::present::Present;
@@ -41,6 +41,7 @@ use rapid_message::{Body, Destination, Message, Output, Outputs};
 use rapid_node::{Event, Phase};
 use rapid_repeats::Repeats;
 use rapid_rounds::{EdgeState, MOST_RINGS, ObservedEdges, Part, PartRound, Rounds};
+use rapid_signals::RunningFault;
 use rapid_view::{View, ViewSeat};
 use rapid_wire::encode;
 use std::alloc::{AllocError, Global};
@@ -139,7 +140,10 @@ impl<R: Wait + Copy + Drop, P: Post + Drop> Service<R, P> {
         ensures post { IfOk result (λ s. s.post ≡ post) }
         ensures fault { IfErr result (λ e. desk.subscriptions ≡ [] → e ≡ OutOfMemory) }
     {
-        let changes = desk.subscribe(CHANGES)?;
+        let changes = match desk.subscribe(CHANGES) {
+            Ok(changes) => changes,
+            Err(error) => return Err(fault_of(error)),
+        };
         Ok(Service {
             rt,
             alloc,
@@ -209,7 +213,10 @@ impl<R: Wait + Copy + Drop, P: Post + Drop> Service<R, P> {
         ensures rounds { IfOk result (λ s. s.rounds ≡ 0) }
         ensures fault { IfErr result (λ e. e ≡ OutOfMemory) }
     {
-        let desk = Desk::joiner(rt, alloc, me, seed, SEATS)?;
+        // The desk of a joiner is refused for want of memory alone.
+        let Ok(desk) = Desk::joiner(rt, alloc, me, seed, SEATS) else {
+            return Err(RunningFault::OutOfMemory);
+        };
         let mut service = Service::at(rt, alloc, me, desk, post)?;
         service.asking = Some(Asking::new(seed));
         Ok(service)
@@ -542,7 +549,7 @@ impl<R: Wait + Copy + Drop, P: Post + Drop> Service<R, P> {
             Ok(sent) => Ok(sent),
             Err(error) => {
                 self.desk.close();
-                Err(RunningFault::from(error))
+                Err(fault_of(error))
             }
         }
     }

@@ -6,11 +6,6 @@ ghost use Rattle.rapid_desk.specs.Desks.{NotSubscribed};
 ghost use Rattle.rapid_lines.specs.EdgeText.{edges_text};
 ghost use Rattle.rapid_rounds.specs.declared.edge_state.EdgeState.{EdgeState};
 
-use crate::bell::Bell;
-use crate::console::Console;
-use crate::dealer::Dealer;
-use crate::ending::Ending;
-use crate::fault::RunningFault;
 use crate::post::Post;
 use crate::service::Service;
 use rapid_config::Params;
@@ -20,6 +15,7 @@ use rapid_lines::{Note, write_edges};
 use rapid_message::{Body, Message};
 use rapid_node::Phase;
 use rapid_rounds::{Part, PartRound};
+use rapid_signals::{Bell, Console, Dealer, Ending, RunningFault};
 use rapid_view::{View, ViewSeat};
 use std::alloc::{AllocError, Global};
 use std::sync::{Mutex, Wait};
@@ -44,6 +40,25 @@ pub struct Shared<R: Wait + Copy + Drop, P: Post + Drop> {
     ghost dealt: { (vec_len parts ≡ probers) × (dealer.parts ≡ probers) },
 }
 
+/// Places for so many parts of the probes, without the parts.
+fn places(alloc: Global, parts: u8) -> Result<Vec<Mutex<Option<Part>>>, AllocError>
+    ensures { IfOk result (λ places. vec_len places ≡ parts) }
+{
+    let mut places = Vec::with_capacity(alloc, usize::from(parts))?;
+    for _ in 0..parts {
+        places.push(Mutex::new(None))?;
+    }
+    Ok(places)
+}
+
+/// Ends the subscriptions of a service, and puts another in its place.
+fn replace<R: Wait + Copy + Drop, P: Post + Drop>(service: &mut Service<R, P>, next: Service<R, P>)
+    ensures { service.new ≡ next }
+{
+    service.close();
+    *service = next;
+}
+
 impl<R: Wait + Copy + Drop, P: Post + Drop> Shared<R, P> {
     /// The node of a service, which goes on. The members that it observes are probed in this many
     /// parts, 1 to 16. This is done by the thread that ticks it, and by those that run
@@ -56,10 +71,7 @@ impl<R: Wait + Copy + Drop, P: Post + Drop> Shared<R, P> {
         ensures { IfOk result (λ shared. shared.probers ≡ max 1 (min probers most_probers)) }
     {
         let probers = probers.clamp(1, MOST_PROBERS);
-        let mut parts = Vec::with_capacity(alloc, usize::from(probers))?;
-        for _ in 0..probers {
-            parts.push(Mutex::new(None))?;
-        }
+        let parts = places(alloc, probers)?;
         Ok(Shared {
             alloc,
             service: Mutex::new(service),
@@ -287,14 +299,18 @@ impl<R: Wait + Copy + Drop, P: Post + Drop> Shared<R, P> {
     /// probed for it is forgotten.
     pub fn begin_anew<W: Wait>(&self, rt: &W, next: Service<R, P>) {
         let mut service = self.service.lock(rt);
-        service.close();
-        *service = next;
+        replace(&mut service, next);
+        self.forget_parts(rt);
+        drop(service);
+        self.bell.ring(rt);
+    }
+
+    /// Takes all parts of the probes out of their places.
+    fn forget_parts<W: Wait>(&self, rt: &W) {
         for slot in &self.parts {
             let mut slot = slot.lock(rt);
             *slot = None;
         }
-        drop(service);
-        self.bell.ring(rt);
     }
 
     /// What is to be reported since this was last asked.

@@ -1,7 +1,7 @@
 use Rattle.std.proofs.Common.{rules, ◌≡◌, ◌++◌, List, ℕ, length, Option, None, Some, Result, Ok, IfSome, ap, sym, ◌∙◌}
 use Rattle.rapid_model.specs.Process.{endpoint}
 use Rattle.rapid_endpoint.specs.Joined.{endpoint_part}
-use Rattle.rapid_service.specs.declared.fault.RunningFault.{RunningFault}
+use Rattle.rapid_signals.specs.declared.fault.RunningFault.{RunningFault}
 use Rattle.rapid_agent.proofs.agent.process_at.Goals as goal
 
 pub returns-clause-there : goal.returns-clause-there

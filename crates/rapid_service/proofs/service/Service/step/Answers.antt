@@ -1,7 +1,7 @@
 use Rattle.std.proofs.Common.{refl, inl, inr, ap, ◌∙◌}
 use Rattle.std.proofs.lemmas.Result.{IfErr-weaker}
 use Rattle.rapid_service.specs.Stepping.{Fails}
-use Rattle.rapid_service.specs.declared.fault.RunningFault.TheVariants.{OutOfMemory}
+use Rattle.rapid_signals.specs.declared.fault.RunningFault.TheVariants.{OutOfMemory}
 use Rattle.rapid_node.specs.Steps.{event_of}
 use Rattle.rapid_text.proofs.Streams.{handed_on}
 use Rattle.rapid_service.proofs.Handing.{on_ok, stepped}

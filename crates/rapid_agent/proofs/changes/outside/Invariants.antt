@@ -1,7 +1,0 @@
-use Rattle.std.proofs.Common.{◌≡◌, not, take}
-use Rattle.std.specs.List.{filter}
-use Rattle.rapid_model.specs.Configuration.{is_member}
-use Rattle.rapid_agent.proofs.changes.outside.Given as goal
-
-abbrev pub invariant-loop-member : goal.invariant-loop-member
-invariant-loop-member l = l.found.items ≡ filter (λ p. not (is_member l.other p)) (take l.member-index l.configuration.members)
