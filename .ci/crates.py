@@ -32,6 +32,12 @@ def rt(words, folder, **how):
     return subprocess.run(["rt", *words], cwd=folder, stdout=subprocess.PIPE, text=True, errors="replace", **how)
 
 
+@functools.lru_cache(maxsize=None)
+def told(word):
+    """What the toolchain says of itself."""
+    return rt([word], TOP).stdout
+
+
 def folder_of(name, top=TOP):
     return top / "crates" / name
 
@@ -66,15 +72,10 @@ def tree_over_libraries(name, part, copy):
 
 
 @functools.lru_cache(maxsize=None)
-def kit():
-    return (Path(rt(["doc"], TOP).stdout).parent / "WHAT").read_bytes()
-
-
-@functools.lru_cache(maxsize=None)
 def stamp(name):
     """The word by which rt knows that a library was built of a crate's present sources: see README.md."""
     said = {"name": name, "deps": [f"//crates/{it}" if it in LINES else f"@rattle//{it}" for it in USES[name]]}
-    found = hashlib.sha256(repr((said, False)).encode() + kit())
+    found = hashlib.sha256(repr((said, False)).encode() + Path(told("doc")).with_name("WHAT").read_bytes())
     for at, folders, files in (it for part in SOURCES for it in os.walk(folder_of(name) / part)):
         folders.sort()
         for file in (Path(at, it) for it in sorted(files)):
@@ -92,6 +93,7 @@ def is_built(name):
 def take(tree, name):
     """Takes what was made of a crate in a tree. What an earlier check of it kept stays, if none was kept there."""
     made, out = (folder_of(name, it) / "out" for it in (tree, TOP))
+    made.mkdir(exist_ok=True)
     if (out / "incremental").is_dir() and not (made / "incremental").is_dir():
         shutil.move(out / "incremental", made / "incremental")
     shutil.rmtree(out, ignore_errors=True)
@@ -128,7 +130,7 @@ def ci(names):
     for it in LINES:
         (folder_of(it) / f"out/{it}_tests").unlink(missing_ok=True)
     with tempfile.TemporaryDirectory(prefix="check-") as room:
-        tree, line = Path(room) / "tree", ""
+        tree, stamps, line = Path(room) / "tree", {it: stamp(it) for it in names}, ""
         write_tree(tree, names)
         with subprocess.Popen(["rt", "ci"], cwd=tree, stdout=subprocess.PIPE, text=True, errors="replace") as ran:
             for line in ran.stdout:
@@ -136,7 +138,7 @@ def ci(names):
         for name in (it.parent.name for it in tree.glob("crates/*/out")):
             take(tree, name)
             if (folder_of(name) / "out/rlib").is_dir():
-                (folder_of(name) / "out/rlib/stamp").write_text(stamp(name))
+                (folder_of(name) / "out/rlib/stamp").write_text(stamps[name])
     found = re.fullmatch(r"(\d+) passed, (\d+) failed\n", line)
     passed, failed = map(int, found.groups()) if found else (0, 1)
     return passed, max(failed, int(ran.returncode != 0))

@@ -7,7 +7,8 @@ import re
 import shutil
 from collections import namedtuple
 
-from crates import LINES, SOURCES, TOP, below, copy_sources, folder_of, rt, side_by_side, tasks_of, tree_over_libraries
+from crates import LINES, SOURCES, TOP, below, copy_sources, folder_of, rt, side_by_side, tasks_of, told
+from crates import tree_over_libraries
 
 RECORD = TOP / "mutants.txt"
 HEAD = "# crate, mutants that the prover refuses, sum of what that rests on; ./check mutants writes it\n"
@@ -28,11 +29,6 @@ def mutants_of(name):
 
 
 @functools.lru_cache(maxsize=None)
-def kit():
-    return rt(["version"], TOP).stdout.encode()
-
-
-@functools.lru_cache(maxsize=None)
 def sum_of_files(folder):
     """A SHA-256 of the files below a folder, with their names, but for lines of comment."""
     found = hashlib.sha256()
@@ -44,7 +40,7 @@ def sum_of_files(folder):
 
 def line_of(name):
     """The line of a crate all of whose mutants are refused."""
-    found = hashlib.sha256(kit())
+    found = hashlib.sha256(told("version").encode())
     for crate in [*below(name), name]:
         found.update(LINES[crate].encode())
         for part in (*SOURCES, "must-fail") if crate == name else ("src", "specs"):
@@ -177,18 +173,18 @@ def run(words):
     """Tries the mutants of the crates named, of all, or of those whose line no longer agrees; how many are refused, now
     or by their line, and how many not."""
     known = {it.split()[0]: it for it in RECORD.read_text().splitlines() if not it.startswith("#")}
-    crates = [it for it in LINES if mutants_of(it)]
-    chosen = [it for it in crates if words == ["all"] or it in words or not words and known.get(it) != line_of(it)]
-    standing = [] if words else [it for it in crates if it not in chosen]
+    lines = {it: line_of(it) for it in LINES if mutants_of(it)}
+    chosen = [it for it in lines if words == ["all"] or it in words or not words and known.get(it) != lines[it]]
+    standing = [] if words else [it for it in lines if it not in chosen]
     print(f"check: mutants of {len(chosen)} crates are tried, those of {len(standing)} stand by their line", flush=True)
     tasks = tasks_of({low for name in chosen for low in below(name)})
     for name in chosen:
         tasks[f"{name} mutants"] = [it for it in below(name) if it in tasks], functools.partial(try_mutants, name)
     passed, failed, bad = side_by_side(tasks)
-    lines = {it: line_of(it) for it in chosen if f"{it} mutants" not in bad}
-    changed = [it for it in lines if words == ["all"] and known.get(it) not in (None, lines[it])]
+    refused = [it for it in chosen if f"{it} mutants" not in bad]
+    changed = [it for it in refused if words == ["all"] and known.get(it) not in (None, lines[it])]
     if changed:
         print(f"check: mutants.txt had another line for {' '.join(changed)}", flush=True)
-    lines = {**{it: line for it, line in known.items() if it in crates}, **lines}
-    RECORD.write_text(HEAD + "".join(f"{lines[it]}\n" for it in sorted(lines)))
+    written = {it: lines[it] if it in refused else known.get(it, "") for it in sorted(lines)}
+    RECORD.write_text(HEAD + "".join(f"{it}\n" for it in written.values() if it))
     return passed + sum(len(mutants_of(it)) for it in standing), failed + len(changed)
