@@ -1,141 +1,190 @@
-"""Tries the mutants crates/NAME/must-fail/*.edit: the prover has to refuse each.
-
-All twins of a crate (twins.py) are tried by one check of these alone, which says of each whether it
-is proved. A twin with the body as it is stands among them and has to be proved, or the twins prove
-nothing. A mutant without a twin, or whose twin is not refused, is tried alone.
-
-mutants.txt has a line for each crate: how many mutants were refused, and a sum of all that this rests
-on: the crate's files, those of the crates that it stands on but for their proofs, and the kit's name. Lines
-of comment don't count."""
+"""Tries the mutants crates/NAME/must-fail/*.edit: the prover has to refuse each. Most are tried as twins, all those of
+a crate by one check; a mutant without a twin, or whose twin is not refused, is tried alone. README.md says how, and
+what the lines of mutants.txt are."""
+import functools
+import hashlib
 import re
 import shutil
-import tempfile
-from pathlib import Path
+from collections import namedtuple
 
-import prove
-import tree
-import twins
+from crates import LINES, SOURCES, TOP, below, copy_sources, folder_of, rt, side_by_side, tasks_of, told
+from crates import tree_over_libraries
 
-RECORD = tree.TOP / "mutants.txt"
-STATEMENTS = ("src", "specs")
+RECORD = TOP / "mutants.txt"
+HEAD = "# crate, mutants that the prover refuses, sum of what that rests on; ./check mutants writes it\n"
 COMMENT = re.compile(rb"\s*(//|--)")
 ONLY = re.compile(r"only=\d+ proved=\d+")
-VERDICT = re.compile(r"^fn (?:\S+::)?(\w+): (proved|not proved|no proof)\b", re.M)
+VERDICT = re.compile(r"^fn (?:\S+::)?(\w+): (proved|not proved|no proof(?!: it calls))\b", re.M)
+# A function with a body, in the layout of rt fmt, from its docstring and attributes on: its indent and its name.
+FUNCTION = re.compile(r"(?:^ *(?:///|#\[).*\n)*^( *)(?:pub(?:\(\w+\))? )?(?:const )?fn (\w+)(?s:.*?)\n\1\}$", re.M)
+BLOCK = re.compile(r"^(?:pub(?:\(\w+\))? )?(impl|trait)\b.*", re.M)
+
+# A mutant's twin: its file, name and text, that of the function behind which it comes, and the folder of the proofs of
+# that function, if it has one.
+Twin = namedtuple("Twin", "file name text original folder")
 
 
 def mutants_of(name):
-    return sorted((tree.TOP / "crates" / name / "must-fail").glob("*.edit"))
+    return sorted((folder_of(name) / "must-fail").glob("*.edit"))
+
+
+@functools.lru_cache(maxsize=None)
+def sum_of_files(folder):
+    """A SHA-256 of the files below a folder, with their names, but for lines of comment."""
+    found = hashlib.sha256()
+    for file in sorted(it for it in folder.rglob("*") if it.is_file()):
+        text = b"\n".join(it for it in file.read_bytes().split(b"\n") if not COMMENT.match(it))
+        found.update(f"{file.relative_to(folder)}\n".encode() + hashlib.sha256(text).digest())
+    return found.digest()
 
 
 def line_of(name):
-    summed = tree.sum_of(name, (*tree.SOURCES, "must-fail"), STATEMENTS, COMMENT)
-    return f"{name} {len(mutants_of(name))} {summed}"
+    """The line of a crate all of whose mutants are refused."""
+    found = hashlib.sha256(told("version").encode())
+    for crate in [*below(name), name]:
+        found.update(LINES[crate].encode())
+        for part in (*SOURCES, "must-fail") if crate == name else ("src", "specs"):
+            found.update(sum_of_files(folder_of(crate) / part))
+    return f"{name} {len(mutants_of(name))} {found.hexdigest()}"
 
 
-def record():
-    """The lines of the record, by crate."""
-    text = RECORD.read_text().splitlines() if RECORD.is_file() else []
-    return {it.split()[0]: it for it in text if it and not it.startswith("#")}
+def pairs_of(mutant):
+    """The file that each pair of a mutant changes, the text that goes and the text that comes."""
+    pairs, said = [], {"file": "", "old": ""}
+    for word, text in re.findall(r"^(file|old|new): ?(.*)$", mutant.read_text(), re.M):
+        said[word] = text
+        if word == "new":
+            pairs.append((said["file"].strip(), said["old"], text))
+    return pairs
 
 
-def write_record(names):
-    """Writes the lines of these crates anew, and leaves the others as they are."""
-    found = {it: line for it, line in record().items() if mutants_of(it)} | {it: line_of(it) for it in names}
-    head = "# crate, mutants that the prover refuses, sum of what that rests on; ./check mutants writes it\n"
-    RECORD.write_text(head + "".join(f"{found[it]}\n" for it in sorted(found)))
+def text_of(file):
+    return file.read_text() if file.is_file() else ""
 
 
-def try_twins(crate, made):
-    """The mutants that the prover refuses as twins; none if it does not prove one of them, the
-    control, with its body as it is."""
-    with_proofs = [it for it in made.values() if it[0].folder.is_dir()] or list(made.values())
-    _, pairs = min(with_proofs, key=lambda it: len(it[0].text))
-    control = twins.twin_of(crate, "control", [(pairs[0][0], pairs[0][1], pairs[0][1])])
-    all_twins = [control, *(it for it, _ in made.values())]
-    twins.write(crate, all_twins)
-    only = [word for it in all_twins for word in ("--only", it.name)]
-    ran = tree.rt(["check", "--jobs", "1", *only], crate)
-    verdicts = dict(VERDICT.findall(ran.stdout))
-    if not ONLY.fullmatch(tree.last_line(ran.stdout)) or verdicts.get(control.name) != "proved":
+def module_of(file):
+    """The path of a file's module below its crate; none for the crate's own file."""
+    return [it for it in file[:-3].split("/")[1:] if it not in ("lib", "main")]
+
+
+def owner_of(text, function):
+    """The type whose method a function is, none if it is of no type; false if it is one that a trait asks for."""
+    if not function[1]:
+        return None
+    block = [*BLOCK.finditer(text, 0, function.start())][-1]
+    words = re.sub(r"<(?:[^<>]|<[^<>]*>)*>", "", block[0])
+    return block[1] == "impl" and " for " not in words and re.search(r"\b[A-Z]\w*", words)[0]
+
+
+def twin_of(crate, stem, pairs):
+    """The twin by which a mutant can be tried. It has none if it changes more than one body, if the function is one
+    that a trait asks for or is in a cycle of calls, or if another proof names what belongs to the function's proof."""
+    file, old, _ = (pairs or [("", "", "")])[0]
+    text = text_of(crate / file)
+    function = next((it for it in FUNCTION.finditer(text) if it.start() <= text.find(old) < it.end()), None)
+    owner = function and owner_of(text, function)
+    if not function or owner is False or any(it != file for it, _, _ in pairs):
+        return None
+    opens = f"\n{function[1]}{{\n"
+    head, opens, body = function[0].partition(opens if opens in function[0] else "{\n")
+    for _, old, new in pairs:
+        if text.count(old) != 1 or old not in body:
+            return None
+        text, body = text.replace(old, new), body.replace(old, new)
+    place = f"**/{owner}/{function[2]}" if owner else "/".join([*module_of(file), function[2]])
+    folders = [*(crate / "proofs").glob(place)]
+    others = [it for it in (crate / "proofs").rglob("*.antt") if not {*folders} & {*it.parents}]
+    is_named = any(dotted(crate, folder) in it.read_text() for folder in folders for it in others)
+    if len(folders) > 1 or is_named or "#[cycle" in head:
+        return None
+    name = f"{function[2]}_mutant_{re.sub(r'[^A-Za-z0-9_]', '_', stem)}"
+    head = re.sub(r"^ *///.*\n", "", head, flags=re.M)
+    head = re.sub(rf"^( *)(?:pub(?:\(\w+\))? )?((?:const )?fn ){function[2]}\b", rf"\1\2{name}", head, 1, re.M)
+    return Twin(file, name, head + opens + body, function[0], folders[0] if folders else None)
+
+
+def dotted(crate, folder):
+    """How proofs name what is in a folder of proofs."""
+    return ".".join(["", *folder.relative_to(crate).parts, ""])
+
+
+def write(crate, twin):
+    """Writes a twin, and its proofs, into a crate."""
+    file = crate / twin.file
+    file.write_text(file.read_text().replace(twin.original, f"{twin.original}\n\n{twin.text}"))
+    if twin.folder:
+        folder = shutil.copytree(twin.folder, twin.folder.parent / twin.name)
+        for it in folder.rglob("*.antt"):
+            it.write_text(it.read_text().replace(dotted(crate, twin.folder), dotted(crate, folder)))
+
+
+def check(crate, paths):
+    """Checks these functions and modules of a crate, or all of it; how that ended, and the prover's last line."""
+    ran = rt(["check", "--jobs", "1", *(word for it in paths for word in ("--only", it))], crate)
+    return ran, next((it for it in reversed(ran.stdout.splitlines()) if it and not it.startswith("rt: ")), "")
+
+
+def refused_twins(crate, given):
+    """The mutants refused as twins; none if the control, a twin with its body as it is, is not proved."""
+    made = {stem: it for stem, pairs in given.items() if (it := twin_of(crate, stem, pairs))}
+    if not made:
         return set()
-    return {stem for stem, (it, _) in made.items() if verdicts.get(it.name) in ("not proved", "no proof")}
+    file, old, _ = given[min(made, key=lambda it: (made[it].folder is None, len(made[it].text)))][0]
+    control = twin_of(crate, "control", [(file, old, old)])
+    for it in [control, *made.values()]:
+        write(crate, it)
+    ran, last = check(crate, [it.name for it in [control, *made.values()]])
+    said = dict(VERDICT.findall(ran.stdout))
+    if not ONLY.fullmatch(last) or said.get(control.name) != "proved":
+        return set()
+    return {stem for stem, it in made.items() if said.get(it.name) in ("not proved", "no proof")}
 
 
 def try_alone(crate, name, pairs):
-    """Why a mutant is not refused; nothing if it is. The functions that it changes are tried first, then
-    their modules, then the whole crate."""
-    for part in tree.SOURCES:
+    """Why a mutant is not refused; nothing if it is. The modules that it changes are tried before the whole crate."""
+    for part in SOURCES:
         shutil.rmtree(crate / part, ignore_errors=True)
-        tree.copied(tree.TOP / "crates" / name / part, crate / part)
-    if not pairs:
-        return "it has no pair of texts"
-    for file, old, _ in pairs:
-        text = (crate / file).read_text() if (crate / file).is_file() else ""
+    copy_sources(name, crate.parent.parent)
+    for file, old, new in pairs:
+        text = text_of(crate / file)
         if text.count(old) != 1:
             return f"its old text stands in {file} {text.count(old)} times, and not once"
-    parts = [twins.paths_of(crate, pairs), sorted({"::".join(twins.module_of(it)) for it, _, _ in pairs} - {""}), []]
-    for file, old, new in pairs:
-        text = (crate / file).read_text()
-        (crate / file).unlink()
         (crate / file).write_text(text.replace(old, new))
-    for part in [it for it in parts if it or it is parts[-1]]:
-        ran = tree.rt(["check", "--jobs", "1", *(word for it in part for word in ("--only", it))], crate)
-        last = tree.last_line(ran.stdout)
+    modules = {"::".join(module_of(file)) for file, _, _ in pairs} - {""}
+    for paths in [sorted(modules), []] if modules else [[]]:
+        ran, last = check(crate, paths)
         if ran.returncode == 1 and (ONLY.fullmatch(last) or last.startswith("logic=not-proved")):
             return ""
     return "the crate is still proved" if not ran.returncode else f"the prover cannot read it: {ran.stdout[-600:]}"
 
 
-def tree_of_mutants(room, name):
-    """A tree of a crate over its libraries, with a copy of what its last proof left, if it was proved here."""
-    crate = prove.tree_over_libraries(room, name)
-    shutil.rmtree(crate / "out/incremental", ignore_errors=True)
-    tree.copied(prove.out_of(name) / "incremental", crate / "out/incremental", shutil.copy)
-    return crate
-
-
-def try_mutants(room, name):
-    """Tries a crate's mutants; how many are refused, and what is wrong with each other."""
-    crate = tree_of_mutants(room / f"{name}-mutants", name)
-    given = {it.stem: twins.pairs_of(it) for it in mutants_of(name)}
-    made = {stem: (twin, pairs) for stem, pairs in given.items() if (twin := twins.twin_of(crate, stem, pairs))}
-    refused = try_twins(crate, made) if made else set()
-    whys = {stem: try_alone(crate, name, pairs) for stem, pairs in given.items() if stem not in refused}
-    bad = {stem: why for stem, why in whys.items() if why}
-    shutil.rmtree(crate.parent.parent)
-    said = "".join(f"check: mutant {name}/{stem}: NOT REFUSED: {why}\n" for stem, why in bad.items())
-    print(f"{said}check: mutants of {name}: {len(mutants_of(name)) - len(bad)} refused, {len(bad)} not", flush=True)
-    return not bad
+def try_mutants(name, _jobs):
+    """Tries a crate's mutants; how many are refused, how many not, and what is wrong with these."""
+    given = {it.stem: pairs_of(it) for it in mutants_of(name)}
+    with tree_over_libraries(name, "out/incremental", shutil.copy2) as tree:
+        crate = folder_of(name, tree)
+        refused = refused_twins(crate, given)
+        whys = {stem: try_alone(crate, name, pairs) for stem, pairs in given.items() if stem not in refused}
+    said = [f"check: mutant {name}/{stem}: NOT REFUSED: {why}\n" for stem, why in whys.items() if why]
+    return len(given) - len(said), len(said), "".join(said)
 
 
 def run(words):
-    """Tries the mutants of the crates named, of all, or of those whose line no longer agrees; of how
-    many crates all are refused, now or by their line, and of how many not."""
-    known, crates = record(), [it for it in tree.LINES if mutants_of(it)]
-    chosen = crates if words == ["all"] else words or [it for it in crates if known.get(it) != line_of(it)]
-    if {*chosen} - {*crates}:
-        tree.note(f"no crate with mutants: {' '.join(sorted({*chosen} - {*crates}))}")
-        return 0, 1
-    standing = len(crates) - len(chosen)
-    agree = f"; those of {standing} stand by their line in mutants.txt" if not words else ""
-    tree.note(f"the mutants of {len(chosen)} crates are tried{agree}")
-    prove.ROOM.mkdir(exist_ok=True)
-    with tempfile.TemporaryDirectory(dir=prove.ROOM) as room:
-        needed = {low for name in chosen for low in tree.below(name)}
-        tasks = prove.tasks_over_kept([it for it in tree.LINES if it in needed], Path(room))
-        for name in chosen:
-            waits = [it for it in tree.below(name) if it in tasks]
-
-            def call(jobs, name=name):
-                lacking = [it for it in tree.below(name) if not prove.is_proved(it)]
-                return not lacking and try_mutants(Path(room), name)
-
-            tasks[f"{name} mutants"] = waits, call
-        given = prove.run(tasks)
-    refused = [it for it in chosen if given[f"{it} mutants"]]
-    changed = [it for it in refused if known.get(it) not in (None, line_of(it))]
-    if words == ["all"] and changed:
-        tree.note(f"mutants.txt had another line for {' '.join(changed)}")
-    write_record(refused)
-    passed = len(refused) + (0 if words else standing)
-    return passed, len(chosen) - len(refused) + (len(changed) if words == ["all"] else 0)
+    """Tries the mutants of the crates named, of all, or of those whose line no longer agrees; how many are refused, now
+    or by their line, and how many not."""
+    known = {it.split()[0]: it for it in RECORD.read_text().splitlines() if not it.startswith("#")}
+    lines = {it: line_of(it) for it in LINES if mutants_of(it)}
+    chosen = [it for it in lines if words == ["all"] or it in words or not words and known.get(it) != lines[it]]
+    standing = [] if words else [it for it in lines if it not in chosen]
+    print(f"check: mutants of {len(chosen)} crates are tried, those of {len(standing)} stand by their line", flush=True)
+    tasks = tasks_of({low for name in chosen for low in below(name)})
+    for name in chosen:
+        tasks[f"{name} mutants"] = [it for it in below(name) if it in tasks], functools.partial(try_mutants, name)
+    passed, failed, bad = side_by_side(tasks)
+    refused = [it for it in chosen if f"{it} mutants" not in bad]
+    changed = [it for it in refused if words == ["all"] and known.get(it) not in (None, lines[it])]
+    if changed:
+        print(f"check: mutants.txt had another line for {' '.join(changed)}", flush=True)
+    written = {it: lines[it] if it in refused else known.get(it, "") for it in sorted(lines)}
+    RECORD.write_text(HEAD + "".join(f"{it}\n" for it in written.values() if it))
+    return passed + sum(len(mutants_of(it)) for it in standing), failed + len(changed)

@@ -1,0 +1,183 @@
+"""The crates of the repository: trees that hold some of them, their proofs, and tasks side by side."""
+import contextlib
+import functools
+import hashlib
+import json
+import os
+import re
+import shutil
+import subprocess
+import tempfile
+from concurrent.futures import FIRST_COMPLETED, ThreadPoolExecutor, wait
+from pathlib import Path
+
+TOP = Path(__file__).resolve().parent.parent
+SOURCES = ("src", "specs", "proofs")
+MEMORY = 4_000_000_000  # of one check, in bytes
+SECONDS = json.loads(Path(__file__).with_name("seconds.json").read_text())
+LISTED = [it for it in (TOP / "crates.txt").read_text().splitlines() if ":" in it.partition("#")[0]]
+LINES = {it.partition(":")[0].split()[0]: it for it in LISTED}
+USES = {name: line.partition("#")[0].partition(":")[2].split() for name, line in LINES.items()}
+
+
+@functools.lru_cache(maxsize=None)
+def below(name):
+    """The crates that a crate stands on, each after those that it stands on itself."""
+    return [*dict.fromkeys(low for it in USES[name] if it in LINES for low in [*below(it), it])]
+
+
+def rt(words, folder, **how):
+    """Runs a command of the toolchain in a folder, and gives how it ended and all that it wrote."""
+    how = {"stdin": subprocess.DEVNULL, "stderr": subprocess.STDOUT, **how}
+    return subprocess.run(["rt", *words], cwd=folder, stdout=subprocess.PIPE, text=True, errors="replace", **how)
+
+
+@functools.lru_cache(maxsize=None)
+def told(word):
+    """What the toolchain says of itself."""
+    return rt([word], TOP).stdout
+
+
+def folder_of(name, top=TOP):
+    return top / "crates" / name
+
+
+def copy_sources(name, tree):
+    """Copies a crate into a tree, without its mutants and what was made of it."""
+    ignored = shutil.ignore_patterns("out", "must-fail")
+    shutil.copytree(folder_of(name), folder_of(name, tree), ignore=ignored, dirs_exist_ok=True)
+
+
+def write_tree(tree, names):
+    """Writes a tree of these crates."""
+    for name in names:
+        copy_sources(name, tree)
+    shutil.copy(TOP / "HANDLES", tree)
+    (tree / "crates.txt").write_text("".join(f"{LINES[it]}\n" for it in names))
+
+
+@contextlib.contextmanager
+def tree_over_libraries(name, part, copy):
+    """A tree of a crate over its libraries, which are links, with this part of what its own earlier proofs left. It is
+    a tree of its own since rt locks all crates below the one that it works on."""
+    (TOP / "out").mkdir(exist_ok=True)
+    with tempfile.TemporaryDirectory(dir=TOP / "out") as room:
+        tree = Path(room)
+        write_tree(tree, [*below(name), name])
+        for low in below(name):
+            shutil.copytree(folder_of(low) / "out/rlib", folder_of(low, tree) / "out/rlib", copy_function=os.link)
+        if (folder_of(name) / part).is_dir():
+            shutil.copytree(folder_of(name) / part, folder_of(name, tree) / part, copy_function=copy)
+        yield tree
+
+
+@functools.lru_cache(maxsize=None)
+def stamp(name):
+    """The word by which rt knows that a library was built of a crate's present sources: see README.md."""
+    said = {"name": name, "deps": [f"//crates/{it}" if it in LINES else f"@rattle//{it}" for it in USES[name]]}
+    found = hashlib.sha256(repr((said, False)).encode() + Path(told("doc")).with_name("WHAT").read_bytes())
+    for at, folders, files in (it for part in SOURCES for it in os.walk(folder_of(name) / part)):
+        folders.sort()
+        for file in (Path(at, it) for it in sorted(files)):
+            found.update(repr((f"/{file.relative_to(folder_of(name))}", file.read_bytes())).encode())
+    found.update(repr([stamp(it) for it in USES[name] if it in LINES]).encode())
+    return found.hexdigest()
+
+
+def is_built(name):
+    """Whether a crate's library is built of its present sources."""
+    kept = folder_of(name) / "out/rlib/stamp"
+    return kept.is_file() and kept.read_text() == stamp(name)
+
+
+def take(tree, name):
+    """Takes what was made of a crate in a tree. What an earlier check of it kept stays, if none was kept there."""
+    made, out = (folder_of(name, it) / "out" for it in (tree, TOP))
+    made.mkdir(exist_ok=True)
+    if (out / "incremental").is_dir() and not (made / "incremental").is_dir():
+        shutil.move(out / "incremental", made / "incremental")
+    shutil.rmtree(out, ignore_errors=True)
+    shutil.move(made, out)
+
+
+def prove(name, jobs):
+    """Proves a crate, and builds it. What a proof that failed had found is kept too."""
+    with tree_over_libraries(name, "out", os.link) as tree:
+        is_program = (folder_of(name) / "src/main.rt").is_file()
+        words = ["run", "--jobs", str(jobs), "--", "--help"] if is_program else ["lib", "--jobs", str(jobs)]
+        ran = rt(words, folder_of(name, tree))
+        take(tree, name)
+    return int(not ran.returncode), int(ran.returncode != 0), ran.stdout if ran.returncode else ""
+
+
+def tasks_of(names):
+    """A task for each of these crates that is not built, after those below it."""
+    names = sorted((it for it in names if not is_built(it)), key=lambda it: len(below(it)))
+    return {it: ([low for low in below(it) if low in names], functools.partial(prove, it)) for it in names}
+
+
+def prove_all(names):
+    """Proves these crates and those below them, over what earlier proofs left; how many passed, and how many failed."""
+    wanted = {low for name in names for low in [*below(name), name]}
+    tasks = tasks_of(wanted)
+    passed, failed, _ = side_by_side(tasks)
+    return passed + len(wanted) - len(tasks), failed
+
+
+def ci(names):
+    """Proves these crates from nothing by rt ci, which also runs their tests and programs, and takes what it built; how
+    many passed, and how many failed."""
+    for it in LINES:
+        (folder_of(it) / f"out/{it}_tests").unlink(missing_ok=True)
+    with tempfile.TemporaryDirectory(prefix="check-") as room:
+        tree, stamps, line = Path(room) / "tree", {it: stamp(it) for it in names}, ""
+        write_tree(tree, names)
+        with subprocess.Popen(["rt", "ci"], cwd=tree, stdout=subprocess.PIPE, text=True, errors="replace") as ran:
+            for line in ran.stdout:
+                print(line, end="", flush=True)
+        for name in (it.parent.name for it in tree.glob("crates/*/out")):
+            take(tree, name)
+            if (folder_of(name) / "out/rlib").is_dir():
+                (folder_of(name) / "out/rlib/stamp").write_text(stamps[name])
+    found = re.fullmatch(r"(\d+) passed, (\d+) failed\n", line)
+    passed, failed = map(int, found.groups()) if found else (0, 1)
+    return passed, max(failed, int(ran.returncode != 0))
+
+
+def side_by_side(tasks):
+    """Runs tasks side by side, each after those that it waits for, the longest chain first, and says what each came to.
+
+    A task is what it waits for, and a call that is told how many jobs it may use, and gives how many passed, how many
+    failed, and what to say of that. If one that it waits for failed, it is not run, and has failed too. As long as the
+    longest chain would outlast all the rest, its tasks have up to three jobs, also beyond four lanes; all others have
+    one. Gives how many passed and failed in all, and which tasks failed."""
+    free = int(re.search(r"MemAvailable:\s+(\d+)", Path("/proc/meminfo").read_text())[1]) * 1024
+    lanes = max(1, min(len(os.sched_getaffinity(0)), free // MEMORY))
+    seconds, behind, running, ended = {it: SECONDS.get(it, 60) for it in tasks}, dict.fromkeys(tasks, 0), {}, {}
+    for key in reversed([*tasks]):
+        behind[key] += seconds[key]
+        behind.update({it: max(behind[it], behind[key]) for it in tasks[key][0]})
+    waiting = sorted(tasks, key=lambda it: -behind[it])
+    with ThreadPoolExecutor(lanes + 1) as pool:
+        while left := [*waiting, *(key for key, _ in running.values())]:
+            longest, work = max(behind[it] for it in left), sum(seconds[it] for it in left) / lanes
+            for key in [it for it in waiting if ended.keys() >= {*tasks[it][0]}]:
+                idle, is_first = lanes - sum(jobs for _, jobs in running.values()), behind[key] == longest > work
+                if idle > 0 or is_first and lanes > 3:
+                    jobs = min(3, max(idle, lanes - 1)) if is_first else 1
+                    is_well = not any(ended[it][1] for it in tasks[key][0])
+                    waiting.remove(key)
+                    running[pool.submit(tasks[key][1] if is_well else not_run, jobs)] = key, jobs
+            for done in wait(running, return_when=FIRST_COMPLETED).done:
+                key, _ = running.pop(done)
+                passed, failed, said = done.result()
+                ended[key] = passed, failed
+                left.remove(key)
+                to_go = f"{len(left)} to go, some {max(longest, work) / 60:.0f} minutes" if left else "none to go"
+                print(f"{said}check: {key}: {passed} passed, {failed} failed ({to_go})", flush=True)
+    passed, failed = (sum(it[place] for it in ended.values()) for place in range(2))
+    return passed, failed, {key for key, it in ended.items() if it[1]}
+
+
+def not_run(_jobs):
+    return 0, 1, "not run, since what it rests on failed\n"
