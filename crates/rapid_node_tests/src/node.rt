@@ -13,6 +13,7 @@ mod leave;
 mod network;
 mod plays;
 mod probes;
+mod quiet;
 mod recovery;
 mod said;
 mod shared;

@@ -44,7 +44,7 @@ none_wants (Fault f) new n = absurd n
 
 -- Out of memory changes nothing in a feed.
 short_stays : (s new : StreamEnd) → IsNext s new (Err wire.OutOfMemory) → new ≡ s
-short_stays (Left h) new n = n
+short_stays (Left h) new n = n.1
 short_stays (Fault f) new n = absurd n.0
 
 pub underway_first : (s : StreamEnd) (a : Option (List ℕ)) → IsUnderway s s a a

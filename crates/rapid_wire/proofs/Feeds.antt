@@ -44,7 +44,7 @@ next_fault bytes o e h f = subst (λ x. IsNext (end_of bytes x) (end_of bytes (l
     by code.BadVersion f = (f, refl)
     by code.BadKind f = (f, refl)
     by code.BadBody f = (f, refl)
-    by code.OutOfMemory f = refl
+    by code.OutOfMemory f = (f, refl)
 
 pub is_lasting : (e : WireFault) → IsLasting (lasting_of e)
 is_lasting code.TooLong = tt

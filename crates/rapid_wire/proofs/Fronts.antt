@@ -111,7 +111,7 @@ fault_in_front bytes whole rest b code.TooLong h = absurd h
 fault_in_front bytes whole rest b code.BadVersion h = (whole, rest, b, h)
 fault_in_front bytes whole rest b code.BadKind h = (whole, rest, b, h)
 fault_in_front bytes whole rest b code.BadBody h = (whole, rest, b, h)
-fault_in_front bytes whole rest b code.OutOfMemory h = tt
+fault_in_front bytes whole rest b code.OutOfMemory h = (whole, rest, b, h)
 
 -- ---- the first two bytes
 
@@ -140,7 +140,7 @@ unread whole kind rest w k code.TooLong h = h
 unread whole kind rest w k code.BadVersion h = absurd h
 unread whole kind rest w k code.BadKind h = absurd h
 unread whole kind rest w k code.BadBody h = subst (λ l. HasFault l BadBody) (sym w) (bad_body kind rest k h)
-unread whole kind rest w k code.OutOfMemory h = tt
+unread whole kind rest w k code.OutOfMemory h = (kind, rest, k, w)
 
 -- ---- the length
 

@@ -59,7 +59,7 @@ after_answer bytes ms (Left held) now (Err BadKind) k n =
     subst (Known bytes (ms ++ [])) (sym n.1) (goes_on_behind bytes held ms [] (Fault model.BadKind) k (fault held model.BadKind n.0))
 after_answer bytes ms (Left held) now (Err BadBody) k n =
     subst (Known bytes (ms ++ [])) (sym n.1) (goes_on_behind bytes held ms [] (Fault model.BadBody) k (fault held model.BadBody n.0))
-after_answer bytes ms (Left held) now (Err OutOfMemory) k n = subst (Known bytes (ms ++ [])) (sym n) (subst (λ l. Behind bytes l held) (sym (append-nil ms)) k)
+after_answer bytes ms (Left held) now (Err OutOfMemory) k n = subst (Known bytes (ms ++ [])) (sym n.1) (subst (λ l. Behind bytes l held) (sym (append-nil ms)) k)
 after_answer bytes ms (Fault f) now (Ok o) k n = absurd n
 after_answer bytes ms (Fault f) now (Err e) k n =
     subst (Known bytes (ms ++ [])) (sym n.1) (subst (λ l. Stream bytes l (Fault f)) (sym (append-nil ms)) k)

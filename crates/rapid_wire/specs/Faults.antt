@@ -1,6 +1,7 @@
 -- Clauses of public calls cite this file.
 -- The faults of the code as the definitions see them.
-use Rattle.std.specs.Prelude.{◌≡◌, ℕ, List, Option, Some, None, Result, Ok, Err}
+use Rattle.std.specs.Prelude.{◌≡◌, ℕ, List, ◌∷◌, Option, Some, None, Result, Ok, Err}
+use Rattle.rapid_model.specs.Frame.{version}
 use Rattle.rapid_model.specs.Feed as model
 use Rattle.rapid_wire.specs.declared.fault.WireFault.{WireFault}
 use Rattle.rapid_wire.specs.declared.fault.WireFault.TheVariants.{TooLong, BadVersion, BadKind, BadBody, OutOfMemory}
@@ -26,10 +27,14 @@ abbrev pub Gives : {X Y : Type 0} → (X → Y) → Result X WireFault → Optio
 Gives view (Ok x) read = read ≡ Some (view x)
 Gives view (Err e) read = Fails e read
 
--- The fault of a whole frame after its length; out of memory says nothing of it.
+-- The frame, after its length, begins with the version and the number of a kind.
+abbrev pub HasKind : List ℕ → Type 0
+HasKind whole = (kind : ℕ) × (body : List ℕ) × model.IsKind kind × (whole ≡ version ∷ kind ∷ body)
+
+-- The fault of a whole frame after its length. Memory can run out only if it has a kind.
 abbrev pub IsFaultOf : List ℕ → WireFault → Type 0
 IsFaultOf whole TooLong = ⊥
 IsFaultOf whole BadVersion = model.HasFault whole model.BadVersion
 IsFaultOf whole BadKind = model.HasFault whole model.BadKind
 IsFaultOf whole BadBody = model.HasFault whole model.BadBody
-IsFaultOf whole OutOfMemory = Unit {0}
+IsFaultOf whole OutOfMemory = HasKind whole

@@ -3,7 +3,8 @@
 use Rattle.std.specs.Prelude.{◌≡◌, ℕ, List, ◌++◌, Option, Some, None, Result, Ok, Err}
 use Rattle.rapid_model.specs.Message.{Message}
 use Rattle.rapid_model.specs.Feed as model
-use Rattle.rapid_model.specs.Feed.{StreamEnd, Left, Fault, IsFront, Whole, Faulty, IsIncomplete}
+use Rattle.rapid_model.specs.Feed.{StreamEnd, Left, Fault, IsFront, Whole, Faulty, BeginsWith, IsIncomplete}
+use Rattle.rapid_wire.specs.Faults.{HasKind}
 use Rattle.rapid_wire.specs.declared.fault.WireFault.{WireFault}
 use Rattle.rapid_wire.specs.declared.fault.WireFault.TheVariants.{TooLong, BadVersion, BadKind, BadBody, OutOfMemory}
 
@@ -38,13 +39,17 @@ abbrev pub fed : StreamEnd → List ℕ → StreamEnd
 fed (Left bytes) piece = Left (bytes ++ piece)
 fed (Fault f) piece = Fault f
 
--- The fault stands in front of the bytes; out of memory says nothing of them.
+-- A whole frame that has a kind stands in front of the bytes.
+abbrev pub BeginsWithKind : List ℕ → Type 0
+BeginsWithKind bytes = (whole : List ℕ) × (rest : List ℕ) × BeginsWith bytes whole rest × HasKind whole
+
+-- The fault stands in front of the bytes. Memory can run out only if a whole frame that has a kind does.
 abbrev pub IsFrontFault : List ℕ → WireFault → Type 0
 IsFrontFault bytes TooLong = IsFront bytes (Faulty model.TooLong)
 IsFrontFault bytes BadVersion = IsFront bytes (Faulty model.BadVersion)
 IsFrontFault bytes BadKind = IsFront bytes (Faulty model.BadKind)
 IsFrontFault bytes BadBody = IsFront bytes (Faulty model.BadBody)
-IsFrontFault bytes OutOfMemory = Unit {0}
+IsFrontFault bytes OutOfMemory = BeginsWithKind bytes
 
 -- The fault that is answered is that of the stream.
 abbrev pub Reports : model.WireFault → WireFault → Type 0
@@ -62,7 +67,7 @@ IsNextOf bytes new (Err TooLong) = IsFront bytes (Faulty model.TooLong) × (new 
 IsNextOf bytes new (Err BadVersion) = IsFront bytes (Faulty model.BadVersion) × (new ≡ Fault model.BadVersion)
 IsNextOf bytes new (Err BadKind) = IsFront bytes (Faulty model.BadKind) × (new ≡ Fault model.BadKind)
 IsNextOf bytes new (Err BadBody) = IsFront bytes (Faulty model.BadBody) × (new ≡ Fault model.BadBody)
-IsNextOf bytes new (Err OutOfMemory) = new ≡ Left bytes
+IsNextOf bytes new (Err OutOfMemory) = BeginsWithKind bytes × (new ≡ Left bytes)
 
 -- What is answered after a fault: that fault, for good.
 abbrev pub IsSame : model.WireFault → StreamEnd → Result (Option Message) WireFault → Type 0

@@ -145,7 +145,7 @@ impl Feed {
     /// as the four bytes of a length above 65,536 are there. The others come once the whole frame
     /// is there, and the first that holds is answered. They are `BadBody` if it has no kind,
     /// `BadVersion`, `BadKind`, and `BadBody` if it is not spelt as a message is. `OutOfMemory`
-    /// leaves the feed as it was.
+    /// comes only in place of a message or of the last of these, and leaves the feed as it was.
     #[tactic(auto, using(crate::proofs::Feeds::same_fault, crate::proofs::Feeds::next_none, crate::proofs::Feeds::next_some, crate::proofs::Feeds::next_fault, crate::proofs::Feeds::is_lasting))]
     pub fn next(&mut self) -> Result<Option<Message>, WireFault>
         ensures { IsNext self.old self.new result }

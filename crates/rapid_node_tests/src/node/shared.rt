@@ -102,23 +102,38 @@ fn assert_both_enter(
     assert_enters(rt, alloc, views, configuration, 2)
 }
 
+/// The height of the view that was entered last, if any is kept.
+fn newest_height(views: &Views) -> Option<u64> {
+    match views.newest() {
+        Some(configuration) => Some(configuration.height()),
+        None => None,
+    }
+}
+
 /// Checks that two founders of three enter the configuration without the third, by views that keep
-/// this many.
-fn assert_enter(rt: &impl Abort, alloc: Global, most: usize) -> Result<(), Fail> {
+/// this many, and that this is the newest view then, or that none is kept.
+fn assert_enter(
+    rt: &impl Abort,
+    alloc: Global,
+    most: usize,
+    newest: Option<u64>,
+) -> Result<(), Fail> {
     let configuration = founding(rt, alloc, (3, 3, 1), &[1, 2, 3])?;
     let mut views = Views::new(alloc, most);
-    assert_both_enter(rt, alloc, &mut views, &configuration)
+    assert_both_enter(rt, alloc, &mut views, &configuration)?;
+    assert!(rt; newest_height(&views) == newest);
+    Ok(())
 }
 
 /// Nodes that share views enter what they would enter without.
 #[test]
 fn founders_share_views(rt: HostRuntime) -> Result<(), Fail> {
-    assert_enter(&rt, rt.alloc(), 4)
+    assert_enter(&rt, rt.alloc(), 4, Some(1))
 }
 
 /// So do nodes whose views are forgotten at once, and those that keep none.
 #[test]
 fn founders_forget_views(rt: HostRuntime) -> Result<(), Fail> {
-    assert_enter(&rt, rt.alloc(), 0)?;
-    assert_enter(&rt, rt.alloc(), 1)
+    assert_enter(&rt, rt.alloc(), 0, None)?;
+    assert_enter(&rt, rt.alloc(), 1, Some(1))
 }

@@ -39,6 +39,8 @@ pub enum Word {
     Leave,
     /// The process with this number says that it leaves a configuration, on a ring.
     Leaves(Which, u8, u16),
+    /// The process with this number casts a fast vote for its own cut.
+    Vote(u16),
 }
 
 /// What happens to a node, or what is seen of it.
@@ -53,6 +55,8 @@ pub enum Step<'a> {
     Shows(u64, &'a [u16]),
     /// It is in this phase.
     Is(Phase),
+    /// Whether it knows beforehand that it would send nothing if it heard this.
+    IsQuiet(Word, bool),
 }
 
 /// The identifier of a configuration, to a node that showed this one at first.
@@ -93,6 +97,10 @@ fn event(
         Word::Leaves(which, ring, number) => {
             let id = identifier(rt, node, first, which);
             heard(number, Body::Leave(id, ring))
+        }
+        Word::Vote(number) => {
+            let cut = cut(alloc, number)?;
+            heard(number, Body::FastVote(shown(rt, node), cut))
         }
     }
 }
@@ -155,6 +163,11 @@ fn acknowledges(
     Ok(())
 }
 
+/// Checks whether a node knows that it would send nothing at an event.
+fn assert_quiet(rt: &impl Abort, node: &Node, event: Event, expected: bool) {
+    assert!(rt; node.is_quiet(&event) == expected);
+}
+
 /// Takes a node, which showed this configuration at first, through a step.
 fn take(
     rt: &impl Abort,
@@ -178,6 +191,11 @@ fn take(
         }
         Step::Is(phase) => {
             assert_phase(rt, node, phase);
+            Ok(())
+        }
+        Step::IsQuiet(word, expected) => {
+            let event = event(rt, alloc, &*node, first, word)?;
+            assert_quiet(rt, &*node, event, expected);
             Ok(())
         }
     }

@@ -69,12 +69,14 @@ fn has_subjects(
     Ok(are_pairs(subjects.as_slice(), expected))
 }
 
-/// Whether rings of three answer their configuration, in which there is no process 6.
+/// Whether rings of three answer their configuration, in which there is no process 6. So that one
+/// observes nobody.
 fn tell(rings: &Rings, configuration: &Configuration) -> bool {
     rings.params().k() == 3
         && rings.id() == configuration.id()
         && rings.is_member(&process(2))
         && !rings.is_member(&process(6))
+        && !rings.may_observe(&process(6))
         && !rings.may_any_observe_itself()
 }
 
