@@ -137,7 +137,7 @@ def ci(names):
                 print(line, end="", flush=True)
         for name in (it.parent.name for it in tree.glob("crates/*/out")):
             take(tree, name)
-            if (folder_of(name) / "out/rlib").is_dir():
+            if (folder_of(name) / f"out/rlib/{name}.rlib").is_dir():
                 (folder_of(name) / "out/rlib/stamp").write_text(stamps[name])
     found = re.fullmatch(r"(\d+) passed, (\d+) failed\n", line)
     passed, failed = map(int, found.groups()) if found else (0, 1)
