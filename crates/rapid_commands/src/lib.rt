@@ -1,10 +1,8 @@
-//! What each command of `rapidd` does, and with which status it ends. Nodes are run by what its
-//! caller gives.
+//! What the command line of `rapidd` has it do: what each command runs, and with which status it
+//! ends.
 #![tactic(auto)]
 
 mod node;
 mod run;
-mod runner;
 
-pub use run::{run_words_by, without_words};
-pub use runner::NodeRunner;
+pub use run::{run_words, without_words};

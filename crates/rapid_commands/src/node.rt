@@ -6,11 +6,10 @@ ghost use Rattle.clap.specs.Words.{first_of, found_of, rows_of, subcommand_rows_
 ghost use Rattle.rapid_words.specs.Asked.{number_in};
 ghost use Rattle.rapid_commands.specs.NodeWords.{NamesNode, HasOptions, CannotBe, IsNoNode};
 
-use crate::runner::NodeRunner;
 use clap::ArgMatches;
 use rapid_options::NodeWords;
+use rapid_run::{Streams, run_node};
 use rapid_signals::RunningFault;
-use rapid_threads::Streams;
 use rapid_words::{DONE, NODE, REFUSED, options_of, tell_port};
 use std::alloc::Global;
 use std::convert::AsStr;
@@ -66,8 +65,7 @@ pub(crate) fn node_matches<'m, 'a>(matches: &'m ArgMatches<'a>) -> Option<&'m Ar
 
 /// Runs a node as its words ask; it reports its fault itself. The answer is the status. If its
 /// words are refused, nothing was written.
-pub(crate) fn run_as_node<N, T, R, O, E>(
-    runner: &N,
+pub(crate) fn run_as_node<T, R, O, E>(
     rt: &T,
     alloc: Global,
     words: &ArgMatches,
@@ -76,7 +74,6 @@ pub(crate) fn run_as_node<N, T, R, O, E>(
     err: &mut E,
 ) -> u8
 where
-    N: NodeRunner,
     T: Net<Listener = TcpListener, Stream = TcpStream>
         + Threads
         + Wait
@@ -102,7 +99,7 @@ where
         writer: out,
         err: &mut *err,
     };
-    match runner.run(rt, alloc, options, rt, streams) {
+    match run_node(rt, alloc, options, rt, streams) {
         Ok(()) => DONE,
         Err(fault) => {
             if fault == RunningFault::NoPort {

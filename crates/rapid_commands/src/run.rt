@@ -10,7 +10,6 @@ ghost use Rattle.rapid_commands.specs.NodeWords.{NamesNode, AreRefusedForNode};
 ghost use Rattle.rapid_commands.specs.Statuses.{run_status};
 
 use crate::node::{names_node, node_matches, run_as_node};
-use crate::runner::NodeRunner;
 use rapid_cluster::{Crew, run_cluster};
 use rapid_detect::run_detect;
 use rapid_sim::run_sim;
@@ -107,8 +106,7 @@ pub fn without_words<E: Write>(error: &io::Error, err: &mut E) -> u8
 }
 
 /// Runs a node as the words of the program ask, and answers the status.
-fn run_node_words<N, T, S, R, O, E>(
-    runner: &N,
+fn run_node_words<T, S, R, O, E>(
     rt: &T,
     alloc: Global,
     words: &[S],
@@ -117,7 +115,6 @@ fn run_node_words<N, T, S, R, O, E>(
     err: &mut E,
 ) -> u8
 where
-    N: NodeRunner,
     T: Net<Listener = TcpListener, Stream = TcpStream>
         + Threads
         + Wait
@@ -135,22 +132,20 @@ where
     match matches_of(alloc, words) {
         Err(error) => tell(&error, words, out, err),
         Ok(matches) => match node_matches(&matches) {
-            Some(asked) => run_as_node(runner, rt, alloc, asked, reader, out, err),
+            Some(asked) => run_as_node(rt, alloc, asked, reader, out, err),
             None => refuse(&matches, err),
         },
     }
 }
 
-/// Does what the words ask for, of which the first is the program's name; nodes are run by the
-/// runner. The answer is the status.
+/// Does what the words ask for, of which the first is the program's name. The answer is the status.
 /// If it is 0, what the input prints by the command that the words name, with its options, was
 /// written, and nothing else. Or the words ask for help or the version, and the input was not read.
 /// If it is 1, a beginning of that was written, or help or the version could not be written. If it
 /// is 2, the words are refused, and nothing was written. If it is 3, a beginning of what the input
 /// prints by the command that the words name was written, or nothing. What `node` writes is not
 /// promised, unless its words are refused.
-pub fn run_words_by<N, T, S, R, O, E>(
-    runner: &N,
+pub fn run_words<T, S, R, O, E>(
     rt: &T,
     alloc: Global,
     words: &[S],
@@ -159,7 +154,6 @@ pub fn run_words_by<N, T, S, R, O, E>(
     err: &mut E,
 ) -> u8
 where
-    N: NodeRunner,
     T: Net<Listener = TcpListener, Stream = TcpStream>
         + Threads
         + Wait
@@ -185,7 +179,7 @@ where
     ensures status { result ≤ 3 }
 {
     if names_node(words) {
-        return run_node_words(runner, rt, alloc, words, reader, out, err);
+        return run_node_words(rt, alloc, words, reader, out, err);
     }
     match matches_of(alloc, words) {
         Err(error) => tell(&error, words, out, err),

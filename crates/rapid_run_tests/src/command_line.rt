@@ -1,6 +1,6 @@
 // The words of the program, and what each line of words is answered with.
 
-use rapid_run::run_words;
+use rapid_commands::run_words;
 use std::alloc::Global;
 use std::net::{Net, TcpListener, TcpStream};
 use std::random::RandomSource;

@@ -1,7 +1,6 @@
 // The statuses of the program, and what it writes with each.
 
-use rapid_commands::without_words;
-use rapid_run::run_words;
+use rapid_commands::{run_words, without_words};
 use std::alloc::Global;
 use std::io;
 use std::io::{ErrorKind, Read, Write};

@@ -4,8 +4,8 @@
 //! node` runs a member of a cluster over loopback TCP.
 #![tactic(auto)]
 
-use rapid_commands::without_words;
-use rapid_run::{Polled, run_words};
+use rapid_commands::{run_words, without_words};
+use rapid_run::Polled;
 use std::process::ExitCode;
 use std::{env, io};
 

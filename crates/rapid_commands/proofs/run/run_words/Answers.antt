@@ -1,7 +1,7 @@
 use Rattle.std.proofs.Common.{◌≡◌, map, arith, inl, inr, sym, refl, ◌∙◌}
 use Rattle.rapid_words.proofs.Asking.{asked, asks}
 use Rattle.rapid_words.proofs.Refusing.{refused_by, refused_so}
-use Rattle.rapid_commands.proofs.run.run_words_by.Goals as goal
+use Rattle.rapid_commands.proofs.run.run_words.Goals as goal
 
 pub returns-in-Err-clause-written : goal.returns-in-Err-clause-written
 returns-in-Err-clause-written g c = λ is. inr (inr (refl, asks c.in-Err.error (map g.S.AsStr.text c.args.words.now) c.in-Err.ensures.fails (c.tell.ensures.asked (omega (arith, is)))))
