@@ -64,7 +64,7 @@ module _ {T : Type 0} where
           refl,
         )
 
-    pub takes : (port : ℕ) (v : Post T) → v.takes ≡ true → Pops (Kept next) port v (λ x w. (w ≡ post v.puts v.takes v.put (v.taken ++ x ∷ [])) × next v.taken x)
+    pub takes : (port : ℕ) (v : Post T) → v.takes ≡ true → Pops (Kept next) port v (λ x w. (w ≡ post v.puts v.takes v.put (v.taken ++ x ∷ [])) × next v.taken x × ((later : List T) × Coming v.taken v.put (x ∷ later)))
     takes port v may x items views k at =
         let f = k.each port v at in
         let mine = f.takes may in
@@ -82,7 +82,7 @@ module _ {T : Type 0} where
             each = all_set (Fits k.writer k.reader k.put now) views port w record { puts = f.puts; takes = λ _. (mine.0, ap (λ l. l ++ x ∷ []) mine.1); told = f.told; claims = ([], ap (λ l. l ++ x ∷ []) (sym mine.1) ∙ sym (append-nil (v.taken ++ x ∷ []))) }
                 (λ j u other e. let g = k.each j u e in record { puts = g.puts; takes = λ p. absurd (other ((g.takes p).0 ∙ sym mine.0)); told = g.told; claims = longer k.taken u.taken x g.claims });
           },
-          (refl, subst (λ l. next l x) (sym mine.1) (follows_at next [] k.taken items x (subst (Follows next []) k.whole k.follows))),
+          (refl, subst (λ l. next l x) (sym mine.1) (follows_at next [] k.taken items x (subst (Follows next []) k.whole k.follows)), (items, (f.told.0, ap (λ l. l ++ x ∷ items) mine.1 ∙ sym k.whole ∙ f.told.1))),
         )
 
     -- the two ends

@@ -1,9 +1,9 @@
 // The two ends of a queue.
 
-ghost use Rattle.std.specs.Prelude.{◌≡◌, ℕ, ◌<◌, ◌≤◌, List, [], ◌∷◌, ◌++◌, true, false, IfOk, IfErr, MatchOption, MatchResult};
+ghost use Rattle.std.specs.Prelude.{◌≡◌, ℕ, ◌<◌, ◌≤◌, List, [], ◌∷◌, ◌++◌, true, false, IfOk, IfErr, IfSome, MatchOption, MatchResult};
 ghost use Rattle.std.specs.Arc.{arc_value};
 ghost use Rattle.crossbeam_queue.specs.Passes.{view, IsPassOf, ruled_capacity};
-ghost use Rattle.rapid_line.specs.Line.{post, StartsWith, Untaken};
+ghost use Rattle.rapid_line.specs.Line.{post, StartsWith, Untaken, Coming};
 
 use crate::{Compares, Order, Post, PutNote, Puts, Queue, Roles, TakenNote, Takes};
 use crossbeam_queue::{Pass, RuledArrayQueue};
@@ -126,11 +126,13 @@ impl<T: Drop, P: Order<T>> Sink<T, P> {
 }
 
 impl<T: Drop, P: Order<T>> Source<T, P> {
-    /// Takes the oldest item. It takes none only if the queue was empty at one moment of the call.
-    /// Then all that is known to be put was taken before.
+    /// Takes the oldest item: the next of those that are known to be put, if not all of them were
+    /// taken. It takes none only if the queue was empty at one moment of the call. Then all that is
+    /// known to be put was taken before.
     pub fn take<R: Wait>(&mut self, rt: &R) -> Option<T>
         ensures queue { (self.new.queue ≡ self.old.queue) × (self.new.room ≡ self.old.room) × (self.new.known ≡ self.old.known) }
         ensures taken { MatchOption result (self.new.taken ≡ self.old.taken) (λ x. (self.new.taken ≡ self.old.taken ++ x ∷ []) × P.next self.old.taken x) }
+        ensures coming { IfSome result (λ x. (items : List T) × Coming self.old.taken self.old.known (x ∷ items)) }
         ensures none { MatchOption result (StartsWith self.old.taken self.old.known) (λ _. Unit {0}) }
     {
         pop(rt, &self.queue, &mut self.pass)
@@ -175,6 +177,7 @@ fn pop<T: Drop, P: Order<T>, R: Wait>(
     ensures queue { IsPassOf queue.now pass.new }
     ensures same { ((view pass.new).puts ≡ (view pass.old).puts) × ((view pass.new).takes ≡ (view pass.old).takes) }
     ensures taken { MatchOption result (view pass.new ≡ view pass.old) (λ x. (view pass.new ≡ post (view pass.old).puts (view pass.old).takes (view pass.old).put ((view pass.old).taken ++ x ∷ [])) × P.next (view pass.old).taken x) }
+    ensures coming { IfSome result (λ x. (items : List T) × Coming (view pass.old).taken (view pass.old).put (x ∷ items)) }
     ensures none { MatchOption result (StartsWith (view pass.old).taken (view pass.old).put) (λ _. Unit {0}) }
 {
     queue.pop_as::<Takes<P>, R>(rt, pass)

@@ -113,10 +113,10 @@ pub(crate) struct Takes<P> {
 }
 
 impl<T, P: Order<T>> Outcome<T, Post<T>> for Takes<P> {
-    ghost use Rattle.std.specs.Prelude.{◌≡◌, [], ◌∷◌, ◌++◌};
-    ghost use Rattle.rapid_line.specs.Line.{post};
+    ghost use Rattle.std.specs.Prelude.{◌≡◌, [], ◌∷◌, ◌++◌, List};
+    ghost use Rattle.rapid_line.specs.Line.{post, Coming};
 
-    ghost then = { λ v x w. (w ≡ post v.puts v.takes v.put (v.taken ++ x ∷ [])) × P.next v.taken x };
+    ghost then = { λ v x w. (w ≡ post v.puts v.takes v.put (v.taken ++ x ∷ [])) × P.next v.taken x × ((items : List T) × Coming v.taken v.put (x ∷ items)) };
 }
 
 impl<T, P: Order<T>> Lesson<T, Post<T>> for Takes<P> {
