@@ -40,13 +40,25 @@ const MOST_CAPACITY: usize = 1_024;
 /// A node at a desk: the node, the journal of what happened since it entered its configuration, and
 /// the views that it has published. Contracts see what is held, and whether the seats at the
 /// published view are still to be taken.
-#[derive(Drop)]
 pub struct Desk<R: Wait + Copy + Drop> {
     rt: R,
     alloc: Global,
     held: Held,
     board: Board<R>,
     outlets: Vec<Outlet>,
+}
+
+// By hand: it is proved here that all parts can be dropped, and no crate above has to prove it again.
+impl<R: Wait + Copy + Drop> Drop for Desk<R> {
+    fn drop(self) {
+        let Desk {
+            rt: _,
+            alloc: _,
+            held: _,
+            board: _,
+            outlets: _,
+        } = self;
+    }
 }
 
 impl<R: Wait + Copy + Drop> Model for Desk<R> {
@@ -243,11 +255,18 @@ impl<R: Wait + Copy + Drop> Desk<R> {
         self.board.tell();
     }
 
+    /// The node, as it is after the last step.
+    pub fn node(&self) -> &Node
+        ensures { result.now ≡ self.now.state.node }
+    {
+        self.held.node()
+    }
+
     /// The phase of the node.
     pub fn phase(&self) -> Phase
         ensures { result ≡ name_of self.now.state.node.phase }
     {
-        self.held.node().phase()
+        self.node().phase()
     }
 
     /// How many records the journal has, at most 65,536.
