@@ -31,7 +31,6 @@ const MOST_PROBERS: u8 = Params::MOST_RINGS;
 
 /// A member of a cluster in one's own program: its node, its listener and what its threads share.
 /// Threads share it by reference. It does nothing by itself until `run` or `run_while`.
-#[derive(Drop)]
 pub struct Agent<'a, W: Wait> {
     rt: &'a W,
     alloc: Global,
@@ -42,6 +41,22 @@ pub struct Agent<'a, W: Wait> {
     /// The ends of the senders' queues, until it runs.
     ends: Mutex<Option<Vec<SenderEnd>>>,
     shared: Shared<&'a W, Posts>,
+}
+
+// By hand: it is proved here that all parts can be dropped, and no crate above has to prove it again.
+impl<W: Wait> Drop for Agent<'_, W> {
+    fn drop(self) {
+        let Agent {
+            rt: _,
+            alloc: _,
+            endpoint: _,
+            period: _,
+            probers: _,
+            peers: _,
+            ends: _,
+            shared: _,
+        } = self;
+    }
 }
 
 /// Listens at an endpoint.
@@ -205,7 +220,7 @@ impl<'a, W: Wait> Agent<'a, W> {
     ///
     /// # Errors
     ///
-    /// `BadCapacity` if the capacity is not 1 to 1,024, else `TooManySubscribers` if 63 were
+    /// `BadCapacity` if the capacity is not 1 to 1,024, else `TooManySubscribers` if 64 were
     /// subscribed before, also those that are dropped, else `OutOfMemory`.
     pub fn subscribe(&self, capacity: usize) -> Result<Subscriber<'_, W>, DeskError>
         ensures room { OnOk result ((0 < capacity) × (capacity ≤ most_waiting_views)) }

@@ -14,6 +14,13 @@ pub struct Posts {
 }
 
 impl Post for Posts {
+    // It keeps nothing to show.
+    ghost has_posted = { λ _ _ _. Unit {0} };
+
+    ghost idle = { λ _. tt };
+
+    ghost later = { λ _ _ _ _ _ _ _. tt };
+
     fn post<W: Wait>(&mut self, rt: &W, to: Endpoint, frame: Bytes) {
         let _ = self.peers.post(rt, to, frame);
     }

@@ -1,5 +1,5 @@
-pub mod Entering
 pub mod Filtering
 pub mod Handing
 pub mod Noting
+pub mod Posting
 pub mod Seating

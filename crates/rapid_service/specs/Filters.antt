@@ -2,11 +2,11 @@
 -- The filter of repeats of the view in which a service is.
 use Rattle.std.specs.Prelude.{◌≡◌, ◌⊎◌, ℕ, ◌+◌, ◌-◌, ◌^◌, ◌<◌, Bool, true, List, [], length, min, Option, Some, None, IsSomeAnd}
 use Rattle.std.specs.Option.{option_map}
+use Rattle.rapid_model.specs.Bytes.{Text}
 use Rattle.rapid_model.specs.Configuration.{Configuration}
 use Rattle.rapid_model.specs.Message.{Message}
 use Rattle.rapid_repeats.specs.Repeating.{Passed, passed_after}
 use Rattle.rapid_repeats.specs.Remembering.{Filter, Remembers}
-use Rattle.rapid_desk.specs.declared.notice.Notice.{Notice}
 use Rattle.rapid_service.specs.declared.present.Present.{Present}
 
 -- What the filter of the present view keeps, if there is one.
@@ -39,14 +39,15 @@ abbrev pub HeardIn : Bool → Message → Option Present → Option Present → 
 HeardIn admitted m None new = new ≡ None
 HeardIn admitted m (Some p) new = IsSomeAnd new (λ q. (q.view ≡ p.view) × Heard admitted m p.repeats q.repeats)
 
--- Nothing was taken, and the present view stays with its filter. Or a view was taken and entered, with a new filter.
-abbrev pub StaysOrFresh : List Notice → Option Present → List Notice → Option Present → Type 0
-StaysOrFresh taken old more new = ((more ≡ taken) × (new ≡ old)) ⊎ ((length taken < length more) × IsSomeAnd new IsFresh)
+-- No line was added, and the present view stays with its filter. Or a view was entered, whose line was added, with a
+-- new filter.
+abbrev pub StaysOrFresh : Text → Option Present → Text → Option Present → Type 0
+StaysOrFresh lines old more new = ((more ≡ lines) × (new ≡ old)) ⊎ ((length lines < length more) × IsSomeAnd new IsFresh)
 
 -- The same after a tick, which counts in the view that is present afterwards.
-abbrev pub TickedOrFresh : List Notice → Option Present → List Notice → Option Present → Type 0
-TickedOrFresh taken old more new = ((more ≡ taken) × TickedIn old new) ⊎ ((length taken < length more) × IsSomeAnd new (HasTicked 1))
+abbrev pub TickedOrFresh : Text → Option Present → Text → Option Present → Type 0
+TickedOrFresh lines old more new = ((more ≡ lines) × TickedIn old new) ⊎ ((length lines < length more) × IsSomeAnd new (HasTicked 1))
 
 -- The same after a message that the filter let through.
-abbrev pub HeardOrFresh : Message → List Notice → Option Present → List Notice → Option Present → Type 0
-HeardOrFresh m taken old more new = ((more ≡ taken) × HeardIn true m old new) ⊎ ((length taken < length more) × IsSomeAnd new IsFresh)
+abbrev pub HeardOrFresh : Message → Text → Option Present → Text → Option Present → Type 0
+HeardOrFresh m lines old more new = ((more ≡ lines) × HeardIn true m old new) ⊎ ((length lines < length more) × IsSomeAnd new IsFresh)

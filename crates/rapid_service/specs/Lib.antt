@@ -7,3 +7,4 @@ pub mod Entering
 pub mod Noting
 pub mod Subscribing
 pub mod HandingOn
+pub mod Posting

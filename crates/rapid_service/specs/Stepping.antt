@@ -39,15 +39,23 @@ pub record Steps (old : DeskValue) (event : Event) (new : DeskValue) : Type 0 wh
 abbrev pub Fails : DeskValue → Event → DeskValue → RunningFault → Type 0
 Fails old event new fault = (HasRefused old.state event new.state fault × (new.subscriptions ≡ [])) ⊎ ((fault ≡ OutOfMemory) × Steps old event new)
 
+-- These events, in order, each by one step from where the one before it led. No event leads nowhere.
+abbrev pub AllInTurn : {S : Type 0} → (S → Event → S → Type 0) → S → List Event → S → Type 0
+AllInTurn step old [] new = new ≡ old
+AllInTurn {S} step old (event ∷ events) new = (between : S) × step old event between × AllInTurn step between events new
+
+-- One of these events failed, behind a step with each of those before it. Those behind it were not tried.
+abbrev pub OneFails : {S : Type 0} → (S → Event → S → Type 0) → (S → Event → S → Type 0) → S → List Event → S → Type 0
+OneFails step fails old [] new = ⊥
+OneFails {S} step fails old (event ∷ events) new = fails old event new ⊎ ((between : S) × step old event between × OneFails step fails between events new)
+
 -- The desk made a step with each of these events, in order, and nothing else.
 abbrev pub StepsAll : DeskValue → List Event → DeskValue → Type 0
-StepsAll old [] new = new ≡ old
-StepsAll old (event ∷ events) new = (between : DeskValue) × Steps old event between × StepsAll between events new
+StepsAll = AllInTurn Steps
 
 -- One of these events failed, behind a step with each of those before it. Those behind it were not tried.
 abbrev pub FailsAmong : DeskValue → List Event → DeskValue → RunningFault → Type 0
-FailsAmong old [] new fault = ⊥
-FailsAmong old (event ∷ events) new fault = Fails old event new fault ⊎ ((between : DeskValue) × Steps old event between × FailsAmong between events new fault)
+FailsAmong old events new fault = OneFails Steps (λ before event after. Fails before event after fault) old events new
 
 -- One of these events failed. Or the desk made a step with each, and there was no memory for what follows them.
 abbrev pub FailsIn : DeskValue → List Event → DeskValue → RunningFault → Type 0

@@ -1,13 +1,15 @@
 // One node at its desk, with its probes.
 
-ghost use Rattle.std.specs.Prelude.{◌≡◌, ◌==◌, IfNone, ℕ, ◌+◌, ◌%◌, ◌<◌, ◌≤◌, ◌++◌, [], ◌∷◌, ◌↔◌, ◌⊎◌, map, true, false, Ok, Some, None, length, option_to_list, vec_len, IfOk, IfErr, IfSome, IsSome, IsSomeAnd, OnOk, OnErr};
+ghost use Rattle.std.specs.Prelude.{◌≡◌, Option, List, ◌==◌, IfNone, ℕ, ◌+◌, ◌%◌, ◌<◌, ◌≤◌, ◌++◌, [], ◌∷◌, ◌↔◌, ◌⊎◌, map, true, false, Ok, Some, None, length, option_to_list, vec_len, IfOk, IfErr, IfSome, IsSome, IsSomeAnd, OnOk, OnErr};
 ghost use Rattle.std.specs.Option.{option_map};
 ghost use Rattle.std.proofs.Props.{props};
 ghost use Rattle.rapid_desk.specs.Desks.{NotSubscribed, seed_state, joiner_state, shown_height};
 ghost use Rattle.rapid_node.specs.Phases.{name_of};
 ghost use Rattle.rapid_model.specs.Configuration.{founding};
+ghost use Rattle.rapid_model.specs.Frame.{IsFrame, frame};
 ghost use Rattle.rapid_model.specs.Message.{Probe};
 ghost use Rattle.rapid_model.specs.Node as model;
+ghost use Rattle.rapid_model.specs.Packets.{other_members};
 ghost use Rattle.rapid_model.specs.Ring.{subjects_of};
 ghost use Rattle.rapid_model.specs.Limits.{most_notes, most_subscriptions, most_waiting_views, probe_period};
 ghost use Rattle.rapid_node.specs.Steps.{event_of};
@@ -16,13 +18,16 @@ ghost use Rattle.rapid_lines.specs.declared.note.Answer.TheVariants.{Nothing};
 ghost use Rattle.rapid_repeats.specs.Remembering.{IsRepeatFor};
 ghost use Rattle.rapid_rounds.specs.Edges.{SameBoard, place_of, down_of, told_of, all_blank, seats_of, all_dealt};
 ghost use Rattle.rapid_signals.specs.declared.fault.RunningFault.TheVariants.{OutOfMemory};
-ghost use Rattle.rapid_service.specs.Entering.{EntersOne, EntersSome, views_of};
+ghost use Rattle.rapid_service.specs.Entering.{after_entering, installed_by, shown_since, view_in, views_of};
 ghost use Rattle.rapid_service.specs.Filters.{IsFresh, StaysOrFresh, TickedOrFresh, HeardOrFresh, TickedIn, HeardIn, filter_of};
 ghost use Rattle.rapid_service.specs.HandingOn.{down_on, downs_from};
-ghost use Rattle.rapid_service.specs.Noting.{KeepsNotes, NotesRemoval};
+ghost use Rattle.rapid_service.specs.Noting.{NotesRemoval, AddsRemovals, NotesQuestion, AskedOnce, Answered, AsksOrNone, asking_after};
+ghost use Rattle.rapid_lines.specs.declared.asking.Asking.{Asking};
+ghost use Rattle.rapid_lines.specs.declared.note.Note.{Note};
+ghost use Rattle.rapid_service.specs.Posting.{postings, to_each, all_but, present_in, stands, PostsSome, SaysAt, SaysSome, SaysAll, SaysFirst};
 ghost use Rattle.rapid_service.specs.Presents.{edges_in, ShowsDown, SameBoards};
 ghost use Rattle.rapid_service.specs.Seats.{had_seats};
-ghost use Rattle.rapid_service.specs.Stepping.{HasStepped, HasRefused, Steps, StepsAll, Fails, FailsAmong, FailsIn, Tells};
+ghost use Rattle.rapid_service.specs.Stepping.{HasStepped, HasRefused, Steps, StepsAll, Fails, FailsAmong, FailsIn, Tells, AllInTurn, OneFails};
 ghost use Rattle.rapid_service.specs.Subscribing.{StillServes};
 ghost use Rattle.rapid_service.specs.declared.received.Received.TheVariants as fate;
 
@@ -33,7 +38,7 @@ use crate::present::Present;
 use crate::received::Received;
 use bytes::Bytes;
 use rapid_config::{ConfigId, Configuration, Params};
-use rapid_desk::{Desk, DeskError, Subscription, Taken};
+use rapid_desk::{Desk, DeskError, Subscription};
 use rapid_endpoint::{Endpoint, Process};
 use rapid_join::Reply;
 use rapid_lines::{Asking, Note, Notes, write_view};
@@ -48,23 +53,18 @@ use std::alloc::{AllocError, Global};
 use std::mem;
 use std::sync::Wait;
 
-/// How many changes of the view wait for the service: it takes each at once.
-const CHANGES: usize = 4;
-
 /// How many seats there are at the published view.
 const SEATS: usize = 8;
 
 /// A node at its desk, with the probes of those whom it observes in its current view. It is kept
-/// under a lock, and whoever holds the lock gives it ticks and messages. A step takes at most one
-/// view of its own subscription, and enters it: the line of the view waits behind those that wait.
-/// Only `take_lines` takes lines away.
-#[derive(Drop)]
+/// under a lock, and whoever holds the lock gives it ticks and messages. It enters each view that
+/// its node installs in a step: the line of the view waits behind those that wait. Only
+/// `take_lines` takes lines away.
 pub struct Service<R: Wait + Copy + Drop, P: Post + Drop> {
     rt: R,
     alloc: Global,
     me: Process,
     desk: Desk<R>,
-    changes: Subscription,
     /// Its questions while it has no view.
     asking: Option<Asking>,
     present: Option<Present>,
@@ -89,7 +89,9 @@ fn probe_of(sender: Process, id: ConfigId) -> Message
 }
 
 /// The frame of a message.
-fn frame_of(alloc: Global, message: &Message) -> Result<Bytes, AllocError> {
+fn frame_of(alloc: Global, message: &Message) -> Result<Bytes, AllocError>
+    ensures { IfOk result (λ bytes. IsFrame bytes message.now) }
+{
     Ok(Bytes::from_vec(encode(alloc, message)?)?)
 }
 
@@ -100,7 +102,10 @@ fn broadcast<R: Wait, P: Post>(
     members: &[Process],
     me: &Process,
     frame: &Bytes,
-) -> Result<(), AllocError> {
+) -> Result<(), AllocError>
+    ensures posts { OnOk result (P.has_posted post.old (to_each frame.now (all_but me.now members.now)) post.new) }
+    ensures some { OnErr result (PostsSome P.has_posted post.old (to_each frame.now (all_but me.now members.now)) post.new) }
+{
     for member in members {
         if *member != *me {
             post.post(rt, member.endpoint(), frame.clone()?);
@@ -115,7 +120,10 @@ fn probe_all<R: Wait, P: Post>(
     post: &mut P,
     subjects: &[Option<Process>; MOST_RINGS],
     frame: &Bytes,
-) -> Result<(), AllocError> {
+) -> Result<(), AllocError>
+    ensures posts { OnOk result (P.has_posted post.old (to_each frame.now (present_in subjects.now)) post.new) }
+    ensures some { OnErr result (PostsSome P.has_posted post.old (to_each frame.now (present_in subjects.now)) post.new) }
+{
     for subject in subjects {
         if let Some(subject) = subject {
             post.post(rt, subject.endpoint(), frame.clone()?);
@@ -124,32 +132,38 @@ fn probe_all<R: Wait, P: Post>(
     Ok(())
 }
 
+// By hand: it is proved here that all parts can be dropped, and no crate above has to prove it again.
+impl<R: Wait + Copy + Drop, P: Post + Drop> Drop for Service<R, P> {
+    fn drop(self) {
+        let Service {
+            rt: _,
+            alloc: _,
+            me: _,
+            desk: _,
+            asking: _,
+            present: _,
+            seats: _,
+            rounds: _,
+            lines: _,
+            notes: _,
+            post: _,
+        } = self;
+    }
+}
+
 impl<R: Wait + Copy + Drop, P: Post + Drop> Service<R, P> {
     /// The service at a desk.
-    fn at(
-        rt: R,
-        alloc: Global,
-        me: Process,
-        mut desk: Desk<R>,
-        post: P,
-    ) -> Result<Service<R, P>, RunningFault>
-        ensures desk { IfOk result (λ s. (s.desk.state ≡ desk.state) × (s.me ≡ me)) }
-        ensures blank { IfOk result (λ s. (s.present ≡ None) × (s.asking ≡ None) × (s.lines.items ≡ []) × (s.notes.waiting.items ≡ []) × (s.rounds ≡ 0)) }
-        ensures own { IfOk result (λ s. (s.desk.subscriptions ≡ desk.subscriptions ++ record { queue = s.changes.queue; since = shown_height desk.state.published; capacity = 4; put = []; known = [] } ∷ []) × (s.changes.taken ≡ [])) }
-        ensures seats { IfOk result (λ s. (s.desk.seats ≡ desk.seats) × (s.desk.count ≡ desk.count) × (vec_len s.seats ≡ 0)) }
-        ensures post { IfOk result (λ s. s.post ≡ post) }
-        ensures fault { IfErr result (λ e. desk.subscriptions ≡ [] → e ≡ OutOfMemory) }
+    fn at(rt: R, alloc: Global, me: Process, desk: Desk<R>, post: P) -> Service<R, P>
+        ensures desk { (result.desk ≡ desk) × (result.me ≡ me) }
+        ensures blank { (result.present ≡ None) × (result.asking ≡ None) × (result.lines.items ≡ []) × (result.notes.waiting.items ≡ []) × (result.rounds ≡ 0) }
+        ensures seats { vec_len result.seats ≡ 0 }
+        ensures post { result.post ≡ post }
     {
-        let changes = match desk.subscribe(CHANGES) {
-            Ok(changes) => changes,
-            Err(error) => return Err(fault_of(error)),
-        };
-        Ok(Service {
+        Service {
             rt,
             alloc,
             me,
             desk,
-            changes,
             asking: None,
             present: None,
             seats: Vec::new(alloc),
@@ -157,7 +171,7 @@ impl<R: Wait + Copy + Drop, P: Post + Drop> Service<R, P> {
             lines: Vec::new(alloc),
             notes: Notes::new(alloc),
             post,
-        })
+        }
     }
 
     /// The service of a process that founds a cluster, in which it is alone. Its first view is
@@ -172,7 +186,7 @@ impl<R: Wait + Copy + Drop, P: Post + Drop> Service<R, P> {
         ensures desk { IfOk result (λ s. (s.desk.state ≡ seed_state (founding params (me ∷ [])) me) × (s.me ≡ me)) }
         ensures entered { IfOk result (λ s. IsSomeAnd s.present (λ present. present.view ≡ founding params (me ∷ []))) }
         ensures line { IfOk result (λ s. s.lines.items ≡ view_text (founding params (me ∷ []))) }
-        ensures own { IfOk result (λ s. (s.desk.subscriptions ≡ record { queue = s.changes.queue; since = shown_height s.desk.state.published; capacity = 4; put = []; known = [] } ∷ []) × (s.changes.taken ≡ [])) }
+        ensures served { IfOk result (λ s. s.desk.subscriptions ≡ []) }
         ensures seats { IfOk result (λ s. (vec_len s.seats ≡ 8) × (s.desk.count ≡ 8)) }
         ensures filter { IfOk result (λ s. IsSomeAnd s.present IsFresh) }
         ensures quiet { IfOk result (λ s. (s.asking ≡ None) × (s.notes.waiting.items ≡ [])) }
@@ -190,7 +204,7 @@ impl<R: Wait + Copy + Drop, P: Post + Drop> Service<R, P> {
         let Ok(desk) = Desk::seed(rt, alloc, &configuration, me, SEATS) else {
             return Err(RunningFault::OutOfMemory);
         };
-        let mut service = Service::at(rt, alloc, me, desk, post)?;
+        let mut service = Service::at(rt, alloc, me, desk, post);
         service.enter(View::new(configuration))?;
         Ok(service)
     }
@@ -208,7 +222,7 @@ impl<R: Wait + Copy + Drop, P: Post + Drop> Service<R, P> {
         ensures blank { IfOk result (λ s. (s.present ≡ None) × (s.lines.items ≡ [])) }
         ensures quiet { IfOk result (λ s. s.notes.waiting.items ≡ []) }
         ensures post { IfOk result (λ s. s.post ≡ post) }
-        ensures own { IfOk result (λ s. (s.desk.subscriptions ≡ record { queue = s.changes.queue; since = shown_height s.desk.state.published; capacity = 4; put = []; known = [] } ∷ []) × (s.changes.taken ≡ [])) }
+        ensures served { IfOk result (λ s. s.desk.subscriptions ≡ []) }
         ensures seats { IfOk result (λ s. (vec_len s.seats ≡ 0) × (s.desk.count ≡ 8)) }
         ensures rounds { IfOk result (λ s. s.rounds ≡ 0) }
         ensures fault { IfErr result (λ e. e ≡ OutOfMemory) }
@@ -217,7 +231,7 @@ impl<R: Wait + Copy + Drop, P: Post + Drop> Service<R, P> {
         let Ok(desk) = Desk::joiner(rt, alloc, me, seed, SEATS) else {
             return Err(RunningFault::OutOfMemory);
         };
-        let mut service = Service::at(rt, alloc, me, desk, post)?;
+        let mut service = Service::at(rt, alloc, me, desk, post);
         service.asking = Some(Asking::new(seed));
         Ok(service)
     }
@@ -227,16 +241,19 @@ impl<R: Wait + Copy + Drop, P: Post + Drop> Service<R, P> {
         ensures step { OnOk result (Steps self.old.desk model.Tick self.new.desk) }
         ensures due { (n : ℕ) → self.old.rounds ≡ n % probe_period → IfOk result (λ due. due ≡ ((n + 1) % probe_period == 0)) }
         ensures counted { (n : ℕ) → self.old.rounds ≡ n % probe_period → OnOk result (self.new.rounds ≡ (n + 1) % probe_period) }
-        ensures views { OnOk result (EntersOne (views_of self.old.changes.taken self.old.lines.items self.old.present) (views_of self.new.changes.taken self.new.lines.items self.new.present)) }
-        ensures filter { OnOk result (TickedOrFresh self.old.changes.taken self.old.present self.new.changes.taken self.new.present) }
+        ensures views { OnOk result (views_of self.new.lines.items self.new.present ≡ after_entering (views_of self.old.lines.items self.old.present) (installed_by self.old.desk.state.node self.new.desk.state.node)) }
+        ensures filter { OnOk result (TickedOrFresh self.old.lines.items self.old.present self.new.lines.items self.new.present) }
         ensures fault { IfErr result (Fails self.old.desk model.Tick self.new.desk) }
         ensures seats { OnOk result ((self.new.seats ≡ self.old.seats) ⊎ (vec_len self.new.seats ≡ self.old.desk.count)) }
-        ensures given { OnOk result ((self.new.changes.taken ≡ self.old.changes.taken) ⊎ (self.new.desk.seats ≡ false)) }
+        ensures given { OnOk result ((self.new.lines.items ≡ self.old.lines.items) ⊎ (self.new.desk.seats ≡ false)) }
         ensures all { OnOk result (had_seats self.old.desk self.new.desk ≡ true → self.new.desk.seats ≡ false → vec_len self.new.seats ≡ self.old.desk.count) }
         ensures rest { (self.new.me ≡ self.old.me) × (self.new.desk.count ≡ self.old.desk.count) }
         ensures kept { had_seats self.old.desk self.new.desk ≡ false → self.new.seats ≡ self.old.seats }
-        ensures failed { OnErr result ((self.new.present ≡ self.old.present) × (self.new.seats ≡ self.old.seats) × (self.new.rounds ≡ self.old.rounds)) }
-        ensures notes { KeepsNotes self.old.notes.waiting.items self.new.notes.waiting.items }
+        ensures failed { OnErr result ((self.new.present ≡ self.old.present) × (self.new.asking ≡ self.old.asking) × (self.new.seats ≡ self.old.seats) × (self.new.rounds ≡ self.old.rounds)) }
+        ensures notes { (between : List Note) × NotesRemoval (name_of self.new.desk.state.node.phase) self.new.present self.old.notes.waiting.items between × NotesQuestion (asking_after (installed_by self.old.desk.state.node self.new.desk.state.node) self.old.asking) between self.new.notes.waiting.items }
+        ensures says { OnOk result (SaysAt P.has_posted self.old.me (stands self.old.desk self.old.lines.items self.old.present self.old.post) model.Tick (stands self.new.desk self.new.lines.items self.new.present self.new.post)) }
+        ensures unsaid { OnErr result (SaysSome P.has_posted self.old.me (stands self.old.desk self.old.lines.items self.old.present self.old.post) model.Tick (stands self.new.desk self.new.lines.items self.new.present self.new.post)) }
+        ensures asked { OnOk result (AskedOnce (asking_after (installed_by self.old.desk.state.node self.new.desk.state.node) self.old.asking) self.new.asking) }
     {
         self.step(Event::Tick)?;
         self.count_tick();
@@ -257,7 +274,7 @@ impl<R: Wait + Copy + Drop, P: Post + Drop> Service<R, P> {
         ensures lost { IfSome self.new.present (λ present. OnErr result (present.watch.parted ≡ true)) }
         ensures kept { IfSome self.old.present (λ before. IfSome self.new.present (λ after. IfOk result (λ r. IfNone r ((after.watch.parted ≡ before.watch.parted) × (after.watch.seats.items ≡ before.watch.seats.items))))) }
         ensures desk { self.new.desk ≡ self.old.desk }
-        ensures views { views_of self.new.changes.taken self.new.lines.items self.new.present ≡ views_of self.old.changes.taken self.old.lines.items self.old.present }
+        ensures views { views_of self.new.lines.items self.new.present ≡ views_of self.old.lines.items self.old.present }
         ensures rest { (self.new.me ≡ self.old.me) × (self.new.rounds ≡ self.old.rounds) × (self.new.notes ≡ self.old.notes) × (self.new.seats ≡ self.old.seats) }
         ensures filter { filter_of self.new.present ≡ filter_of self.old.present }
         ensures silent { (self.new.asking ≡ self.old.asking) × (self.new.post ≡ self.old.post) }
@@ -273,13 +290,15 @@ impl<R: Wait + Copy + Drop, P: Post + Drop> Service<R, P> {
     /// go out. Each edge is a step, so several views may be entered, in order.
     pub fn hand_on(&mut self, round: &PartRound) -> Result<(), RunningFault>
         ensures steps { OnOk result (StepsAll self.old.desk (downs_from round.now.id 0 round.now.downs) self.new.desk) }
-        ensures views { OnOk result (EntersSome (views_of self.old.changes.taken self.old.lines.items self.old.present) (views_of self.new.changes.taken self.new.lines.items self.new.present)) }
-        ensures filter { OnOk result (StaysOrFresh self.old.changes.taken self.old.present self.new.changes.taken self.new.present) }
+        ensures filter { OnOk result (StaysOrFresh self.old.lines.items self.old.present self.new.lines.items self.new.present) }
         ensures fault { IfErr result (FailsIn self.old.desk (downs_from round.now.id 0 round.now.downs) self.new.desk) }
         ensures seats { OnOk result ((self.new.seats ≡ self.old.seats) ⊎ (vec_len self.new.seats ≡ self.old.desk.count)) }
         ensures rest { (self.new.rounds ≡ self.old.rounds) × (self.new.me ≡ self.old.me) × (self.new.desk.count ≡ self.old.desk.count) }
         ensures all { OnOk result (had_seats self.old.desk self.new.desk ≡ true → self.new.desk.seats ≡ false → vec_len self.new.seats ≡ self.old.desk.count) }
-        ensures notes { KeepsNotes self.old.notes.waiting.items self.new.notes.waiting.items }
+        ensures notes { AddsRemovals self.old.notes.waiting.items self.new.notes.waiting.items }
+        ensures says { OnOk result (SaysAll P.has_posted self.old.me (stands self.old.desk self.old.lines.items self.old.present self.old.post) (downs_from round.now.id 0 round.now.downs) (to_each (frame (record { sender = self.old.me; body = Probe round.now.id })) (present_in round.now.probes)) (stands self.new.desk self.new.lines.items self.new.present self.new.post)) }
+        ensures unsaid { OnErr result (SaysFirst P.has_posted self.old.me (stands self.old.desk self.old.lines.items self.old.present self.old.post) (downs_from round.now.id 0 round.now.downs) (to_each (frame (record { sender = self.old.me; body = Probe round.now.id })) (present_in round.now.probes)) (stands self.new.desk self.new.lines.items self.new.present self.new.post)) }
+        ensures asked { OnOk result (AsksOrNone self.old.lines.items self.old.asking self.new.lines.items self.new.asking) }
     {
         self.hand_down(round.id, &round.downs)?;
         let frame = frame_of(self.alloc, &probe_of(self.me, round.id))?;
@@ -294,7 +313,7 @@ impl<R: Wait + Copy + Drop, P: Post + Drop> Service<R, P> {
         ensures board { IfSome self.old.present (λ before. IfSome self.new.present (λ after. SameBoard before.watch.board after.watch.board)) }
         ensures parts { IfSome self.old.present (λ before. IfSome self.new.present (λ after. (after.watch.parted ≡ before.watch.parted) × (after.watch.seats.items ≡ before.watch.seats.items))) }
         ensures desk { self.new.desk ≡ self.old.desk }
-        ensures views { views_of self.new.changes.taken self.new.lines.items self.new.present ≡ views_of self.old.changes.taken self.old.lines.items self.old.present }
+        ensures views { views_of self.new.lines.items self.new.present ≡ views_of self.old.lines.items self.old.present }
         ensures rest { (self.new.me ≡ self.old.me) × (self.new.rounds ≡ self.old.rounds) × (self.new.notes ≡ self.old.notes) × (self.new.seats ≡ self.old.seats) }
         ensures filter { filter_of self.new.present ≡ filter_of self.old.present }
         ensures silent { (self.new.asking ≡ self.old.asking) × (self.new.post ≡ self.old.post) }
@@ -313,18 +332,22 @@ impl<R: Wait + Copy + Drop, P: Post + Drop> Service<R, P> {
         ensures drops { IsSomeAnd self.old.present (λ present. IsRepeatFor present.repeats message) → result ≡ Ok fate.Dropped }
         ensures desk { IfOk result (λ received. received ≡ fate.Dropped → self.new.desk ≡ self.old.desk) }
         ensures taken { IfOk result (λ received. received ≡ fate.Taken → Steps self.old.desk (model.Receive message) self.new.desk) }
-        ensures views { OnOk result (EntersOne (views_of self.old.changes.taken self.old.lines.items self.old.present) (views_of self.new.changes.taken self.new.lines.items self.new.present)) }
-        ensures undisturbed { IfOk result (λ received. received ≡ fate.Dropped → views_of self.new.changes.taken self.new.lines.items self.new.present ≡ views_of self.old.changes.taken self.old.lines.items self.old.present) }
-        ensures filter { IfOk result (λ received. received ≡ fate.Taken → HeardOrFresh message self.old.changes.taken self.old.present self.new.changes.taken self.new.present) }
+        ensures views { IfOk result (λ received. received ≡ fate.Taken → views_of self.new.lines.items self.new.present ≡ after_entering (views_of self.old.lines.items self.old.present) (installed_by self.old.desk.state.node self.new.desk.state.node)) }
+        ensures undisturbed { IfOk result (λ received. received ≡ fate.Dropped → views_of self.new.lines.items self.new.present ≡ views_of self.old.lines.items self.old.present) }
+        ensures filter { IfOk result (λ received. received ≡ fate.Taken → HeardOrFresh message self.old.lines.items self.old.present self.new.lines.items self.new.present) }
         ensures unheard { IfOk result (λ received. received ≡ fate.Dropped → HeardIn false message self.old.present self.new.present) }
         ensures fault { IfErr result (Fails self.old.desk (model.Receive message) self.new.desk) }
         ensures seats { OnOk result ((self.new.seats ≡ self.old.seats) ⊎ (vec_len self.new.seats ≡ self.old.desk.count)) }
-        ensures given { OnOk result ((self.new.changes.taken ≡ self.old.changes.taken) ⊎ (self.new.desk.seats ≡ false)) }
+        ensures given { OnOk result ((self.new.lines.items ≡ self.old.lines.items) ⊎ (self.new.desk.seats ≡ false)) }
         ensures all { IfOk result (λ received. received ≡ fate.Taken → had_seats self.old.desk self.new.desk ≡ true → self.new.desk.seats ≡ false → vec_len self.new.seats ≡ self.old.desk.count) }
         ensures rest { (self.new.rounds ≡ self.old.rounds) × (self.new.me ≡ self.old.me) × (self.new.desk.count ≡ self.old.desk.count) }
         ensures kept { had_seats self.old.desk self.new.desk ≡ false → self.new.seats ≡ self.old.seats }
-        ensures failed { OnErr result (HeardIn true message self.old.present self.new.present × (self.new.seats ≡ self.old.seats)) }
+        ensures failed { OnErr result (HeardIn true message self.old.present self.new.present × Answered self.old.asking self.new.asking × (self.new.seats ≡ self.old.seats)) }
         ensures notes { NotesRemoval (name_of self.new.desk.state.node.phase) self.new.present self.old.notes.waiting.items self.new.notes.waiting.items }
+        ensures says { IfOk result (λ received. received ≡ fate.Taken → SaysAt P.has_posted self.old.me (stands self.old.desk self.old.lines.items self.old.present self.old.post) (model.Receive message) (stands self.new.desk self.new.lines.items self.new.present self.new.post)) }
+        ensures unsaid { OnErr result (SaysSome P.has_posted self.old.me (stands self.old.desk self.old.lines.items self.old.present self.old.post) (model.Receive message) (stands self.new.desk self.new.lines.items self.new.present self.new.post)) }
+        ensures silent { IfOk result (λ received. received ≡ fate.Dropped → self.new.post ≡ self.old.post) }
+        ensures asked { IfOk result (λ received. (between : Option Asking) × Answered self.old.asking between × (received ≡ fate.Dropped → self.new.asking ≡ between) × (received ≡ fate.Taken → self.new.asking ≡ asking_after (installed_by self.old.desk.state.node self.new.desk.state.node) between)) }
     {
         if let Body::Reply(joiner, reply) = message.body() {
             self.hear(joiner, reply);
@@ -341,16 +364,19 @@ impl<R: Wait + Copy + Drop, P: Post + Drop> Service<R, P> {
     /// unless it is asked again; nothing else than a member leaves.
     pub fn leave(&mut self) -> Result<(), RunningFault>
         ensures step { OnOk result (Steps self.old.desk model.Leave self.new.desk) }
-        ensures views { OnOk result (EntersOne (views_of self.old.changes.taken self.old.lines.items self.old.present) (views_of self.new.changes.taken self.new.lines.items self.new.present)) }
-        ensures filter { OnOk result (StaysOrFresh self.old.changes.taken self.old.present self.new.changes.taken self.new.present) }
+        ensures views { OnOk result (views_of self.new.lines.items self.new.present ≡ after_entering (views_of self.old.lines.items self.old.present) (installed_by self.old.desk.state.node self.new.desk.state.node)) }
+        ensures filter { OnOk result (StaysOrFresh self.old.lines.items self.old.present self.new.lines.items self.new.present) }
         ensures fault { IfErr result (Fails self.old.desk model.Leave self.new.desk) }
         ensures seats { OnOk result ((self.new.seats ≡ self.old.seats) ⊎ (vec_len self.new.seats ≡ self.old.desk.count)) }
-        ensures given { OnOk result ((self.new.changes.taken ≡ self.old.changes.taken) ⊎ (self.new.desk.seats ≡ false)) }
+        ensures given { OnOk result ((self.new.lines.items ≡ self.old.lines.items) ⊎ (self.new.desk.seats ≡ false)) }
         ensures all { OnOk result (had_seats self.old.desk self.new.desk ≡ true → self.new.desk.seats ≡ false → vec_len self.new.seats ≡ self.old.desk.count) }
         ensures rest { (self.new.rounds ≡ self.old.rounds) × (self.new.me ≡ self.old.me) × (self.new.desk.count ≡ self.old.desk.count) }
         ensures kept { had_seats self.old.desk self.new.desk ≡ false → self.new.seats ≡ self.old.seats }
-        ensures failed { OnErr result ((self.new.present ≡ self.old.present) × (self.new.seats ≡ self.old.seats)) }
+        ensures failed { OnErr result ((self.new.present ≡ self.old.present) × (self.new.asking ≡ self.old.asking) × (self.new.seats ≡ self.old.seats)) }
         ensures notes { NotesRemoval (name_of self.new.desk.state.node.phase) self.new.present self.old.notes.waiting.items self.new.notes.waiting.items }
+        ensures says { OnOk result (SaysAt P.has_posted self.old.me (stands self.old.desk self.old.lines.items self.old.present self.old.post) model.Leave (stands self.new.desk self.new.lines.items self.new.present self.new.post)) }
+        ensures unsaid { OnErr result (SaysSome P.has_posted self.old.me (stands self.old.desk self.old.lines.items self.old.present self.old.post) model.Leave (stands self.new.desk self.new.lines.items self.new.present self.new.post)) }
+        ensures asked { OnOk result (self.new.asking ≡ asking_after (installed_by self.old.desk.state.node self.new.desk.state.node) self.old.asking) }
     {
         self.step(Event::Leave)
     }
@@ -361,9 +387,10 @@ impl<R: Wait + Copy + Drop, P: Post + Drop> Service<R, P> {
         ensures drops { IsSomeAnd self.old.present (λ present. IsRepeatFor present.repeats message.now) → result ≡ false }
         ensures heard { HeardIn result message.now self.old.present self.new.present }
         ensures desk { self.new.desk ≡ self.old.desk }
-        ensures views { views_of self.new.changes.taken self.new.lines.items self.new.present ≡ views_of self.old.changes.taken self.old.lines.items self.old.present }
-        ensures rest { (self.new.rounds ≡ self.old.rounds) × (self.new.me ≡ self.old.me) × (self.new.seats ≡ self.old.seats) }
+        ensures views { views_of self.new.lines.items self.new.present ≡ views_of self.old.lines.items self.old.present }
+        ensures rest { (self.new.rounds ≡ self.old.rounds) × (self.new.me ≡ self.old.me) × (self.new.asking ≡ self.old.asking) × (self.new.seats ≡ self.old.seats) }
         ensures notes { self.new.notes.waiting.items ≡ self.old.notes.waiting.items }
+        ensures post { self.new.post ≡ self.old.post }
     {
         match &mut self.present {
             Some(present) => present.repeats.admits(message),
@@ -375,9 +402,10 @@ impl<R: Wait + Copy + Drop, P: Post + Drop> Service<R, P> {
     fn count_tick(&mut self)
         ensures ticked { TickedIn self.old.present self.new.present }
         ensures desk { self.new.desk ≡ self.old.desk }
-        ensures views { views_of self.new.changes.taken self.new.lines.items self.new.present ≡ views_of self.old.changes.taken self.old.lines.items self.old.present }
-        ensures rest { (self.new.rounds ≡ self.old.rounds) × (self.new.me ≡ self.old.me) × (self.new.seats ≡ self.old.seats) }
+        ensures views { views_of self.new.lines.items self.new.present ≡ views_of self.old.lines.items self.old.present }
+        ensures rest { (self.new.rounds ≡ self.old.rounds) × (self.new.me ≡ self.old.me) × (self.new.asking ≡ self.old.asking) × (self.new.seats ≡ self.old.seats) }
         ensures notes { self.new.notes.waiting.items ≡ self.old.notes.waiting.items }
+        ensures post { self.new.post ≡ self.old.post }
     {
         if let Some(present) = &mut self.present {
             present.repeats.tick();
@@ -388,9 +416,11 @@ impl<R: Wait + Copy + Drop, P: Post + Drop> Service<R, P> {
     /// questions is noted.
     fn note_question(&mut self)
         ensures desk { self.new.desk ≡ self.old.desk }
-        ensures views { views_of self.new.changes.taken self.new.lines.items self.new.present ≡ views_of self.old.changes.taken self.old.lines.items self.old.present }
+        ensures views { views_of self.new.lines.items self.new.present ≡ views_of self.old.lines.items self.old.present }
         ensures rest { (self.new.rounds ≡ self.old.rounds) × (self.new.me ≡ self.old.me) × (self.new.seats ≡ self.old.seats) × (self.new.present ≡ self.old.present) }
-        ensures notes { KeepsNotes self.old.notes.waiting.items self.new.notes.waiting.items }
+        ensures notes { NotesQuestion self.old.asking self.old.notes.waiting.items self.new.notes.waiting.items }
+        ensures post { self.new.post ≡ self.old.post }
+        ensures asked { AskedOnce self.old.asking self.new.asking }
     {
         if let Some(asking) = &mut self.asking
             && let Some(note) = asking.tick()
@@ -404,9 +434,11 @@ impl<R: Wait + Copy + Drop, P: Post + Drop> Service<R, P> {
     fn hear(&mut self, joiner: &Process, reply: &Reply)
         ensures present { self.new.present ≡ self.old.present }
         ensures desk { self.new.desk ≡ self.old.desk }
-        ensures views { views_of self.new.changes.taken self.new.lines.items self.new.present ≡ views_of self.old.changes.taken self.old.lines.items self.old.present }
+        ensures views { views_of self.new.lines.items self.new.present ≡ views_of self.old.lines.items self.old.present }
         ensures rest { (self.new.rounds ≡ self.old.rounds) × (self.new.me ≡ self.old.me) × (self.new.seats ≡ self.old.seats) }
         ensures notes { self.new.notes.waiting.items ≡ self.old.notes.waiting.items }
+        ensures post { self.new.post ≡ self.old.post }
+        ensures answered { Answered self.old.asking self.new.asking }
     {
         if let Some(asking) = &mut self.asking
             && *joiner == self.me
@@ -420,7 +452,7 @@ impl<R: Wait + Copy + Drop, P: Post + Drop> Service<R, P> {
         ensures seat { self.old.seats.items ≡ self.new.seats.items ++ option_to_list result }
         ensures some { IsSome result ↔ (0 < vec_len self.old.seats) }
         ensures same { (self.new.desk ≡ self.old.desk) × (self.new.me ≡ self.old.me) × (self.new.rounds ≡ self.old.rounds) × (self.new.notes ≡ self.old.notes) × (self.new.present ≡ self.old.present) }
-        ensures views { views_of self.new.changes.taken self.new.lines.items self.new.present ≡ views_of self.old.changes.taken self.old.lines.items self.old.present }
+        ensures views { views_of self.new.lines.items self.new.present ≡ views_of self.old.lines.items self.old.present }
         ensures silent { (self.new.asking ≡ self.old.asking) × (self.new.post ≡ self.old.post) }
     {
         self.seats.pop()
@@ -456,7 +488,7 @@ impl<R: Wait + Copy + Drop, P: Post + Drop> Service<R, P> {
         ensures current { IfOk result (λ r. r.1 ≡ option_map (λ present. present.view) self.old.present) }
         ensures refused { IfErr result (NotSubscribed capacity (length self.old.desk.subscriptions)) }
         ensures unserved { IfErr result (λ e. StillServes self.old.desk capacity e self.new.desk.subscriptions) }
-        ensures views { views_of self.new.changes.taken self.new.lines.items self.new.present ≡ views_of self.old.changes.taken self.old.lines.items self.old.present }
+        ensures views { views_of self.new.lines.items self.new.present ≡ views_of self.old.lines.items self.old.present }
         ensures rest { (self.new.desk.count ≡ self.old.desk.count) × (self.new.rounds ≡ self.old.rounds) × (self.new.notes ≡ self.old.notes) × (self.new.seats ≡ self.old.seats) × (self.new.present ≡ self.old.present) }
         ensures silent { (self.new.asking ≡ self.old.asking) × (self.new.post ≡ self.old.post) }
     {
@@ -470,10 +502,10 @@ impl<R: Wait + Copy + Drop, P: Post + Drop> Service<R, P> {
         }
     }
 
-    /// Ends the subscriptions made so far, also its own: it enters no further view.
+    /// Ends the subscriptions made so far.
     pub fn close(&mut self)
         ensures closed { self.new.desk ≡ record self.old.desk { subscriptions = [] } }
-        ensures views { views_of self.new.changes.taken self.new.lines.items self.new.present ≡ views_of self.old.changes.taken self.old.lines.items self.old.present }
+        ensures views { views_of self.new.lines.items self.new.present ≡ views_of self.old.lines.items self.old.present }
         ensures rest { (self.new.me ≡ self.old.me) × (self.new.rounds ≡ self.old.rounds) × (self.new.notes ≡ self.old.notes) × (self.new.seats ≡ self.old.seats) × (self.new.present ≡ self.old.present) }
         ensures silent { (self.new.asking ≡ self.old.asking) × (self.new.post ≡ self.old.post) }
     {
@@ -485,7 +517,7 @@ impl<R: Wait + Copy + Drop, P: Post + Drop> Service<R, P> {
     pub fn take_lines(&mut self) -> Vec<u8>
         ensures taken { result.items ≡ self.old.lines.items }
         ensures none { self.new.lines.items ≡ [] }
-        ensures same { (self.new.desk ≡ self.old.desk) × (self.new.me ≡ self.old.me) × (self.new.changes ≡ self.old.changes) × (self.new.present ≡ self.old.present) }
+        ensures same { (self.new.desk ≡ self.old.desk) × (self.new.me ≡ self.old.me) × (self.new.present ≡ self.old.present) }
         ensures rest { (self.new.rounds ≡ self.old.rounds) × (self.new.notes ≡ self.old.notes) × (self.new.seats ≡ self.old.seats) }
         ensures silent { (self.new.asking ≡ self.old.asking) × (self.new.post ≡ self.old.post) }
     {
@@ -498,7 +530,7 @@ impl<R: Wait + Copy + Drop, P: Post + Drop> Service<R, P> {
         ensures few { vec_len result ≤ most_notes }
         ensures none { self.new.notes.waiting.items ≡ [] }
         ensures same { (self.new.desk ≡ self.old.desk) × (self.new.me ≡ self.old.me) × (self.new.rounds ≡ self.old.rounds) × (self.new.seats ≡ self.old.seats) × (self.new.present ≡ self.old.present) }
-        ensures views { views_of self.new.changes.taken self.new.lines.items self.new.present ≡ views_of self.old.changes.taken self.old.lines.items self.old.present }
+        ensures views { views_of self.new.lines.items self.new.present ≡ views_of self.old.lines.items self.old.present }
         ensures silent { (self.new.asking ≡ self.old.asking) × (self.new.post ≡ self.old.post) }
     {
         self.notes.take()
@@ -514,21 +546,25 @@ impl<R: Wait + Copy + Drop, P: Post + Drop> Service<R, P> {
     /// One event at the desk: what is sent goes out, and a new view is entered.
     fn step(&mut self, event: Event) -> Result<(), RunningFault>
         ensures step { OnOk result (Steps self.old.desk (event_of event) self.new.desk) }
-        ensures views { OnOk result (EntersOne (views_of self.old.changes.taken self.old.lines.items self.old.present) (views_of self.new.changes.taken self.new.lines.items self.new.present)) }
-        ensures filter { OnOk result (StaysOrFresh self.old.changes.taken self.old.present self.new.changes.taken self.new.present) }
+        ensures views { OnOk result (views_of self.new.lines.items self.new.present ≡ after_entering (views_of self.old.lines.items self.old.present) (installed_by self.old.desk.state.node self.new.desk.state.node)) }
+        ensures filter { OnOk result (StaysOrFresh self.old.lines.items self.old.present self.new.lines.items self.new.present) }
         ensures fault { IfErr result (Fails self.old.desk (event_of event) self.new.desk) }
         ensures seats { OnOk result ((self.new.seats ≡ self.old.seats) ⊎ (vec_len self.new.seats ≡ self.old.desk.count)) }
-        ensures given { OnOk result ((self.new.changes.taken ≡ self.old.changes.taken) ⊎ (self.new.desk.seats ≡ false)) }
+        ensures given { OnOk result ((self.new.lines.items ≡ self.old.lines.items) ⊎ (self.new.desk.seats ≡ false)) }
         ensures all { OnOk result (had_seats self.old.desk self.new.desk ≡ true → self.new.desk.seats ≡ false → vec_len self.new.seats ≡ self.old.desk.count) }
         ensures rest { (self.new.rounds ≡ self.old.rounds) × (self.new.me ≡ self.old.me) × (self.new.desk.count ≡ self.old.desk.count) }
         ensures kept { had_seats self.old.desk self.new.desk ≡ false → self.new.seats ≡ self.old.seats }
-        ensures failed { OnErr result ((self.new.present ≡ self.old.present) × (self.new.seats ≡ self.old.seats)) }
+        ensures failed { OnErr result ((self.new.present ≡ self.old.present) × (self.new.asking ≡ self.old.asking) × (self.new.seats ≡ self.old.seats)) }
         ensures notes { NotesRemoval (name_of self.new.desk.state.node.phase) self.new.present self.old.notes.waiting.items self.new.notes.waiting.items }
+        ensures says { OnOk result (SaysAt P.has_posted self.old.me (stands self.old.desk self.old.lines.items self.old.present self.old.post) (event_of event) (stands self.new.desk self.new.lines.items self.new.present self.new.post)) }
+        ensures unsaid { OnErr result (SaysSome P.has_posted self.old.me (stands self.old.desk self.old.lines.items self.old.present self.old.post) (event_of event) (stands self.new.desk self.new.lines.items self.new.present self.new.post)) }
+        ensures asked { OnOk result (self.new.asking ≡ asking_after (installed_by self.old.desk.state.node self.new.desk.state.node) self.old.asking) }
     {
+        let before = self.desk.node().installed().len();
         let sent = self.at_desk(event)?;
         // before a new view is entered: the other members are those of the view of the step
         self.send_all(sent.as_slice())?;
-        self.follow()
+        self.follow(before)
     }
 
     /// One event at the desk, whose journal is begun anew before if it is long. If the desk does not
@@ -539,9 +575,10 @@ impl<R: Wait + Copy + Drop, P: Post + Drop> Service<R, P> {
         ensures seats { OnOk result (self.new.desk.seats ≡ had_seats self.old.desk self.new.desk) }
         ensures refused { IfErr result (HasRefused self.old.desk.state (event_of event) self.new.desk.state) }
         ensures closed { OnErr result (self.new.desk.subscriptions ≡ []) }
-        ensures views { views_of self.new.changes.taken self.new.lines.items self.new.present ≡ views_of self.old.changes.taken self.old.lines.items self.old.present }
-        ensures rest { (self.new.rounds ≡ self.old.rounds) × (self.new.me ≡ self.old.me) × (self.new.seats ≡ self.old.seats) × (self.new.present ≡ self.old.present) × (self.new.desk.count ≡ self.old.desk.count) }
+        ensures views { views_of self.new.lines.items self.new.present ≡ views_of self.old.lines.items self.old.present }
+        ensures rest { (self.new.rounds ≡ self.old.rounds) × (self.new.me ≡ self.old.me) × (self.new.asking ≡ self.old.asking) × (self.new.seats ≡ self.old.seats) × (self.new.present ≡ self.old.present) × (self.new.desk.count ≡ self.old.desk.count) }
         ensures notes { self.new.notes.waiting.items ≡ self.old.notes.waiting.items }
+        ensures post { self.new.post ≡ self.old.post }
     {
         // a journal for which there is no memory now grows on, and the next step tries again
         let _ = shorten(&mut self.desk);
@@ -557,9 +594,11 @@ impl<R: Wait + Copy + Drop, P: Post + Drop> Service<R, P> {
     /// Sends the messages of a step to their recipients, in order.
     fn send_all(&mut self, sent: &[Output]) -> Result<(), AllocError>
         ensures desk { self.new.desk ≡ self.old.desk }
-        ensures views { views_of self.new.changes.taken self.new.lines.items self.new.present ≡ views_of self.old.changes.taken self.old.lines.items self.old.present }
-        ensures rest { (self.new.rounds ≡ self.old.rounds) × (self.new.me ≡ self.old.me) × (self.new.seats ≡ self.old.seats) × (self.new.present ≡ self.old.present) }
+        ensures views { views_of self.new.lines.items self.new.present ≡ views_of self.old.lines.items self.old.present }
+        ensures rest { (self.new.rounds ≡ self.old.rounds) × (self.new.me ≡ self.old.me) × (self.new.asking ≡ self.old.asking) × (self.new.seats ≡ self.old.seats) × (self.new.present ≡ self.old.present) }
         ensures notes { self.new.notes.waiting.items ≡ self.old.notes.waiting.items }
+        ensures posts { OnOk result (P.has_posted self.old.post (postings (view_in self.old.present) self.old.me sent.now) self.new.post) }
+        ensures some { OnErr result (PostsSome P.has_posted self.old.post (postings (view_in self.old.present) self.old.me sent.now) self.new.post) }
     {
         for output in sent {
             self.send(output)?;
@@ -570,9 +609,11 @@ impl<R: Wait + Copy + Drop, P: Post + Drop> Service<R, P> {
     /// Sends a message to its recipients: the other members are those of the view before the step.
     fn send(&mut self, output: &Output) -> Result<(), AllocError>
         ensures desk { self.new.desk ≡ self.old.desk }
-        ensures views { views_of self.new.changes.taken self.new.lines.items self.new.present ≡ views_of self.old.changes.taken self.old.lines.items self.old.present }
-        ensures rest { (self.new.rounds ≡ self.old.rounds) × (self.new.me ≡ self.old.me) × (self.new.seats ≡ self.old.seats) × (self.new.present ≡ self.old.present) }
+        ensures views { views_of self.new.lines.items self.new.present ≡ views_of self.old.lines.items self.old.present }
+        ensures rest { (self.new.rounds ≡ self.old.rounds) × (self.new.me ≡ self.old.me) × (self.new.asking ≡ self.old.asking) × (self.new.seats ≡ self.old.seats) × (self.new.present ≡ self.old.present) }
         ensures notes { self.new.notes.waiting.items ≡ self.old.notes.waiting.items }
+        ensures posts { OnOk result (P.has_posted self.old.post (postings (view_in self.old.present) self.old.me (output.now ∷ [])) self.new.post) }
+        ensures some { OnErr result (PostsSome P.has_posted self.old.post (postings (view_in self.old.present) self.old.me (output.now ∷ [])) self.new.post) }
     {
         let frame = frame_of(self.alloc, output.message())?;
         match output.to() {
@@ -587,9 +628,11 @@ impl<R: Wait + Copy + Drop, P: Post + Drop> Service<R, P> {
     /// Sends a frame to the other members.
     fn send_others(&mut self, frame: &Bytes) -> Result<(), AllocError>
         ensures desk { self.new.desk ≡ self.old.desk }
-        ensures views { views_of self.new.changes.taken self.new.lines.items self.new.present ≡ views_of self.old.changes.taken self.old.lines.items self.old.present }
-        ensures rest { (self.new.rounds ≡ self.old.rounds) × (self.new.me ≡ self.old.me) × (self.new.seats ≡ self.old.seats) × (self.new.present ≡ self.old.present) }
+        ensures views { views_of self.new.lines.items self.new.present ≡ views_of self.old.lines.items self.old.present }
+        ensures rest { (self.new.rounds ≡ self.old.rounds) × (self.new.me ≡ self.old.me) × (self.new.asking ≡ self.old.asking) × (self.new.seats ≡ self.old.seats) × (self.new.present ≡ self.old.present) }
         ensures notes { self.new.notes.waiting.items ≡ self.old.notes.waiting.items }
+        ensures posts { OnOk result (P.has_posted self.old.post (to_each frame.now (other_members (view_in self.old.present) self.old.me)) self.new.post) }
+        ensures some { OnErr result (PostsSome P.has_posted self.old.post (to_each frame.now (other_members (view_in self.old.present) self.old.me)) self.new.post) }
     {
         match &self.present {
             Some(present) => broadcast(
@@ -603,25 +646,33 @@ impl<R: Wait + Copy + Drop, P: Post + Drop> Service<R, P> {
         }
     }
 
-    /// Enters the view that the desk has published, if there is a new one.
-    fn follow(&mut self) -> Result<(), RunningFault>
+    /// Enters the view that the node installed in its last step, if it did: it had installed so many
+    /// before.
+    fn follow(&mut self, before: usize) -> Result<(), RunningFault>
         ensures desk { (self.new.desk.state ≡ self.old.desk.state) × (self.new.desk.subscriptions ≡ self.old.desk.subscriptions) }
-        ensures views { OnOk result (EntersOne (views_of self.old.changes.taken self.old.lines.items self.old.present) (views_of self.new.changes.taken self.new.lines.items self.new.present)) }
-        ensures filter { OnOk result (StaysOrFresh self.old.changes.taken self.old.present self.new.changes.taken self.new.present) }
+        ensures views { OnOk result (views_of self.new.lines.items self.new.present ≡ after_entering (views_of self.old.lines.items self.old.present) (shown_since before self.old.desk.state.node)) }
+        ensures filter { OnOk result (StaysOrFresh self.old.lines.items self.old.present self.new.lines.items self.new.present) }
         ensures fault { IfErr result (λ e. e ≡ OutOfMemory) }
         ensures seats { OnOk result ((self.new.seats ≡ self.old.seats) ⊎ (vec_len self.new.seats ≡ self.old.desk.count)) }
-        ensures given { OnOk result ((self.new.changes.taken ≡ self.old.changes.taken) ⊎ (self.new.desk.seats ≡ false)) }
+        ensures given { OnOk result ((self.new.lines.items ≡ self.old.lines.items) ⊎ (self.new.desk.seats ≡ false)) }
         ensures all { OnOk result (self.old.desk.seats ≡ true → self.new.desk.seats ≡ false → vec_len self.new.seats ≡ self.old.desk.count) }
         ensures rest { (self.new.rounds ≡ self.old.rounds) × (self.new.me ≡ self.old.me) × (self.new.desk.count ≡ self.old.desk.count) }
         ensures kept { self.old.desk.seats ≡ false → self.new.seats ≡ self.old.seats }
-        ensures failed { OnErr result ((self.new.present ≡ self.old.present) × (self.new.seats ≡ self.old.seats)) }
+        ensures failed { OnErr result ((self.new.present ≡ self.old.present) × (self.new.asking ≡ self.old.asking) × (self.new.seats ≡ self.old.seats)) }
         ensures notes { NotesRemoval (name_of self.new.desk.state.node.phase) self.new.present self.old.notes.waiting.items self.new.notes.waiting.items }
+        ensures post { self.new.post ≡ self.old.post }
+        ensures asked { OnOk result (self.new.asking ≡ asking_after (shown_since before self.old.desk.state.node) self.old.asking) }
     {
-        match self.changes.take(&self.rt) {
-            Taken::Change(view) => self.enter(view),
-            Taken::Empty => Ok(()),
-            // each change is taken at once, so the queue is never full: a lost one found no memory
-            Taken::Lagged | Taken::Closed => Err(RunningFault::OutOfMemory),
+        let node = self.desk.node();
+        if node.installed().len() <= before {
+            return Ok(());
+        }
+        match node.configuration() {
+            Some(configuration) => {
+                let view = View::new(configuration.try_copy(self.alloc)?);
+                self.enter(view)
+            }
+            None => Ok(()),
         }
     }
 
@@ -633,7 +684,6 @@ impl<R: Wait + Copy + Drop, P: Post + Drop> Service<R, P> {
         ensures view { OnOk result (IsSomeAnd self.new.present (λ present. present.view ≡ view)) }
         ensures fresh { OnOk result (IsSomeAnd self.new.present IsFresh) }
         ensures asks { OnOk result (self.new.asking ≡ None) }
-        ensures changes { self.new.changes ≡ self.old.changes }
         ensures post { self.new.post ≡ self.old.post }
         ensures seats { OnOk result ((self.new.seats ≡ self.old.seats) ⊎ (vec_len self.new.seats ≡ self.old.desk.count)) }
         ensures given { OnOk result (self.new.desk.seats ≡ false) }
@@ -641,7 +691,7 @@ impl<R: Wait + Copy + Drop, P: Post + Drop> Service<R, P> {
         ensures fault { IfErr result (λ e. e ≡ OutOfMemory) }
         ensures rest { (self.new.rounds ≡ self.old.rounds) × (self.new.me ≡ self.old.me) × (self.new.desk.count ≡ self.old.desk.count) }
         ensures kept { self.old.desk.seats ≡ false → self.new.seats ≡ self.old.seats }
-        ensures failed { OnErr result ((self.new.present ≡ self.old.present) × (self.new.seats ≡ self.old.seats)) }
+        ensures failed { OnErr result ((self.new.present ≡ self.old.present) × (self.new.asking ≡ self.old.asking) × (self.new.seats ≡ self.old.seats)) }
         ensures notes { NotesRemoval (name_of self.new.desk.state.node.phase) self.new.present self.old.notes.waiting.items self.new.notes.waiting.items }
     {
         write_view(view.configuration(), &mut self.lines)?;
@@ -683,13 +733,15 @@ impl<R: Wait + Copy + Drop, P: Post + Drop> Service<R, P> {
         downs: &[Option<Process>; MOST_RINGS],
     ) -> Result<(), RunningFault>
         ensures steps { OnOk result (StepsAll self.old.desk (downs_from id 0 downs.now) self.new.desk) }
-        ensures views { OnOk result (EntersSome (views_of self.old.changes.taken self.old.lines.items self.old.present) (views_of self.new.changes.taken self.new.lines.items self.new.present)) }
-        ensures filter { OnOk result (StaysOrFresh self.old.changes.taken self.old.present self.new.changes.taken self.new.present) }
+        ensures filter { OnOk result (StaysOrFresh self.old.lines.items self.old.present self.new.lines.items self.new.present) }
         ensures fault { IfErr result (FailsAmong self.old.desk (downs_from id 0 downs.now) self.new.desk) }
         ensures seats { OnOk result ((self.new.seats ≡ self.old.seats) ⊎ (vec_len self.new.seats ≡ self.old.desk.count)) }
         ensures rest { (self.new.rounds ≡ self.old.rounds) × (self.new.me ≡ self.old.me) × (self.new.desk.count ≡ self.old.desk.count) }
         ensures all { OnOk result (had_seats self.old.desk self.new.desk ≡ true → self.new.desk.seats ≡ false → vec_len self.new.seats ≡ self.old.desk.count) }
-        ensures notes { KeepsNotes self.old.notes.waiting.items self.new.notes.waiting.items }
+        ensures notes { AddsRemovals self.old.notes.waiting.items self.new.notes.waiting.items }
+        ensures says { OnOk result (AllInTurn (SaysAt P.has_posted self.old.me) (stands self.old.desk self.old.lines.items self.old.present self.old.post) (downs_from id 0 downs.now) (stands self.new.desk self.new.lines.items self.new.present self.new.post)) }
+        ensures unsaid { OnErr result (OneFails (SaysAt P.has_posted self.old.me) (SaysSome P.has_posted self.old.me) (stands self.old.desk self.old.lines.items self.old.present self.old.post) (downs_from id 0 downs.now) (stands self.new.desk self.new.lines.items self.new.present self.new.post)) }
+        ensures asked { OnOk result (AsksOrNone self.old.lines.items self.old.asking self.new.lines.items self.new.asking) }
     {
         for ring in 0..MOST_RINGS {
             self.hand_edge(id, ring as u8, downs[ring])?;
@@ -705,13 +757,15 @@ impl<R: Wait + Copy + Drop, P: Post + Drop> Service<R, P> {
         down: Option<Process>,
     ) -> Result<(), RunningFault>
         ensures steps { OnOk result (StepsAll self.old.desk (down_on id ring down) self.new.desk) }
-        ensures views { OnOk result (EntersOne (views_of self.old.changes.taken self.old.lines.items self.old.present) (views_of self.new.changes.taken self.new.lines.items self.new.present)) }
-        ensures filter { OnOk result (StaysOrFresh self.old.changes.taken self.old.present self.new.changes.taken self.new.present) }
+        ensures filter { OnOk result (StaysOrFresh self.old.lines.items self.old.present self.new.lines.items self.new.present) }
         ensures fault { IfErr result (FailsAmong self.old.desk (down_on id ring down) self.new.desk) }
         ensures seats { OnOk result ((self.new.seats ≡ self.old.seats) ⊎ (vec_len self.new.seats ≡ self.old.desk.count)) }
         ensures rest { (self.new.rounds ≡ self.old.rounds) × (self.new.me ≡ self.old.me) × (self.new.desk.count ≡ self.old.desk.count) }
         ensures all { OnOk result (had_seats self.old.desk self.new.desk ≡ true → self.new.desk.seats ≡ false → vec_len self.new.seats ≡ self.old.desk.count) }
-        ensures notes { KeepsNotes self.old.notes.waiting.items self.new.notes.waiting.items }
+        ensures notes { AddsRemovals self.old.notes.waiting.items self.new.notes.waiting.items }
+        ensures says { OnOk result (AllInTurn (SaysAt P.has_posted self.old.me) (stands self.old.desk self.old.lines.items self.old.present self.old.post) (down_on id ring down) (stands self.new.desk self.new.lines.items self.new.present self.new.post)) }
+        ensures unsaid { OnErr result (OneFails (SaysAt P.has_posted self.old.me) (SaysSome P.has_posted self.old.me) (stands self.old.desk self.old.lines.items self.old.present self.old.post) (down_on id ring down) (stands self.new.desk self.new.lines.items self.new.present self.new.post)) }
+        ensures asked { OnOk result (AsksOrNone self.old.lines.items self.old.asking self.new.lines.items self.new.asking) }
     {
         match down {
             Some(subject) => self.step(Event::EdgeDown(id, ring, subject)),

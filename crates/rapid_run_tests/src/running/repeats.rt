@@ -167,6 +167,12 @@ struct Count {
 }
 
 impl Post for Count {
+    ghost has_posted = { λ _ _ _. Unit {0} };
+
+    ghost idle = { λ _. tt };
+
+    ghost later = { λ _ _ _ _ _ _ _. tt };
+
     fn post<W: Wait>(&mut self, _rt: &W, _to: Endpoint, _frame: Bytes) {
         self.frames = self.frames.saturating_add(1);
     }

@@ -23,6 +23,12 @@ fn process(number: u8) -> Process {
 struct Nowhere;
 
 impl Post for Nowhere {
+    ghost has_posted = { λ _ _ _. Unit {0} };
+
+    ghost idle = { λ _. tt };
+
+    ghost later = { λ _ _ _ _ _ _ _. tt };
+
     fn post<W: Wait>(&mut self, _rt: &W, _to: Endpoint, _frame: Bytes) {}
 }
 

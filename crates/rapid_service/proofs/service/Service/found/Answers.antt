@@ -15,7 +15,3 @@ returns-then-not-is_member-clause-fault g c =
     let told = c.is_member.ensures in
     let not = c.if-not-is_member.true in
     absurd (cc)
-
--- What entering a view keeps.
-pub invariant_of-service : goal.invariant_of-service
-invariant_of-service g c = record { mine = c.enter.new.self.mine }
