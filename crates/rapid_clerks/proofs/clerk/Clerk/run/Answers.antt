@@ -1,11 +1,11 @@
-use Rattle.std.proofs.Common.{◌≡◌, ◌+◌, take, subst, rules}
+use Rattle.std.proofs.Common.{◌≡◌, ℕ, ◌+◌, take, subst, rules, arith}
 use Rattle.std.proofs.lemmas.List.Elements.{All-more}
 use Rattle.rapid_clerks.specs.Jobs.{HandedIn, no_job}
-use Rattle.rapid_clerks.proofs.Handing.{handed_next}
+use Rattle.rapid_clerks.proofs.Handing.{handed_next, one_more}
 use Rattle.rapid_clerks.proofs.clerk.Clerk.run.Goals as goal
 
 pub loop-job-init : goal.loop-job-init
-loop-job-init g c = (search rules, search rules, search rules, search rules, search rules, search rules, search rules, no_job)
+loop-job-init g c = (search rules, search rules, search rules, search rules, search rules, search rules, search rules, no_job, λ turn some few. absurd (omega arith))
 
 pub loop-job-preserved : goal.loop-job-preserved
 loop-job-preserved g c =
@@ -17,6 +17,11 @@ loop-job-preserved g c =
     let before = c.loop-job.self.share.amount in
     let after = c.do_job-answer.new.share.amount in
     let from = c.args.self.now.share.amount in
+    let worker = c.args.self.now.worker in
+    let through = λ (w t : ℕ). g.G.Gate.has_let_in w t × g.G.Gate.was_told w t in
+    let here =
+    subst (λ w. through w (n + 1)) i.4
+    (subst (λ t. through c.loop-job.self.worker (t + 1)) i.0 (c.enter.ensures.open c.if-not-enter.false, c.left.ensures)) in
     let same : after ≡ c.match-judge.self.share.amount = search rules in (
       search rules,
       search rules,
@@ -27,4 +32,5 @@ loop-job-preserved g c =
       All-more g.B.DoJob.answered jobs n job c.loop-job-test.true i.6 (subst g.B.DoJob.answered c.job-item.is answer.answered),
       subst (λ a. HandedIn g.B.DoJob.handed from (take (n + 1) jobs) a) same
           (handed_next g.B.DoJob.handed from before after jobs n job c.loop-job-test.true i.7 (subst (λ j. g.B.DoJob.handed before j after) c.job-item.is answer.handed)),
+      one_more (through worker) n i.8 here,
     )
