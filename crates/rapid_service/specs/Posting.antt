@@ -54,8 +54,8 @@ pub record Standing (P : Type 0) : Type 0 where
 abbrev pub stands : {P : Type 0} → DeskValue → Text → Option Present → P → Standing P
 stands desk lines present post = record { desk = desk.state; views = views_of lines present; post = post }
 
--- The desk made a step with this event. Just the frames of what its node says then were posted, by the view before. What
--- the node installed, if anything, is the view that was entered.
+-- The desk made a step with this event. Just the frames of what its node says then were posted, by the view before.
+-- What the node installed, if anything, is the view that was entered.
 pub record SaysAt {P : Type 0} (has_posted : P → List Posting → P → Type 0) (me : Process) (old : Standing P) (event : Event) (new : Standing P) : Type 0 where
   pub sent : List Output
   pub stepped : HasStepped old.desk event new.desk sent
