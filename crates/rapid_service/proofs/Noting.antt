@@ -1,5 +1,5 @@
 -- How the notes of a service go on.
-use Rattle.std.proofs.Common.{◌≡◌, ◌⊎◌, ◌+◌, ◌^◌, ◌<◌, Bool, true, false, if◌then◌else◌, Result, Ok, Err, OnOk, OnErr, List, [], ◌∷◌, ◌++◌, append-nil, append_assoc, length, map, Option, None, Some, inl, inr, refl, ap, sym, subst, ◌∙◌, arith}
+use Rattle.std.proofs.Common.{◌≡◌, ◌⊎◌, ◌+◌, ◌^◌, ◌<◌, Bool, true, false, if◌then◌else◌, Result, Ok, Err, OnOk, OnErr, List, [], ◌∷◌, ◌++◌, append-nil, append_assoc, length, map, Option, None, Some, inl, inr, ap, sym, subst, ◌∙◌, arith}
 use Rattle.std.proofs.lemmas.List.{length-append, map-append}
 use Rattle.rapid_model.specs.Bytes.{Text}
 use Rattle.rapid_model.specs.Configuration.{Configuration}
@@ -12,8 +12,7 @@ use Rattle.rapid_lines.specs.declared.note.Note.TheVariants as note
 use Rattle.rapid_service.specs.declared.present.Present.{Present}
 use Rattle.rapid_service.specs.Entering.{Views, after_entering}
 use Rattle.rapid_service.specs.Filters.{TickedIn}
-use Rattle.rapid_service.specs.Noting.{NotesRemoval, AddsRemovals, NotesQuestion, AsksOrNone, Answered, asking_after}
-use Rattle.rapid_service.specs.declared.received.Received.TheVariants as fate
+use Rattle.rapid_service.specs.Noting.{NotesRemoval, AddsRemovals, NotesQuestion, AsksOrNone, asking_after}
 
 -- Who adds none keeps them.
 pub adds_same : (old new : List Note) → new ≡ old → AddsRemovals old new
@@ -73,12 +72,3 @@ asks_more lines mid more old between new (inl same) (inl next) = inl (next.0 ∙
 asks_more lines mid more old between new (inl same) (inr none) = inr (omega (arith, ap length same.0, none.0), none.1)
 asks_more lines mid more old between new (inr none) (inl next) = inr (omega (arith, ap length next.0, none.0), next.1 ∙ none.1)
 asks_more lines mid more old between new (inr first) (inr none) = inr (omega (arith, first.0, none.0), none.1)
-
--- No answer was heard.
-pub answered_same : (asking : Option Asking) → Answered asking asking
-answered_same None = refl
-answered_same (Some a) = (refl, refl)
-
--- A message that is dropped is not taken.
-pub not_both : fate.Dropped ≡ fate.Taken → ⊥
-not_both e = cc

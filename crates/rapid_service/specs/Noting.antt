@@ -1,10 +1,14 @@
 -- Clauses of public calls cite this file.
 -- The notes that wait in a service to be reported.
-use Rattle.std.specs.Prelude.{◌≡◌, ◌⊎◌, ℕ, ◌+◌, ◌^◌, ◌<◌, List, [], ◌∷◌, ◌++◌, length, map, Option, None, Some, IsSomeAnd}
+use Rattle.std.specs.Prelude.{◌≡◌, ◌⊎◌, ℕ, ◌+◌, ◌^◌, ◌<◌, List, [], ◌∷◌, ◌++◌, length, map, if◌then◌else◌, Option, None, Some, IsSomeAnd}
 use Rattle.rapid_model.specs.Bytes.{Text}
 use Rattle.rapid_model.specs.Configuration.{Configuration}
+use Rattle.rapid_model.specs.Message as model
+use Rattle.rapid_model.specs.Process.{Process, same_bytes}
 use Rattle.rapid_lines.specs.Asking.{note_at, answer_at}
 use Rattle.rapid_lines.specs.declared.asking.Asking.{Asking}
+use Rattle.rapid_lines.specs.declared.note.Answer.{Answer}
+use Rattle.rapid_lines.specs.declared.note.Answer.TheVariants.{Safe, InUse, Changed, TooMany}
 use Rattle.rapid_node.specs.declared.phase.Phase.{Phase}
 use Rattle.rapid_node.specs.declared.phase.Phase.TheVariants as phase
 use Rattle.rapid_lines.specs.declared.note.Note.{Note}
@@ -36,10 +40,22 @@ abbrev pub AskedOnce : Option Asking → Option Asking → Type 0
 AskedOnce None new = new ≡ None
 AskedOnce (Some a) new = IsSomeAnd new (λ b. (b.seed ≡ a.seed) × (a.ticks + 1 < 2 ^ 64 → (b.ticks ≡ a.ticks + 1) × (b.answer ≡ answer_at (a.ticks + 1) a.answer)))
 
--- At most another answer was heard.
-abbrev pub Answered : Option Asking → Option Asking → Type 0
-Answered None new = new ≡ None
-Answered (Some a) new = IsSomeAnd new (λ b. (b.seed ≡ a.seed) × (b.ticks ≡ a.ticks))
+-- What a host's answer is called.
+abbrev pub answered_by : model.Answer → Answer
+answered_by (model.Safe id os) = Safe
+answered_by model.EndpointInUse = InUse
+answered_by model.ConfigurationChanged = Changed
+answered_by model.TooManyJoiners = TooMany
+
+-- The answer to the last question of a process, once it heard this: a reply to it is the answer, and all else is none.
+abbrev pub answer_behind : Process → model.Body → Answer → Answer
+answer_behind me (model.Reply joiner answer) last = if same_bytes joiner me then answered_by answer else last
+answer_behind me body last = last
+
+-- The questions of a process, once it heard a message.
+abbrev pub heard : Process → model.Message → Option Asking → Option Asking
+heard me message None = None
+heard me message (Some a) = Some (record a { answer = answer_behind me message.body a.answer })
 
 -- No line was added, and the questions stay. Or a view was entered, whose line was added, and none is asked any more.
 abbrev pub AsksOrNone : Text → Option Asking → Text → Option Asking → Type 0

@@ -21,7 +21,7 @@ ghost use Rattle.rapid_signals.specs.declared.fault.RunningFault.TheVariants.{Ou
 ghost use Rattle.rapid_service.specs.Entering.{after_entering, installed_by, shown_since, view_in, views_of};
 ghost use Rattle.rapid_service.specs.Filters.{IsFresh, StaysOrFresh, TickedOrFresh, HeardOrFresh, TickedIn, HeardIn, filter_of};
 ghost use Rattle.rapid_service.specs.HandingOn.{down_on, downs_from};
-ghost use Rattle.rapid_service.specs.Noting.{NotesRemoval, AddsRemovals, NotesQuestion, AskedOnce, Answered, AsksOrNone, asking_after};
+ghost use Rattle.rapid_service.specs.Noting.{NotesRemoval, AddsRemovals, NotesQuestion, AskedOnce, AsksOrNone, asking_after, heard};
 ghost use Rattle.rapid_lines.specs.declared.asking.Asking.{Asking};
 ghost use Rattle.rapid_lines.specs.declared.note.Note.{Note};
 ghost use Rattle.rapid_service.specs.Posting.{postings, to_each, all_but, present_in, stands, PostsSome, SaysAt, SaysSome, SaysAll, SaysFirst};
@@ -40,7 +40,6 @@ use bytes::Bytes;
 use rapid_config::{ConfigId, Configuration, Params};
 use rapid_desk::{Desk, DeskError, Subscription};
 use rapid_endpoint::{Endpoint, Process};
-use rapid_join::Reply;
 use rapid_lines::{Asking, Note, Notes, write_view};
 use rapid_message::{Body, Destination, Message, Output, Outputs};
 use rapid_node::{Event, Phase};
@@ -342,16 +341,15 @@ impl<R: Wait + Copy + Drop, P: Post + Drop> Service<R, P> {
         ensures all { IfOk result (λ received. received ≡ fate.Taken → had_seats self.old.desk self.new.desk ≡ true → self.new.desk.seats ≡ false → vec_len self.new.seats ≡ self.old.desk.count) }
         ensures rest { (self.new.rounds ≡ self.old.rounds) × (self.new.me ≡ self.old.me) × (self.new.desk.count ≡ self.old.desk.count) }
         ensures kept { had_seats self.old.desk self.new.desk ≡ false → self.new.seats ≡ self.old.seats }
-        ensures failed { OnErr result (HeardIn true message self.old.present self.new.present × Answered self.old.asking self.new.asking × (self.new.seats ≡ self.old.seats)) }
+        ensures failed { OnErr result (HeardIn true message self.old.present self.new.present × (self.new.asking ≡ heard self.old.me message self.old.asking) × (self.new.seats ≡ self.old.seats)) }
         ensures notes { NotesRemoval (name_of self.new.desk.state.node.phase) self.new.present self.old.notes.waiting.items self.new.notes.waiting.items }
         ensures says { IfOk result (λ received. received ≡ fate.Taken → SaysAt P.has_posted self.old.me (stands self.old.desk self.old.lines.items self.old.present self.old.post) (model.Receive message) (stands self.new.desk self.new.lines.items self.new.present self.new.post)) }
         ensures unsaid { OnErr result (SaysSome P.has_posted self.old.me (stands self.old.desk self.old.lines.items self.old.present self.old.post) (model.Receive message) (stands self.new.desk self.new.lines.items self.new.present self.new.post)) }
         ensures silent { IfOk result (λ received. received ≡ fate.Dropped → self.new.post ≡ self.old.post) }
-        ensures asked { IfOk result (λ received. (between : Option Asking) × Answered self.old.asking between × (received ≡ fate.Dropped → self.new.asking ≡ between) × (received ≡ fate.Taken → self.new.asking ≡ asking_after (installed_by self.old.desk.state.node self.new.desk.state.node) between)) }
+        ensures asked { IfOk result (λ received. received ≡ fate.Taken → self.new.asking ≡ asking_after (installed_by self.old.desk.state.node self.new.desk.state.node) (heard self.old.me message self.old.asking)) }
+        ensures told { IfOk result (λ received. received ≡ fate.Dropped → self.new.asking ≡ heard self.old.me message self.old.asking) }
     {
-        if let Body::Reply(joiner, reply) = message.body() {
-            self.hear(joiner, reply);
-        }
+        self.hear(&message);
         if !self.admits(&message) {
             return Ok(Received::Dropped);
         }
@@ -430,17 +428,18 @@ impl<R: Wait + Copy + Drop, P: Post + Drop> Service<R, P> {
         }
     }
 
-    /// A host has replied to a joiner.
-    fn hear(&mut self, joiner: &Process, reply: &Reply)
+    /// A message has come. If it is a reply to this process, it is the answer to its last question.
+    fn hear(&mut self, message: &Message)
         ensures present { self.new.present ≡ self.old.present }
         ensures desk { self.new.desk ≡ self.old.desk }
         ensures views { views_of self.new.lines.items self.new.present ≡ views_of self.old.lines.items self.old.present }
         ensures rest { (self.new.rounds ≡ self.old.rounds) × (self.new.me ≡ self.old.me) × (self.new.seats ≡ self.old.seats) }
         ensures notes { self.new.notes.waiting.items ≡ self.old.notes.waiting.items }
         ensures post { self.new.post ≡ self.old.post }
-        ensures answered { Answered self.old.asking self.new.asking }
+        ensures heard { self.new.asking ≡ heard self.old.me message.now self.old.asking }
     {
         if let Some(asking) = &mut self.asking
+            && let Body::Reply(joiner, reply) = message.body()
             && *joiner == self.me
         {
             asking.hear(reply);

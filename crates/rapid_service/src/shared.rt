@@ -5,6 +5,7 @@ ghost use Rattle.rapid_model.specs.Limits.{most_notes, most_probers, most_waitin
 ghost use Rattle.rapid_desk.specs.Desks.{NotSubscribed};
 ghost use Rattle.rapid_lines.specs.EdgeText.{edges_text};
 ghost use Rattle.rapid_rounds.specs.declared.edge_state.EdgeState.{EdgeState};
+ghost use Rattle.rapid_signals.specs.declared.fault.RunningFault.TheVariants.{OutOfMemory};
 
 use crate::post::Post;
 use crate::service::Service;
@@ -240,7 +241,8 @@ impl<R: Wait + Copy + Drop, P: Post + Drop> Shared<R, P> {
 
     /// Writes the lines of the observed edges: those of one view, each up or down as it is now.
     pub fn write_edges<W: Wait>(&self, rt: &W, output: &mut Vec<u8>) -> Result<(), RunningFault>
-        ensures { OnOk result ((edges : List EdgeState) × (output.new.items ≡ output.old.items ++ edges_text edges)) }
+        ensures lines { OnOk result ((edges : List EdgeState) × (output.new.items ≡ output.old.items ++ edges_text edges)) }
+        ensures fault { IfErr result (λ e. e ≡ OutOfMemory) }
     {
         let mut service = self.service.lock(rt);
         let edges = service.edges()?;
