@@ -1,6 +1,5 @@
 pub mod Pieces
 pub mod Batches
-pub mod Bodies
 pub mod Frames
 pub mod Joined
 pub mod Readers

@@ -1,9 +1,9 @@
 -- How bytes that were joined are taken apart again.
 use Rattle.std.proofs.Common.{◌≡◌, ℕ, ◌*◌, ◌^◌, ◌<◌, List, [], ◌∷◌, ◌++◌, length, refl, sym, ap, ◌∙◌, arith, length-append}
-use Rattle.std.specs.Prelude.{All, map}
+use Rattle.std.specs.Prelude.{All}
 use Rattle.std.specs.List.{concat}
-use Rattle.std.specs.Int.{w16, w32, to_be_bytes, from_be_bytes}
-use Rattle.std.proofs.lemmas.Nat.{from_be_bytes-to_be_bytes_2, from_be_bytes-to_be_bytes_4}
+use Rattle.std.specs.Int.{w32, to_be_bytes, from_be_bytes}
+use Rattle.std.proofs.lemmas.Nat.{from_be_bytes-to_be_bytes_4}
 use Rattle.std.proofs.lemmas.List.Elements.{All-head, All-tail}
 
 -- the first of a list that is not empty
@@ -23,9 +23,6 @@ split (x ∷ xs) (y ∷ ys) us vs l e =
     let h = head_same x y (xs ++ us) (ys ++ vs) e in
     ((let f = r.0 in cc), r.1)
 
-pub same_16 : (m n : ℕ) → m < 2 ^ 16 → n < 2 ^ 16 → to_be_bytes w16 m ≡ to_be_bytes w16 n → m ≡ n
-same_16 m n h k e = sym (from_be_bytes-to_be_bytes_2 m h) ∙ ap (from_be_bytes w16) e ∙ from_be_bytes-to_be_bytes_2 n k
-
 pub same_32 : (m n : ℕ) → m < 2 ^ 32 → n < 2 ^ 32 → to_be_bytes w32 m ≡ to_be_bytes w32 n → m ≡ n
 same_32 m n h k e = sym (from_be_bytes-to_be_bytes_4 m h) ∙ ap (from_be_bytes w32) e ∙ from_be_bytes-to_be_bytes_4 n k
 
@@ -36,23 +33,3 @@ length-concat n (p ∷ ps) h =
     let first = All-head (λ p. length p ≡ n) p ps h in
     let rest = length-concat n ps (All-tail (λ p. length p ≡ n) p ps h) in
     length-append p (concat ps) ∙ grind (arith, first, rest)
-
-pub same_concat : (n : ℕ) (ps qs : List (List ℕ)) → All (λ p. length p ≡ n) ps → All (λ p. length p ≡ n) qs → length ps ≡ length qs → concat ps ≡ concat qs → ps ≡ qs
-same_concat n [] [] h k l e = refl
-same_concat n [] (q ∷ qs) h k l e = absurd (omega (arith, l))
-same_concat n (p ∷ ps) [] h k l e = absurd (omega (arith, l))
-same_concat n (p ∷ ps) (q ∷ qs) h k l e =
-    let first = split p q (concat ps) (concat qs) (All-head (λ p. length p ≡ n) p ps h ∙ sym (All-head (λ p. length p ≡ n) q qs k)) e in
-    let rest = same_concat n ps qs (All-tail (λ p. length p ≡ n) p ps h) (All-tail (λ p. length p ≡ n) q qs k) (omega (arith, l)) first.1 in
-    (let f = first.0 in cc)
-
--- a map by an injective function
-pub same_map : {A : Type 0} (f : A → List ℕ) (P : A → Type 0) → ((x y : A) → P x → P y → f x ≡ f y → x ≡ y) → (xs ys : List A) → All P xs → All P ys → map f xs ≡ map f ys → xs ≡ ys
-same_map f P inj [] [] h k e = refl
-same_map f P inj [] (y ∷ ys) h k e = cc
-same_map f P inj (x ∷ xs) [] h k e = cc
-same_map f P inj (x ∷ xs) (y ∷ ys) h k e =
-    let heads : f x ≡ f y = (let g = e in cc) in
-    let first = inj x y (All-head P x xs h) (All-head P y ys k) heads in
-    let rest = same_map f P inj xs ys (All-tail P x xs h) (All-tail P y ys k) (cc) in
-    cc

@@ -1,18 +1,42 @@
 -- How long the parts of frames are.
-use Rattle.std.proofs.Common.{◌≡◌, ℕ, ◌+◌, ◌*◌, List, [], ◌∷◌, ◌++◌, length, refl, sym, ap, ◌∙◌, arith, length-append}
-use Rattle.std.specs.Prelude.{map, Option, Some, None}
+use Rattle.std.proofs.Common.{◌≡◌, ℕ, ◌+◌, ◌*◌, List, [], ◌∷◌, ◌++◌, length, refl, arith, length-append}
+use Rattle.std.specs.Prelude.{All, map, Some}
 use Rattle.std.specs.List.{concat}
-use Rattle.std.specs.Int.{w16, w32, to_be_bytes}
+use Rattle.std.specs.Int.{w16, w32, w64, to_be_bytes}
 use Rattle.std.proofs.lemmas.List.{length-map}
 use Rattle.std.proofs.lemmas.List.Elements.{All-weaker, All-map}
 use Rattle.rapid_model.specs.Process.{Process, IsProcess}
 use Rattle.rapid_model.specs.Cut.{Cut, IsCut, cut_bytes}
-use Rattle.rapid_model.specs.Configuration.{Configuration, IsConfiguration, configuration_bytes}
-use Rattle.rapid_model.specs.Ballot.{Ballot, Vote}
+use Rattle.rapid_model.specs.Configuration.{Configuration, IsConfiguration, magic, configuration_bytes}
+use Rattle.rapid_model.specs.Ballot.{Ballot}
 use Rattle.rapid_model.specs.Message.{AlertItem, Safe, Batch, Message}
-use Rattle.rapid_model.specs.Frame.{IsId, IsItem, IsBatch, IsAnswer, IsBody, IsMessage, ballot_bytes, item_bytes, report_bytes, answer_bytes, kind_number, body_bytes, version, payload, frame}
+use Rattle.rapid_model.specs.Frame.{IsId, IsItem, IsAnswer, IsBody, IsMessage, ballot_bytes, item_bytes, report_bytes, answer_bytes, kind_number, body_bytes, version, payload, frame}
 use Rattle.rapid_wire.proofs.Pieces.{length-concat}
-use Rattle.rapid_wire.proofs.Bodies.{sizes, item_size, front, front_size}
+
+-- the lengths of processes
+pub sizes : (ps : List Process) → All IsProcess ps → All (λ p. length p ≡ 22) ps
+sizes ps h = All-weaker IsProcess (λ p. length p ≡ 22) (λ p k. k.length) ps h
+
+pub item_size : (x : AlertItem) → IsItem x → length (item_bytes x) ≡ 24
+item_size x h = let s = h.subject.length in omega (arith, s)
+
+-- the parts of a configuration's bytes in front of the members
+abbrev pub prefix : Configuration → List ℕ
+prefix c = magic ++ c.previous
+
+abbrev pub front : Configuration → List ℕ
+front c = prefix c ++ to_be_bytes w64 c.height ++ (c.params.k ∷ c.params.h ∷ c.params.l ∷ [])
+
+pub front_size : (c : Configuration) → IsConfiguration c → length (front c) ≡ 47
+front_size c h =
+    let p = h.previous.0 in
+    let one = length-append (prefix c ++ to_be_bytes w64 c.height) (c.params.k ∷ c.params.h ∷ c.params.l ∷ []) in
+    let two = length-append (prefix c) (to_be_bytes w64 c.height) in
+    let three = length-append magic c.previous in
+    let last : length (c.params.k ∷ c.params.h ∷ c.params.l ∷ []) ≡ 3 = refl in
+    let height : length (to_be_bytes w64 c.height) ≡ 8 = refl in
+    let first : length magic ≡ 4 = refl in
+    omega (arith, p, one, two, three, last, height, first)
 
 pub cut_length_is : (v : Cut) → IsCut v → length (cut_bytes v) ≡ 2 + 22 * length v
 cut_length_is v h =
