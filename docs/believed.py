@@ -9,7 +9,8 @@ A proof shows that code meets its clauses, and not that a clause says what one t
 definition has to be read if a clause of a public call names it, or if such a definition does. The
 public calls are those of docs/SURFACE.md. What is found errs on the side of too much: a name that
 a clause binds itself counts too if it is also a definition's. Promises that docs/PROMISES.md carries by
-private functions rest on what the clauses of their files name: these files are listed here.
+private functions, or by the rule of a board, rest on what the clauses and the rule in their files name:
+these files are listed here.
 """
 import re
 import sys
@@ -23,11 +24,14 @@ import surface  # noqa: E402
 PAGE = TOP / "docs/BELIEVED.md"
 MODEL = "rapid_model"
 MARK = "-- Clauses of public calls cite this file."
-# the files whose private functions carry promises (*within* in docs/PROMISES.md)
+# the files whose private functions (*within* in docs/PROMISES.md) or whose rule carry promises
 WITHIN = [
+    "rapid_agent/src/agent.rt",
     "rapid_clerks/src/verdict.rt",
     "rapid_cluster/src/cluster.rt",
     "rapid_desk/src/board.rt",
+    "rapid_desk/src/journal.rt",
+    "rapid_monitor/src/board_rule.rt",
     *(f"rapid_service/src/{name}.rt" for name in ("journal", "service", "ticker")),
     *(f"rapid_signals/src/{name}.rt" for name in ("bell", "console", "dealer", "ending")),
     "rapid_threads/src/until.rt",
@@ -40,6 +44,9 @@ WITHIN = [
 SAID_BY_IMPLS = {"Value", "eq", "cmp", "partial_cmp", "is_clone", "from_gives", "output"}
 # and what traits of this repository have it say
 SAID_BY_IMPLS |= {"observers", "prints", "met", "next", "faults"}
+# what a type always holds, and what a rule of words that threads share says: of the words, of a step on them, and of
+# what seats know
+ALWAYS = re.compile(r"    ghost (?:\w+:|(?:invariant|holds|first|then|left|right|both|spent) =) \{")
 TOKEN = re.compile(r"[^\s(){}\[\],;]+")
 
 HEAD = """# What a reader has to believe
@@ -49,10 +56,10 @@ Written by `docs/believed.py` from the sources; `docs/believed.py --check` says 
 This page is for those who want to know what the promises rest on. A proof shows that the code meets its clauses. \
 That the clauses say the right thing is for a reader to see. Here are all definitions of this repository that a clause \
 of a public call reaches. The clause names them, or a definition does that it names. \
-[The last part](#beyond-public-calls) has those that only clauses of private functions reach, by which \
-[PROMISES.md](PROMISES.md) carries a promise (*within*). What stands in `specs/` and not here is glue. It ties code to \
-code, and a mistake in it makes a proof fail and no such promise false. The definitions of the toolchain's own \
-libraries (lists, numbers, sets, SHA-256) come on top.
+[The last part](#beyond-public-calls) has those that only clauses of private functions reach, or the rule of a board, \
+by which [PROMISES.md](PROMISES.md) carries a promise (*within*, *the rule of the board*). What stands in `specs/` \
+and not here is glue. It ties code to code, and a mistake in it makes a proof fail and no such promise false. The \
+definitions of the toolchain's own libraries (lists, numbers, sets, SHA-256) come on top.
 
 Definitions are not all that one has to trust. There is also what [README.md](../README.md#what-is-not-proved) names as \
 what it rests on. And there are premises. Those of the agreement stand with \
@@ -232,10 +239,10 @@ def cited(crate):
 
 
 def named_in(file):
-    """The definitions that clauses in a file name, and what its types always hold: modules and names."""
+    """The definitions that clauses in a file name, what its types always hold, and its rule: modules and names."""
     lines = file.read_text().split("\n")
     names, modules = imports([line.strip()[6:] for line in lines if line.strip().startswith("ghost use ")])
-    always = [line.partition("{")[2] for line in lines if re.match(r"    ghost (\w+:|invariant =) \{", line)]
+    always = [line.partition("{")[2] for line in lines if ALWAYS.match(line)]
     text = " ".join([clauses(block, of_all=True) for block in blocks(lines)] + always)
     for parts in (token.split(".") for token in TOKEN.findall(text)):
         if parts[0] in names:
@@ -276,9 +283,10 @@ def written(names):
 
 
 def beyond(specs, found):
-    """The last part of the page: what only clauses of private functions reach."""
+    """The last part of the page: what only clauses of private functions, and a rule, reach."""
     more = reached(specs, [named for file in WITHIN for named in named_in(TOP / "crates" / file)])
-    said = "Clauses of public calls do not reach these. Those of private functions do, by which a promise is carried."
+    said = "Clauses of public calls do not reach these. Those of private functions do, or the rule of a board, "
+    said += "by which a promise is carried."
     rows = []
     for module in (m for m in specs if m in more):
         names = [n for n in specs[module].definitions if n in more[module] and n not in found.get(module, set())]
