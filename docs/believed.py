@@ -37,6 +37,7 @@ WITHIN = [
     "rapid_threads/src/until.rt",
     "rapid_transport/src/connections.rt",
     "rapid_transport/src/readers.rt",
+    "rapid_view/src/cell_rule.rt",
     "leader_by_height/src/fence.rt",
     "leader_by_height/src/main.rt",
 ]
