@@ -1,13 +1,13 @@
-//! An application that keeps a sharded map: each key belongs to one member of the current view. It
-//! subscribes to the views of a desk, deals the keys anew at each change, and prints which member
-//! owns which key. Here the desk is that of process 1 alone. It gets decisions that let two guests
-//! in and then take the first of them out.
+//! An application that keeps a sharded map: each key belongs to one of those members of the current
+//! view that have the tag `store`. If none has it, a key belongs to nobody. The program subscribes
+//! to the views of a desk, deals the keys anew at each change, and prints which member owns which
+//! key. Here the desk is that of process 1 alone, which has another tag. It gets decisions that let
+//! three guests in, two of them with the tag, and then take the first of them out.
 #![tactic(auto)]
 
-ghost use Rattle.std.specs.Prelude.{◌≡◌, true, All, IfSome, IfOk, OnOk};
-ghost use Rattle.std.specs.List.{Contains};
-ghost use Rattle.rapid_model.specs.Configuration.{is_member};
+mod stores;
 
+use crate::stores::{STORE, deal};
 use anyhow::{Context, Result, bail};
 use rapid_config::{ConfigId, Configuration, Cut, Params};
 use rapid_desk::{Desk, Subscription, Taken};
@@ -15,7 +15,8 @@ use rapid_endpoint::{Endpoint, Process, ProcessId};
 use rapid_message::{Body, Message};
 use rapid_node::Event;
 use rapid_view::{View, ViewSeat};
-use std::alloc::{AllocError, Global};
+use std::alloc::Global;
+use std::str::from_utf8;
 use std::sync::Wait;
 
 /// The keys of the map.
@@ -24,75 +25,51 @@ const KEYS: [&str; 8] = [
 ];
 
 /// Whom the decisions let in or take out, in turn.
-const CHANGES: [u16; 3] = [2, 3, 2];
+const CHANGES: [u16; 4] = [2, 3, 4, 2];
 
-/// The hash goes on over these bytes (FNV-1a, 64 bits).
-fn hash(before: u64, bytes: &[u8]) -> u64 {
-    let mut hash = before;
-    for byte in bytes {
-        hash = (hash ^ u64::from(*byte)).wrapping_mul(0x0100_0000_01b3);
+/// Prints the height of a view and its members.
+fn print_view<R: Print>(rt: &R, configuration: &Configuration) -> Result<()> {
+    print!(rt; "height {} members", configuration.height())?;
+    for member in configuration.members() {
+        print_member(rt, member)?;
     }
-    hash
+    println!(rt; "")?;
+    Ok(())
 }
 
-/// How much a key weighs at a member.
-fn weight(member: &Process, key: &str) -> u64 {
-    hash(
-        hash(0xcbf2_9ce4_8422_2325, &member.key_bytes()),
-        key.as_bytes(),
-    )
+/// Prints a member: its port and its tags.
+fn print_member<R: Print>(rt: &R, member: &Process) -> Result<()> {
+    print!(rt; " {}", member.endpoint().port())?;
+    let mut before = '[';
+    for tag in member.tags().iter() {
+        print!(rt; "{before}{}", from_utf8(tag)?)?;
+        before = ',';
+    }
+    if !member.tags().is_empty() {
+        print!(rt; "]")?;
+    }
+    Ok(())
 }
 
-/// The member that owns a key: the one for which the key weighs most. So a change of the members
-/// moves no key between two that stay. None if there are no members.
-#[tactic(auto, using(crate::proofs::Members::in_at))]
-fn owner(configuration: &Configuration, key: &str) -> Option<Process>
-    ensures { IfSome result (λ owner. is_member configuration.now owner ≡ true) }
-{
-    let members = configuration.members();
-    let mut owner = *members.first()?;
-    for member in members {
-        if weight(member, key) > weight(&owner, key) {
-            owner = *member;
-        }
+/// Prints who owns each of the keys.
+fn print_owners<R: Print>(rt: &R, owners: &[Option<Process>]) -> Result<()> {
+    for (key, owner) in KEYS.iter().zip(owners) {
+        let Some(owner) = owner else {
+            // then no key has an owner
+            println!(rt; "  no owners: no member has the tag store")?;
+            return Ok(());
+        };
+        println!(rt; "  {key} {}", owner.endpoint().port())?;
     }
-    Some(owner)
+    Ok(())
 }
 
-/// Who owns each of the keys, in their order.
-#[derive(Drop)]
-struct ShardedMap {
-    owners: Vec<Process>,
-}
-
-impl ShardedMap {
-    /// The keys, dealt to the members of a view.
-    fn deal(alloc: Global, view: &View) -> Result<ShardedMap>
-        ensures { IfOk result (λ map. All (λ owner. is_member view.now owner ≡ true) map.owners.items) }
-    {
-        let mut owners = Vec::with_capacity(alloc, KEYS.len())?;
-        for key in KEYS {
-            let Some(owner) = owner(view.configuration(), key) else {
-                bail!("a view without members has no owners");
-            };
-            owners.push(owner)?;
-        }
-        Ok(ShardedMap { owners })
-    }
-
-    /// Prints the height of the view, its members, and who owns which key.
-    fn print<R: Print>(&self, rt: &R, view: &View) -> Result<()> {
-        let configuration = view.configuration();
-        print!(rt; "height {} members", configuration.height())?;
-        for member in configuration.members() {
-            print!(rt; " {}", member.endpoint().port())?;
-        }
-        println!(rt; "")?;
-        for (key, owner) in KEYS.iter().zip(&self.owners) {
-            println!(rt; "  {key} {}", owner.endpoint().port())?;
-        }
-        Ok(())
-    }
+/// Deals the keys to the members of a view, and prints these and who owns the keys.
+fn show<R: Print>(rt: &R, alloc: Global, view: &View) -> Result<()> {
+    let configuration = view.configuration();
+    let owners = deal(alloc, configuration, &KEYS)?;
+    print_view(rt, configuration)?;
+    print_owners(rt, owners.as_slice())
 }
 
 /// Takes the changes that are there, and deals the keys at each.
@@ -104,37 +81,45 @@ fn follow<R: Wait + Print>(
 ) -> Result<()> {
     for _ in rt.forever() {
         match changes.take(rt) {
-            Taken::Change(view) => ShardedMap::deal(alloc, &view)?.print(rt, &view)?,
+            Taken::Change(view) => show(rt, alloc, &view)?,
             Taken::Empty | Taken::Closed => return Ok(()),
             // changes were lost: the seat has the last view
-            Taken::Lagged => {
-                let view = seat.members(rt)?;
-                return ShardedMap::deal(alloc, &view)?.print(rt, &view);
-            }
+            Taken::Lagged => return show(rt, alloc, &seat.members(rt)?),
         }
     }
     unreachable!()
 }
 
+/// The tags of the process with this number.
+fn tags_of(number: u16) -> &'static [&'static [u8]] {
+    match number {
+        1 => &[b"web"],
+        2 => &[STORE],
+        3 => &[STORE, b"web"],
+        _ => &[],
+    }
+}
+
 /// The process with this number, at the port of this number.
-fn process(number: u16) -> Process {
+fn process(number: u16) -> Result<Process> {
     let [high, low] = number.to_be_bytes();
     let mut id = [0; 16];
     id[14] = high;
     id[15] = low;
-    Process::new(ProcessId::new(id), Endpoint::new([127, 0, 0, 1], number))
+    let endpoint = Endpoint::new([127, 0, 0, 1], number);
+    Ok(Process::tagged(ProcessId::new(id), endpoint, tags_of(number))?)
 }
 
 /// Another member says that a cut of this process was decided in the configuration.
 fn decision(alloc: Global, id: ConfigId, number: u16) -> Result<Event> {
-    let cut = Cut::new(Vec::from_array(alloc, [process(number)])?)?;
-    let message = Message::new(process(2), Body::Decision(id, cut))?;
+    let cut = Cut::new(Vec::from_array(alloc, [process(number)?])?)?;
+    let message = Message::new(process(2)?, Body::Decision(id, cut))?;
     Ok(Event::Receive(message))
 }
 
 /// The desk of a founder that is alone.
 fn open<R: Wait + Copy + Drop>(rt: R, alloc: Global) -> Result<Box<Desk<R>>> {
-    let me = process(1);
+    let me = process(1)?;
     let founding = Configuration::seed(alloc, Params::new(3, 3, 1)?, &[me])?;
     if !founding.is_member(&me) {
         bail!("the founder is no member");
@@ -161,17 +146,11 @@ fn decide<R: Wait + Copy + Drop>(
     Ok(())
 }
 
-/// Deals the keys to the members of the last view, and prints who owns them.
-fn show<R: Wait + Print>(rt: &R, alloc: Global, seat: &mut ViewSeat) -> Result<()> {
-    let view = seat.members(rt)?;
-    ShardedMap::deal(alloc, &view)?.print(rt, &view)
-}
-
 /// Follows a desk through the changes.
 fn run<R: Wait + Print + Copy + Drop>(rt: R, alloc: Global, desk: &mut Desk<R>) -> Result<()> {
     let mut changes = desk.subscribe(8)?;
     let mut seat = seat(desk)?;
-    show(&rt, alloc, &mut seat)?;
+    show(&rt, alloc, &seat.members(&rt)?)?;
     for number in CHANGES {
         let present = seat.stamp();
         decide(desk, alloc, present.id(), number)?;
