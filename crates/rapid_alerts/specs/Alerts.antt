@@ -10,6 +10,7 @@ use Rattle.rapid_model.specs.Message.{AlertItem, batch_alerts}
 use Rattle.rapid_alerts.specs.declared.alert.Kind.{Kind}
 use Rattle.rapid_alerts.specs.declared.alert.Kind.TheVariants.{Remove, Join}
 use Rattle.rapid_alerts.specs.declared.alert.Alert.{Alert}
+use Rattle.rapid_alerts.specs.declared.alert.AlertRef.{AlertRef}
 use Rattle.rapid_alerts.specs.declared.list.Item.{Item}
 use Rattle.rapid_alerts.specs.Kinds.{kind_code}
 
@@ -27,6 +28,17 @@ alert_of a =
       ring = a.ring;
       kind = kind_of a.kind;
       config = a.config;
+    }
+
+-- An alert whose parts stand elsewhere.
+abbrev pub alert_of_ref : AlertRef → model.Alert
+alert_of_ref a =
+    record {
+      observer = a.observer.now;
+      subject = a.subject.now;
+      ring = a.ring;
+      kind = kind_of a.kind;
+      config = a.config.now;
     }
 
 -- What alerts of one observer and one configuration say, in order.

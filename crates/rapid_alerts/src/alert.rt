@@ -26,3 +26,18 @@ pub struct Alert {
     /// The identifier of the configuration.
     pub config: ConfigId,
 }
+
+/// An alert whose processes and whose identifier of the configuration stand elsewhere.
+#[derive(Clone, Copy, Debug)]
+pub struct AlertRef<'a> {
+    /// Who raises it.
+    pub observer: &'a Process,
+    /// Whom it is on.
+    pub subject: &'a Process,
+    /// The ring on which the observer observes the subject, from 0.
+    pub ring: u8,
+    /// What it asks for.
+    pub kind: Kind,
+    /// The identifier of the configuration.
+    pub config: &'a ConfigId,
+}

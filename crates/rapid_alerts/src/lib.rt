@@ -12,7 +12,7 @@ mod mark;
 mod outbox;
 mod ring_mask;
 
-pub use alert::{Alert, Kind};
+pub use alert::{Alert, AlertRef, Kind};
 pub use batch::Batch;
 pub use errors::{BatchError, RaiseError};
 pub use list::AlertList;

@@ -3,10 +3,10 @@
 ghost use Rattle.std.specs.Prelude.{◌≡◌, ◌<◌, ◌≤◌, ◌+◌, ◌++◌, ◌∷◌, true, [], Some, List, slice_get, length, take, drop, nat_lt, IfOk, IfSome, OnOk, OnErr};
 ghost use Rattle.std.specs.List.{list_all};
 ghost use Rattle.rapid_model.specs.Message.{AlertItem, item_of};
-ghost use Rattle.rapid_alerts.specs.Alerts.{ArePlaced, alert_of, alerts_in, kind_of};
+ghost use Rattle.rapid_alerts.specs.Alerts.{ArePlaced, alert_of, alert_of_ref, alerts_in, kind_of};
 ghost use Rattle.rapid_alerts.specs.Listing.{Grows};
 
-use crate::{Alert, Kind};
+use crate::{Alert, AlertRef, Kind};
 use rapid_config::ConfigId;
 use rapid_endpoint::Process;
 use std::alloc::{AllocError, Global};
@@ -208,6 +208,22 @@ impl AlertList {
             ring: item.ring,
             kind: item.kind,
             config: self.config,
+        }
+    }
+
+    /// An alert, by its place in the list from 0. Nothing is copied.
+    #[inline(always)]
+    pub fn alert_ref(&self, at: usize) -> AlertRef<'_>
+        requires { at < length (alerts_in self.now) }
+        ensures { slice_get (alerts_in self.now) at ≡ Some (alert_of_ref result) }
+    {
+        let item = &self.items[at];
+        AlertRef {
+            observer: &self.observer,
+            subject: &self.subjects[usize::from(item.place)],
+            ring: item.ring,
+            kind: item.kind,
+            config: &self.config,
         }
     }
 

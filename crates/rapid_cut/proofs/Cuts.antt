@@ -12,7 +12,7 @@ use Rattle.rapid_model.proofs.InOrder.{ascends}
 use Rattle.rapid_model.proofs.Orders.{same_bytes_decides}
 use Rattle.rapid_config.specs.Faults.{Reports as Refuses}
 use Rattle.rapid_config.specs.declared.error.ConfigError.{ConfigError}
-use Rattle.rapid_config.specs.declared.error.ConfigError.TheVariants.{BadParams, Truncated, Trailing, BadMagic, NotSorted as Unsorted, EndpointTwice, TooMany as Many, EmptyCut as Empty, HeightFull, OutOfMemory}
+use Rattle.rapid_config.specs.declared.error.ConfigError.TheVariants.{BadParams, Truncated, Trailing, BadMagic, NotSorted as Unsorted, EndpointTwice, TooMany as Many, EmptyCut as Empty, HeightFull, BadTags, OutOfMemory}
 use Rattle.rapid_cut.specs.Closing.{active}
 use Rattle.rapid_cut.specs.Limits.{IsWithinLimits, IsDetecting}
 use Rattle.rapid_cut.proofs.OnePass.{low_before}
@@ -29,6 +29,7 @@ only_memory EndpointTwice h = cc
 only_memory Many h = cc
 only_memory Empty h = cc
 only_memory HeightFull h = absurd h
+only_memory BadTags h = cc
 only_memory OutOfMemory h = refl
 
 in_split : (p : Process → Bool) (xs : List Process) → length (filter p xs) + length (filter (λ x. not (p x)) xs) ≡ length xs

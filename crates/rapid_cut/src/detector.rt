@@ -52,6 +52,24 @@ fn unstable_ones<T: ObserverTable>(
 ) -> Result<Vec<Process>, AllocError>
     ensures { IfOk result (λ found. found.items ≡ filter (model.is_unstable (T.observers table.now) reports.now.all) subjects.now) }
 {
+    // as at nearly every tick
+    if subjects.is_empty() {
+        return Ok(Vec::new(alloc));
+    }
+    unstable_among(alloc, table, reports, subjects)
+}
+
+/// The unstable ones of these processes. It stands apart: room for processes takes time at each
+/// call of the function that has it.
+#[inline(never)]
+fn unstable_among<T: ObserverTable>(
+    alloc: Global,
+    table: &T,
+    reports: &KnownReports,
+    subjects: &[Process],
+) -> Result<Vec<Process>, AllocError>
+    ensures { IfOk result (λ found. found.items ≡ filter (model.is_unstable (T.observers table.now) reports.now.all) subjects.now) }
+{
     subjects
         .iter()
         .filter(|subject| is_unstable(table, reports, subject))

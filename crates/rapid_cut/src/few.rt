@@ -1,7 +1,7 @@
 // Masks of a few processes, in a list.
 
-ghost use Rattle.std.specs.Prelude.{◌≡◌, ℕ, None, length, IfOk, IfSome, IfNone};
-ghost use Rattle.rapid_model.specs.Process.{Process as Bytes};
+ghost use Rattle.std.specs.Prelude.{◌≡◌, ℕ, ◌++◌, ◌∷◌, [], None, Some, length, IfOk, IfSome, IfNone, OnOk, OnErr, if◌then◌else◌};
+ghost use Rattle.rapid_model.specs.Process.{Process as Bytes, same_bytes};
 ghost use Rattle.rapid_cut.specs.Listed.{masks_at, StandsAt};
 
 use crate::mask::Masks;
@@ -41,6 +41,47 @@ pub fn map_of(
     Ok(map)
 }
 
+/// The masks of a process in a map. It stands apart, as `put_in` and `push_to` do: room for a
+/// process takes time at each call of the function that has it.
+#[inline(never)]
+pub fn masks_in(map: &HashMap<ProcessKey, Masks>, subject: &Process) -> Option<Masks>
+    ensures { result ≡ masks_at map.now.entries subject.now }
+{
+    map.get(&ProcessKey::new(*subject)).copied()
+}
+
+/// Puts these masks of a process in the place of those in a map.
+#[inline(never)]
+pub fn put_in(
+    map: &mut HashMap<ProcessKey, Masks>,
+    subject: &Process,
+    masks: Masks,
+) -> Result<(), AllocError>
+    ensures put { OnOk result ((q : Bytes) → masks_at map.new.entries q ≡ (if same_bytes subject.now q then Some masks else masks_at map.old.entries q)) }
+    ensures unchanged { OnErr result (map.new.entries ≡ map.old.entries) }
+{
+    map.insert(ProcessKey::new(*subject), masks)?;
+    Ok(())
+}
+
+/// Adds the masks of a process at the end. The first takes no more room than it needs: most lists
+/// stay as short.
+#[inline(never)]
+pub fn push_to(
+    entries: &mut Vec<(Process, Masks)>,
+    subject: &Process,
+    masks: Masks,
+) -> Result<(), AllocError>
+    ensures pushed { OnOk result (entries.new.items ≡ entries.old.items ++ (subject.now, masks) ∷ []) }
+    ensures unchanged { OnErr result (entries.new.items ≡ entries.old.items) }
+{
+    if entries.is_empty() {
+        entries.reserve_exact(1)?;
+    }
+    entries.push((*subject, masks))?;
+    Ok(())
+}
+
 /// The same entries, with room for some more. An empty list takes no memory.
 pub fn copy_of(
     alloc: Global,
@@ -57,4 +98,4 @@ pub fn copy_of(
 }
 
 /// For how many more entries a copy has room.
-const MORE: usize = 4;
+const MORE: usize = 1;

@@ -52,11 +52,8 @@ impl GrowingReports {
         ensures all { OnOk result (AddsRings subject.now rings.all self.old.reports.all self.new.reports.all) }
         ensures before { before self.new ≡ before self.old }
     {
-        let added = Added {
-            subject: *subject,
-            rings: rings.without(so_far),
-        };
-        note_joined(&mut self.last, &mut self.others, added)?;
+        let added = rings.without(so_far);
+        note_joined(&mut self.last, &mut self.others, subject, added)?;
         self.reports.put(subject, so_far.with(rings))?;
         Ok(())
     }
@@ -110,32 +107,39 @@ fn take_out(reports: &mut KnownReports, others: &[Added])
 fn note_joined(
     last: &mut Option<Added>,
     others: &mut Vec<Added>,
-    added: Added,
+    subject: &Process,
+    rings: Masks,
 ) -> Result<(), AllocError>
-    ensures direct { OnOk result ((x : Report) → is_added (λ m. m.direct) (all_added last.new others.new.items) x ≡ (is_added (λ m. m.direct) (all_added last.old others.old.items) x || is_for added.subject added.rings.direct x)) }
-    ensures all { OnOk result ((x : Report) → is_added (λ m. m.all) (all_added last.new others.new.items) x ≡ (is_added (λ m. m.all) (all_added last.old others.old.items) x || is_for added.subject added.rings.all x)) }
+    ensures direct { OnOk result ((x : Report) → is_added (λ m. m.direct) (all_added last.new others.new.items) x ≡ (is_added (λ m. m.direct) (all_added last.old others.old.items) x || is_for subject.now rings.direct x)) }
+    ensures all { OnOk result ((x : Report) → is_added (λ m. m.all) (all_added last.new others.new.items) x ≡ (is_added (λ m. m.all) (all_added last.old others.old.items) x || is_for subject.now rings.all x)) }
     ensures unchanged { OnErr result (all_added last.new others.new.items ≡ all_added last.old others.old.items) }
 {
-    if let Some(noted) = *last {
-        if noted.subject == added.subject {
-            *last = Some(Added {
-                subject: added.subject,
-                rings: noted.rings.with(added.rings),
-            });
+    if let Some(noted) = last {
+        if noted.subject == *subject {
+            noted.rings = noted.rings.with(rings);
             return Ok(());
         }
     }
-    note(last, others, added)
+    note(last, others, subject, rings)
 }
 
 /// Notes what is added.
-fn note(last: &mut Option<Added>, others: &mut Vec<Added>, added: Added) -> Result<(), AllocError>
-    ensures more { OnOk result ((part : masks.Masks → ℕ) (x : Report) → is_added part (all_added last.new others.new.items) x ≡ (is_added part (all_added last.old others.old.items) x || is_for added.subject (part added.rings) x)) }
+#[inline(never)]
+fn note(
+    last: &mut Option<Added>,
+    others: &mut Vec<Added>,
+    subject: &Process,
+    rings: Masks,
+) -> Result<(), AllocError>
+    ensures more { OnOk result ((part : masks.Masks → ℕ) (x : Report) → is_added part (all_added last.new others.new.items) x ≡ (is_added part (all_added last.old others.old.items) x || is_for subject.now (part rings) x)) }
     ensures unchanged { OnErr result (all_added last.new others.new.items ≡ all_added last.old others.old.items) }
 {
     if let Some(noted) = *last {
         others.push(noted)?;
     }
-    *last = Some(added);
+    *last = Some(Added {
+        subject: *subject,
+        rings,
+    });
     Ok(())
 }

@@ -2,9 +2,9 @@
 
 ghost use Rattle.std.specs.Prelude.{◌≡◌, ◌<◌, List, Some, length, map, slice_get};
 ghost use Rattle.rapid_model.specs.Alert.{Alert as ModelAlert};
-ghost use Rattle.rapid_alerts.specs.Alerts.{alert_of, alerts_in};
+ghost use Rattle.rapid_alerts.specs.Alerts.{alert_of, alert_of_ref, alerts_in};
 
-use rapid_alerts::{Alert, AlertList};
+use rapid_alerts::{Alert, AlertList, AlertRef};
 
 /// Alerts, in order.
 pub trait InTurn {
@@ -16,9 +16,9 @@ pub trait InTurn {
         ensures { result ≡ length (alerts self.now) };
 
     /// An alert, by its place from 0.
-    fn at(&self, place: usize) -> Alert
+    fn at(&self, place: usize) -> AlertRef<'_>
         requires { place < length (alerts self.now) }
-        ensures { slice_get (alerts self.now) place ≡ Some (alert_of result) };
+        ensures { slice_get (alerts self.now) place ≡ Some (alert_of_ref result) };
 }
 
 /// Alerts of any observers and configurations, one by one.
@@ -34,8 +34,15 @@ impl InTurn for EachAlert<'_> {
         self.alerts.len()
     }
 
-    fn at(&self, place: usize) -> Alert {
-        self.alerts[place]
+    fn at(&self, place: usize) -> AlertRef<'_> {
+        let alert = &self.alerts[place];
+        AlertRef {
+            observer: &alert.observer,
+            subject: &alert.subject,
+            ring: alert.ring,
+            kind: alert.kind,
+            config: &alert.config,
+        }
     }
 }
 
@@ -46,7 +53,8 @@ impl InTurn for AlertList {
         self.len()
     }
 
-    fn at(&self, place: usize) -> Alert {
-        self.alert(place)
+    #[inline(always)]
+    fn at(&self, place: usize) -> AlertRef<'_> {
+        self.alert_ref(place)
     }
 }

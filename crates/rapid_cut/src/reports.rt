@@ -5,7 +5,7 @@ ghost use Rattle.std.specs.FinSet as set;
 ghost use Rattle.rapid_cut.specs.Growing.{PutsMask, TakesOut};
 ghost use Rattle.rapid_alerts.specs.RingMasks.{has_ring};
 
-use crate::few::{copy_of, map_of, place_in};
+use crate::few::{copy_of, map_of, masks_in, place_in, push_to, put_in};
 use crate::mask::Masks;
 use rapid_endpoint::Process;
 use rapid_rings::ProcessKey;
@@ -65,10 +65,7 @@ impl KnownReports {
         if self.many.is_empty() {
             return NONE;
         }
-        self.many
-            .get(&ProcessKey::new(*subject))
-            .copied()
-            .unwrap_or(NONE)
+        masks_in(&self.many, subject).unwrap_or(NONE)
     }
 
     /// Puts these rings in the place of those of the reports on the process.
@@ -82,15 +79,15 @@ impl KnownReports {
             return Ok(());
         }
         if !self.many.is_empty() {
-            self.many.insert(ProcessKey::new(*subject), masks)?;
+            put_in(&mut self.many, subject, masks)?;
             return Ok(());
         }
         if self.few.len() < FEW {
-            self.few.push((*subject, masks))?;
+            push_to(&mut self.few, subject, masks)?;
             return Ok(());
         }
         let mut many = map_of(self.alloc, self.few.as_slice())?;
-        many.insert(ProcessKey::new(*subject), masks)?;
+        put_in(&mut many, subject, masks)?;
         self.many = many;
         self.few.clear();
         Ok(())

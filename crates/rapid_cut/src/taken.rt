@@ -8,7 +8,7 @@ ghost use Rattle.rapid_model.specs.Ring.{rings};
 ghost use Rattle.rapid_model.specs.Reports.{Reports, Includes, report_of, subjects};
 ghost use Rattle.rapid_model.specs.Detector as detector;
 ghost use Rattle.rapid_model.specs.Limits.{most_joiners, most_rings};
-ghost use Rattle.rapid_alerts.specs.Alerts.{alert_of};
+ghost use Rattle.rapid_alerts.specs.Alerts.{alert_of_ref};
 ghost use Rattle.rapid_cut.specs.Growing.{before, HaveGrown};
 ghost use Rattle.rapid_cut.specs.Limits.{IsWithinLimits};
 ghost use Rattle.rapid_alerts.specs.RingMasks.{has_ring};
@@ -18,7 +18,7 @@ use crate::growing::GrowingReports;
 use crate::in_turn::InTurn;
 use crate::mask::{Masks, has_any, with};
 use crate::reports::KnownReports;
-use rapid_alerts::{Alert, Kind, bit, has_bit};
+use rapid_alerts::{AlertRef, Kind, bit, has_bit};
 use rapid_config::Cut;
 use rapid_endpoint::Process;
 use rapid_rings::ObserverTable;
@@ -27,19 +27,24 @@ use std::alloc::{AllocError, Global};
 /// Whether the alert is well-formed. Then its ring exists, its observer is that ring's, and its
 /// configuration is the table's. And its kind is Remove exactly if the subject is a member. Also
 /// whether the subject is a member. It is looked for at the place first.
-fn check<T: ObserverTable>(table: &T, alert: &Alert, place: &mut usize) -> (bool, bool)
-    ensures value { result.0 ≡ model.is_well_formed (T.observers table.now) (alert_of alert.now) }
+fn check<T: ObserverTable>(table: &T, alert: &AlertRef<'_>, place: &mut usize) -> (bool, bool)
+    ensures value { result.0 ≡ model.is_well_formed (T.observers table.now) (alert_of_ref alert.now) }
     ensures ring { result.0 ≡ true → alert.now.ring < most_rings }
-    ensures member { result.1 ≡ (T.observers table.now).is_member alert.now.subject }
+    ensures member { result.1 ≡ (T.observers table.now).is_member alert.now.subject.now }
 {
-    let (member, observer) = table.member_and_observer_near(alert.ring, &alert.subject, place);
+    let (member, observes) = table.member_and_observes_near(
+        alert.observer,
+        alert.ring,
+        alert.subject,
+        place,
+    );
     let fits = match alert.kind {
         Kind::Remove => member,
         Kind::Join => !member,
     };
     let well_formed = alert.ring < table.params().k()
-        && observer == Some(alert.observer)
-        && alert.config == table.id()
+        && observes
+        && *alert.config == table.id()
         && fits;
     (well_formed, member)
 }
@@ -68,13 +73,13 @@ fn has_room<T: ObserverTable>(
     table: &T,
     reports: &KnownReports,
     joiners: usize,
-    alert: &Alert,
+    alert: &AlertRef<'_>,
     counted: bool,
 ) -> bool
-    requires counted { counted ≡ ((T.observers table.now).is_member alert.now.subject || is_in (subjects reports.now.direct) alert.now.subject) }
-    requires well_formed { model.is_well_formed (T.observers table.now) (alert_of alert.now) ≡ true }
+    requires counted { counted ≡ ((T.observers table.now).is_member alert.now.subject.now || is_in (subjects reports.now.direct) alert.now.subject.now) }
+    requires well_formed { model.is_well_formed (T.observers table.now) (alert_of_ref alert.now) ≡ true }
     requires joiners { joiners ≡ length (detector.joiners (T.observers table.now) reports.now.direct) }
-    ensures { result ≡ detector.is_taken (T.observers table.now) reports.now.direct (alert_of alert.now) }
+    ensures { result ≡ detector.is_taken (T.observers table.now) reports.now.direct (alert_of_ref alert.now) }
 {
     let _ = table;
     let _ = reports;
@@ -110,11 +115,11 @@ fn comes_to_low<T: ObserverTable>(table: &T, before: u16, now: u16) -> bool
 }
 
 /// Lists a process that comes to L reports.
-fn list(grown: &mut Vec<Process>, comes_to_low: bool, subject: Process) -> Result<(), AllocError>
-    ensures { OnOk result (grown.new.items ≡ (if comes_to_low then grown.old.items ++ subject ∷ [] else grown.old.items)) }
+fn list(grown: &mut Vec<Process>, comes_to_low: bool, subject: &Process) -> Result<(), AllocError>
+    ensures { OnOk result (grown.new.items ≡ (if comes_to_low then grown.old.items ++ subject.now ∷ [] else grown.old.items)) }
 {
     if comes_to_low {
-        grown.push(subject)?;
+        grown.push(*subject)?;
     }
     Ok(())
 }
@@ -125,15 +130,15 @@ fn put<T: ObserverTable>(
     table: &T,
     known: &mut GrowingReports,
     grown: &mut Vec<Process>,
-    subject: Process,
+    subject: &Process,
     ring: u8,
     so_far: Masks,
 ) -> Result<(), AllocError>
     requires ring { ring < most_rings }
-    requires direct { (k : ℕ) → set.contains known.old.reports.direct (subject, k) ≡ has_ring so_far.direct k }
-    requires all { (k : ℕ) → set.contains known.old.reports.all (subject, k) ≡ has_ring so_far.all k }
-    ensures direct { OnOk result (known.new.reports.direct ≡ set.insert known.old.reports.direct (subject, ring)) }
-    ensures all { OnOk result (known.new.reports.all ≡ set.insert known.old.reports.all (subject, ring)) }
+    requires direct { (k : ℕ) → set.contains known.old.reports.direct (subject.now, k) ≡ has_ring so_far.direct k }
+    requires all { (k : ℕ) → set.contains known.old.reports.all (subject.now, k) ≡ has_ring so_far.all k }
+    ensures direct { OnOk result (known.new.reports.direct ≡ set.insert known.old.reports.direct (subject.now, ring)) }
+    ensures all { OnOk result (known.new.reports.all ≡ set.insert known.old.reports.all (subject.now, ring)) }
     ensures grown { OnOk result ((start : Reports) → HaveGrown (T.observers table.now) start known.old.reports.direct grown.old.items → HaveGrown (T.observers table.now) start known.new.reports.direct grown.new.items) }
     ensures before { before known.new ≡ before known.old }
 {
@@ -143,7 +148,7 @@ fn put<T: ObserverTable>(
         direct: one,
         all: one,
     };
-    known.add(&subject, so_far, rings)?;
+    known.add(subject, so_far, rings)?;
     list(grown, comes_to_low, subject)?;
     Ok(())
 }
@@ -155,14 +160,14 @@ fn take<T: ObserverTable>(
     joiners: &mut usize,
     grown: &mut Vec<Process>,
     place: &mut usize,
-    alert: &Alert,
+    alert: &AlertRef<'_>,
 ) -> Result<bool, AllocError>
     requires joiners { joiners.old ≡ length (detector.joiners (T.observers table.now) known.old.reports.direct) }
     requires room { joiners.old ≤ most_joiners }
     requires known { Includes known.old.reports.all known.old.reports.direct }
-    ensures taken { IfOk result (λ taken. taken ≡ detector.is_taken (T.observers table.now) known.old.reports.direct (alert_of alert.now)) }
-    ensures direct { IfOk result (λ taken. known.new.reports.direct ≡ (if taken then set.insert known.old.reports.direct (report_of (alert_of alert.now)) else known.old.reports.direct)) }
-    ensures all { IfOk result (λ taken. known.new.reports.all ≡ (if taken then set.insert known.old.reports.all (report_of (alert_of alert.now)) else known.old.reports.all)) }
+    ensures taken { IfOk result (λ taken. taken ≡ detector.is_taken (T.observers table.now) known.old.reports.direct (alert_of_ref alert.now)) }
+    ensures direct { IfOk result (λ taken. known.new.reports.direct ≡ (if taken then set.insert known.old.reports.direct (report_of (alert_of_ref alert.now)) else known.old.reports.direct)) }
+    ensures all { IfOk result (λ taken. known.new.reports.all ≡ (if taken then set.insert known.old.reports.all (report_of (alert_of_ref alert.now)) else known.old.reports.all)) }
     ensures joiners { OnOk result (joiners.new ≡ length (detector.joiners (T.observers table.now) known.new.reports.direct)) }
     ensures grown { OnOk result ((start : Reports) → HaveGrown (T.observers table.now) start known.old.reports.direct grown.old.items → HaveGrown (T.observers table.now) start known.new.reports.direct grown.new.items) }
     ensures before { before known.new ≡ before known.old }
@@ -171,7 +176,7 @@ fn take<T: ObserverTable>(
     if !well_formed {
         return Ok(false);
     }
-    let subject = &alert.subject;
+    let subject = alert.subject;
     let so_far = known.reports.on(subject);
     if has_bit(so_far.direct, alert.ring) {
         return Ok(true);
@@ -181,7 +186,7 @@ fn take<T: ObserverTable>(
         return Ok(false);
     }
     *joiners = joiners_with(table, &known.reports, *joiners, subject, counted);
-    put(table, known, grown, alert.subject, alert.ring, so_far)?;
+    put(table, known, grown, subject, alert.ring, so_far)?;
     Ok(true)
 }
 

@@ -160,7 +160,7 @@ fn place_about(entry: &Node, id: Option<ConfigId>, process: &Process) -> Option<
 fn place_in(entry: &Node, message: &Message) -> Option<(Which, u16)>
     ensures { result ≡ place_in (configuration_of entry.now) message.now }
 {
-    place_about(entry, about(message.body()), &message.sender())
+    place_about(entry, about(message.body()), message.sender())
 }
 
 /// Whether the message is a joiner's question.
@@ -252,7 +252,7 @@ fn record_without_place(
     ensures value { IfOk result (λ r. record_of (configuration_of entry.now) r ≡ model.Other (Receive message)) }
     ensures whole { IfOk result (λ r. is_whole r ≡ stays_whole (configuration_of entry.now) message) }
 {
-    let sender = message.sender();
+    let sender = *message.sender();
     match ring_asked(entry, message.body()) {
         Some((which, ring)) => {
             Ok(JournalRecord::JoinRequest(Box::new(alloc, sender)?, which, ring))

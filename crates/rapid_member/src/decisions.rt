@@ -93,11 +93,11 @@ impl Decisions {
         &self,
         alloc: Global,
         out: &mut Vec<Output>,
-        me: Process,
+        me: &Process,
         from: &Process,
         id: ConfigId,
     ) -> Result<(), AllocError>
-        ensures said { OnOk result (out.new.items ≡ out.old.items ++ outputs me (receive.catch_up self.now from.now (Some id))) }
+        ensures said { OnOk result (out.new.items ≡ out.old.items ++ outputs me.now (receive.catch_up self.now from.now (Some id))) }
         ensures unchanged { OnErr result (out.new.items ≡ out.old.items) }
     {
         match self.decided_in(id) {

@@ -19,12 +19,12 @@ use std::alloc::{AllocError, Global};
 pub(crate) fn say_answer(
     alloc: Global,
     out: &mut Vec<Output>,
-    me: Process,
+    me: &Process,
     joiner: &Process,
     answered: &HostAnswer,
 ) -> Result<(), AllocError>
     requires { AnswersObservers answered.now }
-    ensures said { OnOk result (out.new.items ≡ out.old.items ++ outputs me (answer_to joiner.now (host_answer_of answered.now))) }
+    ensures said { OnOk result (out.new.items ≡ out.old.items ++ outputs me.now (answer_to joiner.now (host_answer_of answered.now))) }
     ensures unchanged { OnErr result (out.new.items ≡ out.old.items) }
 {
     match answered {
@@ -53,11 +53,11 @@ pub(crate) fn say_answer(
 fn say_all(
     alloc: Global,
     out: &mut Vec<Output>,
-    me: Process,
+    me: &Process,
     answers: &[(Process, HostAnswer)],
 ) -> Result<(), AllocError>
     requires { All (λ x. AnswersObservers x.1) answers.now }
-    ensures said { OnOk result (out.new.items ≡ out.old.items ++ outputs me (flat_map (λ x. answer_to x.0 x.1) (map answered_of answers.now))) }
+    ensures said { OnOk result (out.new.items ≡ out.old.items ++ outputs me.now (flat_map (λ x. answer_to x.0 x.1) (map answered_of answers.now))) }
     ensures unchanged { OnErr result (out.new.items ≡ out.old.items) }
 {
     // gathered apart, so that nothing is said if memory runs out on the way
@@ -73,10 +73,10 @@ fn say_all(
 fn send_requests(
     alloc: Global,
     out: &mut Vec<Output>,
-    me: Process,
+    me: &Process,
     requests: &[JoinRequest],
 ) -> Result<(), AllocError>
-    ensures said { OnOk result (out.new.items ≡ out.old.items ++ outputs me (map (λ x. Says (To x.0) x.1) (map request_of requests.now))) }
+    ensures said { OnOk result (out.new.items ≡ out.old.items ++ outputs me.now (map (λ x. Says (To x.0) x.1) (map request_of requests.now))) }
     ensures unchanged { OnErr result (out.new.items ≡ out.old.items) }
 {
     // gathered apart, so that nothing is sent if memory runs out on the way
@@ -93,10 +93,10 @@ fn send_requests(
 pub fn send_joining(
     alloc: Global,
     out: &mut Vec<Output>,
-    me: Process,
+    me: &Process,
     answered: &JoinerAnswer,
 ) -> Result<(), AllocError>
-    ensures said { OnOk result (out.new.items ≡ out.old.items ++ outputs me (map (λ x. Says (To x.0) x.1) (sent_by answered.now))) }
+    ensures said { OnOk result (out.new.items ≡ out.old.items ++ outputs me.now (map (λ x. Says (To x.0) x.1) (sent_by answered.now))) }
     ensures unchanged { OnErr result (out.new.items ≡ out.old.items) }
 {
     match answered {
@@ -112,11 +112,11 @@ pub fn send_joining(
 pub fn confirm_pending(
     alloc: Global,
     out: &mut Vec<Output>,
-    me: Process,
+    me: &Process,
     member: &mut MemberState,
     next: &Configuration,
 ) -> Result<(), AllocError>
-    ensures out { OnOk result (out.new.items ≡ out.old.items ++ outputs me (flat_map (λ x. answer_to x.0 x.1) (confirms next.now member.old.pending))) }
+    ensures out { OnOk result (out.new.items ≡ out.old.items ++ outputs me.now (flat_map (λ x. answer_to x.0 x.1) (confirms next.now member.old.pending))) }
     ensures unchanged { OnErr result (out.new.items ≡ out.old.items) }
     ensures rest { record member.new { pending = set.empty } ≡ record member.old { pending = set.empty } }
     ensures state { OnOk result (member.new ≡ record member.old { pending = set.empty }) }

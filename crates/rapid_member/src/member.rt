@@ -111,10 +111,10 @@ impl MemberState {
     }
 
     /// The process.
-    fn me(&self) -> Process
-        ensures { result ≡ self.now.me }
+    fn me(&self) -> &Process
+        ensures { result.now ≡ self.now.me }
     {
-        self.context.me
+        &self.context.me
     }
 
     /// The own position.

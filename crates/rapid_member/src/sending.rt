@@ -10,39 +10,39 @@ use rapid_message::{Body, Destination, Message, Output};
 use std::alloc::AllocError;
 
 /// Sends something to the other members. If out of memory it sends nothing.
-pub(crate) fn say(out: &mut Vec<Output>, me: Process, body: Body) -> Result<(), AllocError>
-    requires { CanSay me body }
-    ensures said { OnOk result (out.new.items ≡ out.old.items ++ outputs me (Says ModelOthers (body_of body) ∷ [])) }
+pub(crate) fn say(out: &mut Vec<Output>, me: &Process, body: Body) -> Result<(), AllocError>
+    requires { CanSay me.now body }
+    ensures said { OnOk result (out.new.items ≡ out.old.items ++ outputs me.now (Says ModelOthers (body_of body) ∷ [])) }
     ensures unchanged { OnErr result (out.new.items ≡ out.old.items) }
 {
-    out.push(Output::new(Destination::Others, Message::of(me, body)))?;
+    out.push(Output::new(Destination::Others, Message::of(*me, body)))?;
     Ok(())
 }
 
 /// Sends something to an endpoint. If out of memory it sends nothing.
 pub(crate) fn say_to(
     out: &mut Vec<Output>,
-    me: Process,
+    me: &Process,
     to: Endpoint,
     body: Body,
 ) -> Result<(), AllocError>
-    requires { CanSay me body }
-    ensures said { OnOk result (out.new.items ≡ out.old.items ++ outputs me (Says (ModelTo to) (body_of body) ∷ [])) }
+    requires { CanSay me.now body }
+    ensures said { OnOk result (out.new.items ≡ out.old.items ++ outputs me.now (Says (ModelTo to) (body_of body) ∷ [])) }
     ensures unchanged { OnErr result (out.new.items ≡ out.old.items) }
 {
-    out.push(Output::new(Destination::To(to), Message::of(me, body)))?;
+    out.push(Output::new(Destination::To(to), Message::of(*me, body)))?;
     Ok(())
 }
 
 /// Sends something to the endpoint of a process. If out of memory it sends nothing.
 pub(crate) fn answer(
     out: &mut Vec<Output>,
-    me: Process,
+    me: &Process,
     to: &Process,
     body: Body,
 ) -> Result<(), AllocError>
-    requires { CanSay me body }
-    ensures said { OnOk result (out.new.items ≡ out.old.items ++ outputs me (Says (ModelTo (endpoint to.now)) (body_of body) ∷ [])) }
+    requires { CanSay me.now body }
+    ensures said { OnOk result (out.new.items ≡ out.old.items ++ outputs me.now (Says (ModelTo (endpoint to.now)) (body_of body) ∷ [])) }
     ensures unchanged { OnErr result (out.new.items ≡ out.old.items) }
 {
     say_to(out, me, to.endpoint(), body)

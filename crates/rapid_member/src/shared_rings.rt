@@ -82,6 +82,17 @@ impl ObserverTable for SharedRings {
         self.rings.member_and_observer_near(ring, subject, place)
     }
 
+    fn member_and_observes_near(
+        &self,
+        observer: &Process,
+        ring: u8,
+        subject: &Process,
+        place: &mut usize,
+    ) -> (bool, bool) {
+        self.rings
+            .member_and_observes_near(observer, ring, subject, place)
+    }
+
     fn may_observe(&self, process: &Process) -> bool {
         self.rings.may_observe(process)
     }

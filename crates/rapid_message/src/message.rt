@@ -138,10 +138,10 @@ impl Message {
     }
 
     /// Who sends it.
-    pub fn sender(&self) -> Process
-        ensures { result ≡ self.now.sender }
+    pub fn sender(&self) -> &Process
+        ensures { result.now ≡ self.now.sender }
     {
-        self.sender
+        &self.sender
     }
 
     /// What it says.

@@ -10,14 +10,14 @@ use Rattle.rapid_node.specs.declared.phase.State.TheVariants.{Joining, Member, R
 
 -- The phase of a node with this configuration, if any.
 abbrev pub phase_of : Option Configuration → State → model.Phase
-phase_of shown (Joining j) = model.Joining j.joiner
+phase_of shown (Joining j) = model.Joining j.value.joiner
 phase_of shown (Member s) = model.Member s.value
 phase_of shown (Removed c) = model.Removed c
 phase_of shown Halted = model.Halted shown
 
 -- The state is that of this process, and it has the node's configuration.
 abbrev pub IsState : Process → Option Configuration → State → Type 0
-IsState me shown (Joining j) = (shown ≡ None) × (j.process ≡ me)
+IsState me shown (Joining j) = (shown ≡ None) × (j.value.process ≡ me)
 IsState me shown (Member s) = (shown ≡ Some s.value.config) × (s.value.me ≡ me)
 IsState me shown (Removed c) = shown ≡ Some c
 IsState me shown Halted = Unit {0}

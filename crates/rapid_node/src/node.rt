@@ -43,7 +43,7 @@ use std::sync::Arc;
 /// no input or output: it takes events, one [`Node::step`] each, and answers what is to be sent.
 #[derive(Debug, Drop)]
 pub struct Node {
-    me: Process,
+    me: Arc<Process, Global>,
     state: State,
     past: Arc<Past, Global>,
     alloc: Global,
@@ -60,9 +60,9 @@ impl Model for Node {
 
     ghost use Rattle.rapid_node.specs.Phases.{phase_of, IsState};
 
-    ghost view = { λ n. record { me = n.me; phase = phase_of (arc_value n.past).shown n.state; installed = (arc_value n.past).installed; decisions = (arc_value n.past).decisions } };
+    ghost view = { λ n. record { me = arc_value n.me; phase = phase_of (arc_value n.past).shown n.state; installed = (arc_value n.past).installed; decisions = (arc_value n.past).decisions } };
 
-    ghost invariant = { λ n. IsState n.me (arc_value n.past).shown n.state };
+    ghost invariant = { λ n. IsState (arc_value n.me) (arc_value n.past).shown n.state };
 }
 
 /// The member that a member observes on a ring.
@@ -81,6 +81,7 @@ impl Node {
         requires { IsState me past.shown state }
         ensures { IfOk result (λ node. node ≡ record { me = me; phase = phase_of past.shown state; installed = past.installed; decisions = past.decisions }) }
     {
+        let me = Arc::new(alloc, me)?;
         let past = Arc::new(alloc, past)?;
         Ok(Node {
             me,
@@ -136,15 +137,15 @@ impl Node {
             installed: Installed::new(alloc)?,
             decisions: Decisions::new(alloc)?,
         };
-        let state = State::Joining(Joiner::new(process, seed));
+        let state = State::Joining(Box::new(alloc, Joiner::new(process, seed))?);
         Node::of(alloc, process, state, past)
     }
 
     /// The process.
-    pub fn process(&self) -> Process
-        ensures { result ≡ self.now.me }
+    pub fn process(&self) -> &Process
+        ensures { result.now ≡ self.now.me }
     {
-        self.me
+        &*self.me
     }
 
     /// The stamps of all configurations that it installed, in order.
@@ -188,7 +189,7 @@ impl Node {
         ensures { result ≡ option_map (λ x. x.1) (observed_in (model.member_in self.now) self.now.me ring) }
     {
         match self.rings() {
-            Some(rings) => subject_on(rings, &self.me, ring),
+            Some(rings) => subject_on(rings, self.process(), ring),
             None => None,
         }
     }
@@ -225,9 +226,10 @@ impl Node {
         ensures { IfOk result (λ node. node ≡ self.now) }
     {
         let state = self.state.try_copy(self.alloc)?;
+        let me = Arc::try_clone(&self.me)?;
         let past = Arc::try_clone(&self.past)?;
         Ok(Node {
-            me: self.me,
+            me,
             state,
             past,
             alloc: self.alloc,
@@ -236,10 +238,10 @@ impl Node {
 
     /// It joins.
     #[tactic(auto, using(crate::proofs::Showing::halted_shows))]
-    fn be_joining(&mut self, joiner: Joiner)
-        requires me { joiner.process ≡ self.old.me }
+    fn be_joining(&mut self, joiner: Box<Joiner>)
+        requires me { joiner.value.process ≡ self.old.me }
         requires shown { self.old.phase ≡ model.Halted None }
-        ensures { self.new ≡ record self.old { phase = model.Joining joiner.joiner } }
+        ensures { self.new ≡ record self.old { phase = model.Joining joiner.value.joiner } }
     {
         self.state = State::Joining(joiner);
     }
@@ -279,7 +281,7 @@ impl Node {
     {
         let id = before.configuration().id();
         let decisions = self.past.decisions.with(self.alloc, id, cut)?;
-        let state = State::enter(self.alloc, view, self.me)?;
+        let state = State::enter(self.alloc, view, *self.process())?;
         let stamp = view.configuration().stamp();
         let shown = Shown::share_of(view.configuration())?;
         Arc::make_mut(&mut self.past)?.add(stamp, shown, decisions)?;
@@ -304,7 +306,7 @@ impl Node {
     {
         let view = views.after(&*member, &cut)?;
         let next = &**view.configuration();
-        confirm_pending(self.alloc, out, self.me, &mut *member, next)?;
+        confirm_pending(self.alloc, out, self.process(), &mut *member, next)?;
         self.enter(&*member, &view, cut)
     }
 
@@ -398,7 +400,7 @@ impl Node {
         ensures unchanged { OnErr result (self.new ≡ self.old) }
     {
         member.raise(Alert {
-            observer: self.me,
+            observer: *self.process(),
             subject: *subject,
             ring,
             kind: Kind::Remove,
@@ -427,14 +429,18 @@ impl Node {
 
     /// A tick while it joins.
     #[tactic(auto, using(crate::proofs::Asking::asked))]
-    fn joiner_tick(&mut self, out: &mut Vec<Output>, mut joiner: Joiner) -> Result<(), AllocError>
-        requires me { joiner.process ≡ self.old.me }
+    fn joiner_tick(
+        &mut self,
+        out: &mut Vec<Output>,
+        mut joiner: Box<Joiner>,
+    ) -> Result<(), AllocError>
+        requires me { joiner.value.process ≡ self.old.me }
         requires shown { self.old.phase ≡ model.Halted None }
-        ensures ok { OnOk result (Continues self.old.me (step.step_tick self.old (model.Joining joiner.joiner)) self.new out.old.items out.new.items) }
+        ensures ok { OnOk result (Continues self.old.me (step.step_tick self.old (model.Joining joiner.value.joiner)) self.new out.old.items out.new.items) }
         ensures unchanged { OnErr result (self.new ≡ self.old) }
     {
         let question = joiner.on_tick();
-        send_joining(self.alloc, out, self.me, &question)?;
+        send_joining(self.alloc, out, self.process(), &question)?;
         self.be_joining(joiner);
         Ok(())
     }
@@ -444,17 +450,17 @@ impl Node {
     fn joiner_reply(
         &mut self,
         out: &mut Vec<Output>,
-        joiner: Joiner,
+        joiner: Box<Joiner>,
         process: &Process,
         reply: &Reply,
     ) -> Result<(), AllocError>
-        requires me { joiner.process ≡ self.old.me }
+        requires me { joiner.value.process ≡ self.old.me }
         requires shown { self.old.phase ≡ model.Halted None }
-        ensures ok { OnOk result (Continues self.old.me (Some (receive.joins_on (in_phase self.old (model.Joining joiner.joiner)) joiner.joiner (receive.replied self.old joiner.joiner process.now (answer_of reply.now)))) self.new out.old.items out.new.items) }
+        ensures ok { OnOk result (Continues self.old.me (Some (receive.joins_on (in_phase self.old (model.Joining joiner.value.joiner)) joiner.value.joiner (receive.replied self.old joiner.value.joiner process.now (answer_of reply.now)))) self.new out.old.items out.new.items) }
         ensures unchanged { OnErr result (self.new ≡ self.old) }
     {
         let answer = joiner.on_reply(self.alloc, process, reply)?;
-        send_joining(self.alloc, out, self.me, &answer)?;
+        send_joining(self.alloc, out, self.process(), &answer)?;
         self.be_joining(joiner);
         Ok(())
     }
@@ -464,19 +470,19 @@ impl Node {
     fn joiner_confirm(
         &mut self,
         views: &mut Views,
-        joiner: Joiner,
+        joiner: Box<Joiner>,
         configuration: &Configuration,
     ) -> Result<(), AllocError>
-        requires me { joiner.process ≡ self.old.me }
+        requires me { joiner.value.process ≡ self.old.me }
         requires shown { self.old.phase ≡ model.Halted None }
-        ensures ok { OnOk result (Continues self.old.me (Some (receive.receive_as_joiner (in_phase self.old (model.Joining joiner.joiner)) joiner.joiner (message.Confirm configuration.now))) self.new [] []) }
+        ensures ok { OnOk result (Continues self.old.me (Some (receive.receive_as_joiner (in_phase self.old (model.Joining joiner.value.joiner)) joiner.value.joiner (message.Confirm configuration.now))) self.new [] []) }
         ensures unchanged { OnErr result (self.new ≡ self.old) }
     {
-        if !configuration.is_member(&self.me) {
+        if !configuration.is_member(self.process()) {
             self.be_joining(joiner);
             return Ok(());
         }
-        let node = Node::seed_in(self.alloc, views, configuration, self.me)?;
+        let node = Node::seed_in(self.alloc, views, configuration, *self.process())?;
         *self = node;
         Ok(())
     }
@@ -487,12 +493,12 @@ impl Node {
         &mut self,
         views: &mut Views,
         out: &mut Vec<Output>,
-        joiner: Joiner,
+        joiner: Box<Joiner>,
         message: &Message,
     ) -> Result<(), AllocError>
-        requires me { joiner.process ≡ self.old.me }
+        requires me { joiner.value.process ≡ self.old.me }
         requires shown { self.old.phase ≡ model.Halted None }
-        ensures ok { OnOk result (Continues self.old.me (step.step_receive (in_phase self.old (model.Joining joiner.joiner)) (model.Joining joiner.joiner) message.now) self.new out.old.items out.new.items) }
+        ensures ok { OnOk result (Continues self.old.me (step.step_receive (in_phase self.old (model.Joining joiner.value.joiner)) (model.Joining joiner.value.joiner) message.now) self.new out.old.items out.new.items) }
         ensures unchanged { OnErr result (self.new ≡ self.old) }
     {
         match message.body() {
@@ -525,7 +531,7 @@ impl Node {
                 let from = message.sender();
                 self.past
                     .decisions
-                    .catch_up(self.alloc, out, self.me, &from, id)
+                    .catch_up(self.alloc, out, self.process(), from, id)
             }
             None => Ok(()),
         }

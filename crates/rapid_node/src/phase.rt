@@ -32,7 +32,7 @@ pub enum Phase {
 #[derive(Debug, Drop)]
 pub(crate) enum State {
     /// It asks to be a member.
-    Joining(Joiner),
+    Joining(Box<Joiner>),
     /// It is a member.
     Member(Box<MemberState>),
     /// It was removed; the configuration is the one without it.
@@ -80,7 +80,7 @@ impl State {
         ensures state { (me : ModelProcess) → (shown : Option ModelConfiguration) → IsState me shown self.now → IfOk result (IsState me shown) }
     {
         match self {
-            State::Joining(joiner) => Ok(State::Joining(joiner.try_copy()?)),
+            State::Joining(joiner) => Ok(State::Joining(Box::new(alloc, joiner.try_copy()?)?)),
             State::Member(member) => Ok(State::Member(Box::new(alloc, member.try_copy()?)?)),
             State::Removed(configuration) => Ok(State::Removed(configuration.try_copy(alloc)?)),
             State::Halted => Ok(State::Halted),

@@ -138,10 +138,10 @@ impl Repeats {
     {
         let sender = message.sender();
         match message.body() {
-            Body::Batch(id, batch) => self.admits_batch(&sender, *id, batch),
-            Body::FastVote(id, vote) => self.admits_vote(&sender, *id, vote),
-            Body::JoinRequest(id, ring) => self.admits_request(sender, *id, *ring),
-            Body::PreJoin => self.admits_asked(sender, Asked::Question),
+            Body::Batch(id, batch) => self.admits_batch(sender, *id, batch),
+            Body::FastVote(id, vote) => self.admits_vote(sender, *id, vote),
+            Body::JoinRequest(id, ring) => self.admits_request(*sender, *id, *ring),
+            Body::PreJoin => self.admits_asked(*sender, Asked::Question),
             _ => {
                 self.tell();
                 true

@@ -1,7 +1,7 @@
 // What is asked of rings and tables alike.
 
 ghost use Rattle.std.specs.Prelude.{◌≡◌, false};
-ghost use Rattle.rapid_model.specs.Ring.{Observers, AreObservers};
+ghost use Rattle.rapid_model.specs.Ring.{Observers, AreObservers, observes};
 ghost use Rattle.rapid_rings.specs.Observing.{ObservesNobody, NoneObservesItself};
 
 use rapid_config::{ConfigId, Params};
@@ -54,6 +54,23 @@ pub trait ObserverTable {
     {
         let _ = place;
         self.member_and_observer(ring, subject)
+    }
+
+    /// Whether the subject is a member, and whether this process observes it on a ring. `place` is
+    /// as for `member_and_observer_near`. It costs no copy of the observer if the table has a way
+    /// without one.
+    fn member_and_observes_near(
+        &self,
+        observer: &Process,
+        ring: u8,
+        subject: &Process,
+        place: &mut usize,
+    ) -> (bool, bool)
+        ensures member { result.0 ≡ (observers self.now).is_member subject.now }
+        ensures observes { result.1 ≡ observes (observers self.now) observer.now ring subject.now }
+    {
+        let (member, found) = self.member_and_observer_near(ring, subject, place);
+        (member, found == Some(*observer))
     }
 
     /// Whether the process may observe someone. False says that nobody has it as an observer, on

@@ -14,6 +14,7 @@ use crate::known_keys::KnownKeys;
 use crate::seats::{Seat, add_seats, seats_at, seats_moved};
 use rapid_endpoint::Process;
 use std::alloc::{AllocError, Global};
+use std::cmp::Ordering;
 use std::marker::Model;
 
 /// The members of the configuration that follows one.
@@ -103,9 +104,30 @@ impl Ring {
         requires place { place ≡ position (same_bytes process.now) members.now }
         ensures { result ≡ model.ring_observer members.now number process.now }
     {
+        member_at(
+            members,
+            self.place_of_observer(number, members, place, process, keys),
+        )
+    }
+
+    /// The place of the observer of a process on the ring with this number. If the process is a
+    /// member, `place` is its place.
+    pub(crate) fn place_of_observer(
+        &self,
+        number: u8,
+        members: &[Process],
+        place: Option<usize>,
+        process: &Process,
+        keys: &KnownKeys,
+    ) -> Option<u16>
+        requires order { IsOrder number members.now self.now }
+        requires ascend { IsTrue (identifiers_ascend members.now) }
+        requires place { place ≡ position (same_bytes process.now) members.now }
+        ensures { member_if_any members.now result ≡ model.ring_observer members.now number process.now }
+    {
         match place {
-            Some(place) => member_at(members, self.place_before(place)),
-            None => self.observer_of_stranger(number, members, process, keys),
+            Some(place) => self.place_before(place),
+            None => self.place_before_stranger(number, members, process, keys),
         }
     }
 
@@ -119,32 +141,32 @@ impl Ring {
         member_at(members, self.place_after(place))
     }
 
-    // The observer of a process that is no member.
-    fn observer_of_stranger(
+    // The place of the observer of a process that is no member.
+    fn place_before_stranger(
         &self,
         number: u8,
         members: &[Process],
         process: &Process,
         keys: &KnownKeys,
-    ) -> Option<Process>
+    ) -> Option<u16>
         requires order { IsOrder number members.now self.now }
         requires ascend { IsTrue (identifiers_ascend members.now) }
         requires stranger { position (same_bytes process.now) members.now ≡ None }
-        ensures { result ≡ model.ring_observer members.now number process.now }
+        ensures { member_if_any members.now result ≡ model.ring_observer members.now number process.now }
     {
-        let below = self.count_below(members, &(keys.key(number, process), *process));
-        member_at(members, self.place(previous(below, self.count())))
+        let below = self.count_below(members, &keys.key(number, process), process);
+        self.place(previous(below, self.count()))
     }
 
     // How many seats are below that of a process with this key.
-    fn count_below(&self, members: &[Process], seat: &([u8; 32], Process)) -> usize
+    fn count_below(&self, members: &[Process], key: &[u8; 32], process: &Process) -> usize
         requires order { (number : ℕ) × IsOrder number members.now self.now }
         requires ascend { IsTrue (identifiers_ascend members.now) }
         ensures bound { result ≤ length self.now }
-        ensures point { IsPartitionPoint (λ x. member_below members.now seat.now x ≡ true) (λ x. member_below members.now seat.now x ≡ false) self.now result }
+        ensures point { IsPartitionPoint (λ x. member_below members.now (key.now, process.now) x ≡ true) (λ x. member_below members.now (key.now, process.now) x ≡ false) self.now result }
     {
         let seats = self.seats.as_slice();
-        seats.partition_point(|other| is_below(members, other, seat))
+        seats.partition_point(|other| is_below(members, other, key, process))
     }
 
     // The place of the member in the seat before that of the member at this place, going round;
@@ -258,12 +280,36 @@ fn member_at(members: &[Process], place: Option<u16>) -> Option<Process>
     }
 }
 
+/// Whether this member is at a place.
+pub(crate) fn is_member_at(members: &[Process], place: Option<u16>, member: &Process) -> bool
+    ensures { result ≡ option_eq same_bytes (member_if_any members.now place) (Some member.now) }
+{
+    match place {
+        Some(place) => is_at(members, usize::from(place), member),
+        None => false,
+    }
+}
+
+// Whether this member is at a place, by its number.
+fn is_at(members: &[Process], place: usize, member: &Process) -> bool
+    ensures { result ≡ option_eq same_bytes (slice_get members.now place) (Some member.now) }
+{
+    match members.get(place) {
+        Some(found) => *found == *member,
+        None => false,
+    }
+}
+
 // Whether the seat of a member is below that of a process with this key.
-fn is_below(members: &[Process], seat: &Seat, other: &([u8; 32], Process)) -> bool
-    ensures { result ≡ member_below members.now other.now seat.now }
+fn is_below(members: &[Process], seat: &Seat, key: &[u8; 32], process: &Process) -> bool
+    ensures { result ≡ member_below members.now (key.now, process.now) seat.now }
 {
     match members.get(usize::from(seat.1)) {
-        Some(member) => (seat.0, *member).cmp(other).is_lt(),
+        Some(member) => match seat.0.cmp(key) {
+            Ordering::Less => true,
+            Ordering::Equal => member.cmp(process).is_lt(),
+            Ordering::Greater => false,
+        },
         None => false,
     }
 }

@@ -6,12 +6,12 @@ ghost use Rattle.rapid_rings.specs.Seats.{IsOrder};
 ghost use Rattle.rapid_rings.specs.Following.{places_of_new};
 ghost use Rattle.rapid_model.specs.Process.{Process as ModelProcess, same_bytes};
 ghost use Rattle.rapid_model.specs.Configuration.{AreMembers, position_of};
-ghost use Rattle.rapid_model.specs.Ring.{observers_of, subject_on, subjects_of};
+ghost use Rattle.rapid_model.specs.Ring.{observers_of, observes, subject_on, subjects_of};
 
 use crate::ObserverTable;
 use crate::known_keys::KnownKeys;
 use crate::places::{places_below, places_in, places_of_strangers, position_near};
-use crate::ring::{NextMembers, Ring};
+use crate::ring::{NextMembers, Ring, is_member_at};
 use rapid_config::{ConfigId, Configuration, Params};
 use rapid_endpoint::Process;
 use std::alloc::{AllocError, Global};
@@ -178,6 +178,28 @@ impl Rings {
             None => None,
         }
     }
+
+    // Whether a process observes another on a ring. If the other is a member, `place` is its place.
+    #[tactic(auto, unfolding(rapid_model::specs::Ring::observers_of))]
+    fn is_observed_by(
+        &self,
+        observer: &Process,
+        ring: u8,
+        place: Option<usize>,
+        process: &Process,
+    ) -> bool
+        requires { place ≡ position_of self.now process.now }
+        ensures { result ≡ observes (observers_of self.now) observer.now ring process.now }
+    {
+        match self.rings.get(usize::from(ring)) {
+            Some(seats) => {
+                let members = self.configuration.members();
+                let found = seats.place_of_observer(ring, members, place, process, &self.keys);
+                is_member_at(members, found, observer)
+            }
+            None => false,
+        }
+    }
 }
 
 // Adds the pair of a ring and the subject on it, if there is one.
@@ -229,6 +251,19 @@ impl ObserverTable for Rings {
         let found = position_near(&self.configuration, *place, subject);
         *place = found.unwrap_or(*place);
         (found.is_some(), self.observer_of(ring, found, subject))
+    }
+
+    fn member_and_observes_near(
+        &self,
+        observer: &Process,
+        ring: u8,
+        subject: &Process,
+        place: &mut usize,
+    ) -> (bool, bool) {
+        let found = position_near(&self.configuration, *place, subject);
+        *place = found.unwrap_or(*place);
+        let observes = self.is_observed_by(observer, ring, found, subject);
+        (found.is_some(), observes)
     }
 
     fn may_observe(&self, process: &Process) -> bool {

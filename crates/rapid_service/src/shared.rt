@@ -222,7 +222,7 @@ impl<R: Wait + Copy + Drop, P: Post + Drop> Shared<R, P> {
     pub fn receive<W: Wait>(&self, rt: &W, message: Message) -> Result<(), RunningFault> {
         if let Body::ProbeAck(_) = message.body() {
             // before the lock of the service, so that a long step does not make a peer seem silent
-            self.ack(rt, &message.sender());
+            self.ack(rt, message.sender());
         }
         let mut service = self.service.lock(rt);
         let done = service.receive(message);

@@ -37,7 +37,7 @@ impl MemberState {
         ensures { OnOk result (out.new.items ≡ out.old.items ++ outputs self.now.me (flat_map (λ k. member.leave_to self.now k ((observers_of self.now.config).observer k self.now.me)) (ring ∷ []))) }
     {
         let me = self.me();
-        let Some(observer) = self.context.rings.observer(ring, &me) else {
+        let Some(observer) = self.context.rings.observer(ring, me) else {
             return Ok(());
         };
         let id = self.configuration().id();
@@ -60,7 +60,7 @@ impl MemberState {
         ensures { alert_of result ≡ member.removal_of self.now process.now ring }
     {
         Alert {
-            observer: self.me(),
+            observer: *self.me(),
             subject: *process,
             ring,
             kind: Kind::Remove,

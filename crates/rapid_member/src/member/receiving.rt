@@ -187,8 +187,7 @@ impl MemberState {
         ensures decided { IfOk result (λ d. d ≡ (receive.receive_as_member decisions.now self.old message.now.sender message.now.body).decided) }
         ensures same { IsSameMember self.old self.new }
     {
-        let from = message.sender();
-        self.receive_from(out, decisions, &from, message.body())
+        self.receive_from(out, decisions, message.sender(), message.body())
     }
 
     /// What a process that can say this says to a member.

@@ -4,6 +4,7 @@ ghost use Rattle.std.specs.Prelude.{◌≡◌, ◌++◌, All, map, filter, flat_
 ghost use Rattle.rapid_model.specs.Configuration.{configuration_id};
 ghost use Rattle.rapid_model.specs.Ring.{observers_of, observes};
 ghost use Rattle.rapid_model.specs.Node.{outputs};
+ghost use Rattle.rapid_model.specs.Coordinator.{next_ballot};
 ghost use Rattle.rapid_model.specs.Member as member;
 ghost use Rattle.rapid_model.specs.Outbox as outbox;
 ghost use Rattle.rapid_model.specs.Tick as tick;
@@ -43,7 +44,7 @@ impl MemberState {
             Kind::Join
         };
         Alert {
-            observer: self.me(),
+            observer: *self.me(),
             subject: *process,
             ring,
             kind,
@@ -55,7 +56,7 @@ impl MemberState {
     fn observes(&self, ring: u8, process: &Process) -> bool
         ensures { result ≡ observes (observers_of self.now.config) self.now.me ring process.now }
     {
-        self.context.rings.observer(ring, process) == Some(self.me())
+        self.context.rings.observer(ring, process) == Some(*self.me())
     }
 
     /// One tick more, up to the greatest number.
@@ -261,12 +262,24 @@ impl MemberState {
         if !self.is_due() {
             return Ok(None);
         }
+        self.begin_ballot(out)
+    }
+
+    /// Begins a ballot: the Prepare goes out and is taken. It stands apart: room for a process takes
+    /// time at each call of the function that has it, and a ballot is seldom due.
+    #[inline(never)]
+    fn begin_ballot(&mut self, out: &mut Vec<Output>) -> Result<Option<Cut>, AllocError>
+        ensures state { OnOk result (self.new ≡ (tick.begin_at self.old (next_ballot self.old.coordinator self.old.acceptor.rnd)).state) }
+        ensures out { OnOk result (out.new.items ≡ out.old.items ++ outputs self.old.me (tick.begin_at self.old (next_ballot self.old.coordinator self.old.acceptor.rnd)).effects) }
+        ensures decided { IfOk result (λ d. d ≡ (tick.begin_at self.old (next_ballot self.old.coordinator self.old.acceptor.rnd)).decided) }
+        ensures same { IsSameMember self.old self.new }
+    {
         let Some(ballot) = self.begin()? else {
             return Ok(None);
         };
         let id = self.configuration().id();
         say(out, self.me(), Body::Prepare(id, ballot))?;
-        let me = self.me();
+        let me = *self.me();
         self.take_prepare(out, &me, ballot)
     }
 

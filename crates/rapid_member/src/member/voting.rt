@@ -204,7 +204,7 @@ impl MemberState {
             return Ok(None);
         };
         // its own promise needs no message
-        if *from == self.me() {
+        if *from == *self.me() {
             let place = self.place();
             return self.take_promise(out, place, &promise);
         }

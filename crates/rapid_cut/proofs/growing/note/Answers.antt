@@ -7,7 +7,7 @@ use Rattle.rapid_cut.proofs.growing.note.Goals as goal
 
 pub returns-clause-more : goal.returns-clause-more
 returns-clause-more c part x =
-    let a = c.args.added in
+    let a : Added = record { subject = c.args.subject.now; rings = c.args.rings } in
     let xs = c.args.others.now.items in
     elim c.match-last.branch [
       | in-Some+in_ok-push w ↦

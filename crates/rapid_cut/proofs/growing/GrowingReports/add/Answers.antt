@@ -16,17 +16,17 @@ pub returns-clause-before : goal.returns-clause-before
 returns-clause-before c =
     let r = c.args.self.now.reports in
     let s = c.args.subject.now in
-    let a : Added = record { subject = s; rings = c.without.result } in
+    let a : Added = record { subject = s; rings = c.without-added.result } in
     let xs = all_added c.args.self.now.last c.args.self.now.others.items in
     let ys = all_added c.note_joined.new.last c.note_joined.new.others.items in
     λ i. record {
       direct =
           without_more (λ m. m.direct) r.direct c.put.new.self.direct xs ys a c.args.rings.direct c.in_ok-note_joined.ensures.direct
-          (new_for s r.direct c.args.so_far.direct c.args.rings.direct c.without.result.direct c.requires.direct c.without.ensures.direct)
+          (new_for s r.direct c.args.so_far.direct c.args.rings.direct c.without-added.result.direct c.requires.direct c.without-added.ensures.direct)
           (puts_adds s r.direct c.put.new.self.direct c.args.so_far.direct c.args.rings.direct c.with.result.direct c.requires.direct c.with.ensures.direct c.in_ok-put.ensures.direct) i;
       all =
           without_more (λ m. m.all) r.all c.put.new.self.all xs ys a c.args.rings.all c.in_ok-note_joined.ensures.all
-          (new_for s r.all c.args.so_far.all c.args.rings.all c.without.result.all c.requires.all c.without.ensures.all)
+          (new_for s r.all c.args.so_far.all c.args.rings.all c.without-added.result.all c.requires.all c.without-added.ensures.all)
           (puts_adds s r.all c.put.new.self.all c.args.so_far.all c.args.rings.all c.with.result.all c.requires.all c.with.ensures.all c.in_ok-put.ensures.all) i;
     }
 
@@ -34,15 +34,15 @@ pub returns-in_err-put-clause-before : goal.returns-in_err-put-clause-before
 returns-in_err-put-clause-before c =
     let r = c.args.self.now.reports in
     let s = c.args.subject.now in
-    let a : Added = record { subject = s; rings = c.without.result } in
+    let a : Added = record { subject = s; rings = c.without-added.result } in
     let xs = all_added c.args.self.now.last c.args.self.now.others.items in
     let ys = all_added c.note_joined.new.last c.note_joined.new.others.items in
     ap (λ k. without_all k ys) c.in_err-put.ensures.unchanged
     ∙ (λ i. record {
       direct =
           without_noted (λ m. m.direct) r.direct xs ys a c.args.rings.direct c.in_ok-note_joined.ensures.direct
-          (new_for s r.direct c.args.so_far.direct c.args.rings.direct c.without.result.direct c.requires.direct c.without.ensures.direct) i;
+          (new_for s r.direct c.args.so_far.direct c.args.rings.direct c.without-added.result.direct c.requires.direct c.without-added.ensures.direct) i;
       all =
           without_noted (λ m. m.all) r.all xs ys a c.args.rings.all c.in_ok-note_joined.ensures.all
-          (new_for s r.all c.args.so_far.all c.args.rings.all c.without.result.all c.requires.all c.without.ensures.all) i;
+          (new_for s r.all c.args.so_far.all c.args.rings.all c.without-added.result.all c.requires.all c.without-added.ensures.all) i;
     })

@@ -49,7 +49,7 @@ mapped c =
     let s = c.args.subject.now in
     c.unwrap_or.ensures
     ∙ ap (λ (o : Option Masks). unwrap_or o none)
-    (c.copied.ensures ∙ c.get.ensures.value ∙ ap (λ (p : Process). masks_at c.self.inside.many.entries p) c.new.ensures
+    (c.masks_in.ensures
     ∙ sym (past c.self.inside.few.items s c.self.inside.many.entries (ap (λ es. masks_at es s) (sym c.as_slice.ensures.value) ∙ c.in_default.ensures.none)))
 
 pub returns-clause-direct : goal.returns-clause-direct

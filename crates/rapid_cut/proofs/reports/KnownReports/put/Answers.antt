@@ -37,58 +37,56 @@ returns-in-Some-clause-all c =
     known_all c.args.self.now (c.self.inside.few.items ++ c.self.inside.many.entries) (set c.self.inside.few.items c.in-Some.place (c.index_mut.result.now.0, c.args.masks) ++ c.self.inside.many.entries)
     c.args.subject.now c.args.masks (ap (λ (r : Known). r.all) c.self.view_is) (in_list c)
 
-in_map : (c : goal.In_ok-insert) → Puts (c.self.inside.few.items ++ c.self.inside.many.entries) (c.self.inside.few.items ++ c.insert.new.self.entries) c.args.subject.now c.args.masks
+in_map : (c : goal.In_ok-put_in) → Puts (c.self.inside.few.items ++ c.self.inside.many.entries) (c.self.inside.few.items ++ c.put_in.new.map.entries) c.args.subject.now c.args.masks
 in_map c =
     let es = c.self.inside.few.items in
     let s = c.args.subject.now in
     let ys = c.self.inside.many.entries in
-    behind es s c.args.masks ys c.insert.new.self.entries (ap (λ xs. masks_at xs s) (sym c.as_slice.ensures.value) ∙ c.in_default.ensures.none)
-    (λ q. c.in_ok-insert.ensures.updates.0 q ∙ ap (λ (p : Process). cond (same_bytes p q) (Some c.args.masks) (masks_at ys q)) c.new.ensures)
+    behind es s c.args.masks ys c.put_in.new.map.entries (ap (λ xs. masks_at xs s) (sym c.as_slice.ensures.value) ∙ c.in_default.ensures.none)
+    (λ q. c.in_ok-put_in.ensures.put q)
 
 pub returns-then-not-is_empty-clause-direct : goal.returns-then-not-is_empty-clause-direct
 returns-then-not-is_empty-clause-direct c =
-    known_direct c.args.self.now (c.self.inside.few.items ++ c.self.inside.many.entries) (c.self.inside.few.items ++ c.insert.new.self.entries)
+    known_direct c.args.self.now (c.self.inside.few.items ++ c.self.inside.many.entries) (c.self.inside.few.items ++ c.put_in.new.map.entries)
     c.args.subject.now c.args.masks (ap (λ (r : Known). r.direct) c.self.view_is) (in_map c)
 
 pub returns-then-not-is_empty-clause-all : goal.returns-then-not-is_empty-clause-all
 returns-then-not-is_empty-clause-all c =
-    known_all c.args.self.now (c.self.inside.few.items ++ c.self.inside.many.entries) (c.self.inside.few.items ++ c.insert.new.self.entries)
+    known_all c.args.self.now (c.self.inside.few.items ++ c.self.inside.many.entries) (c.self.inside.few.items ++ c.put_in.new.map.entries)
     c.args.subject.now c.args.masks (ap (λ (r : Known). r.all) c.self.view_is) (in_map c)
 
-at_end : (c : goal.In_ok-push) → Puts (c.self.inside.few.items ++ c.self.inside.many.entries) (c.push.new.self.items ++ c.self.inside.many.entries) c.args.subject.now c.args.masks
+at_end : (c : goal.In_ok-push_to) → Puts (c.self.inside.few.items ++ c.self.inside.many.entries) (c.push_to.new.entries.items ++ c.self.inside.many.entries) c.args.subject.now c.args.masks
 at_end c q =
     let es = c.self.inside.few.items in
     let s = c.args.subject.now in
     let ys = c.self.inside.many.entries in
-    ap (λ xs. masks_at (xs ++ ys) q) c.in_ok-push.ensures.items ∙ pushed_before es s c.args.masks ys (ap (λ xs. masks_at xs s) (sym c.as_slice.ensures.value) ∙ c.in_default.ensures.none) q
+    ap (λ xs. masks_at (xs ++ ys) q) c.in_ok-push_to.ensures.pushed ∙ pushed_before es s c.args.masks ys (ap (λ xs. masks_at xs s) (sym c.as_slice.ensures.value) ∙ c.in_default.ensures.none) q
 
 pub returns-then-len-lt-FEW-clause-direct : goal.returns-then-len-lt-FEW-clause-direct
 returns-then-len-lt-FEW-clause-direct c =
-    known_direct c.args.self.now (c.self.inside.few.items ++ c.self.inside.many.entries) (c.push.new.self.items ++ c.self.inside.many.entries)
+    known_direct c.args.self.now (c.self.inside.few.items ++ c.self.inside.many.entries) (c.push_to.new.entries.items ++ c.self.inside.many.entries)
     c.args.subject.now c.args.masks (ap (λ (r : Known). r.direct) c.self.view_is) (at_end c)
 
 pub returns-then-len-lt-FEW-clause-all : goal.returns-then-len-lt-FEW-clause-all
 returns-then-len-lt-FEW-clause-all c =
-    known_all c.args.self.now (c.self.inside.few.items ++ c.self.inside.many.entries) (c.push.new.self.items ++ c.self.inside.many.entries)
+    known_all c.args.self.now (c.self.inside.few.items ++ c.self.inside.many.entries) (c.push_to.new.entries.items ++ c.self.inside.many.entries)
     c.args.subject.now c.args.masks (ap (λ (r : Known). r.all) c.self.view_is) (at_end c)
 
-moved : (c : goal.After-clear) → Puts (c.self.inside.few.items ++ c.self.inside.many.entries) (c.clear.new.self.items ++ c.insert-2.new.self.entries) c.args.subject.now c.args.masks
+moved : (c : goal.After-clear) → Puts (c.self.inside.few.items ++ c.self.inside.many.entries) (c.clear.new.self.items ++ c.put_in-2.new.map.entries) c.args.subject.now c.args.masks
 moved c q =
     let es = c.self.inside.few.items in
     let ys = c.self.inside.many.entries in
     let m = c.args.masks in
-    let ms = c.in_ok-many.many.entries in
-    ap (λ xs. masks_at (xs ++ c.insert-2.new.self.entries) q) c.clear.ensures.items ∙ c.in_ok-insert-2.ensures.updates.0 q
-    ∙ ap (λ (p : Process). cond (same_bytes p q) (Some m) (masks_at ms q)) c.new-2.ensures
+    ap (λ xs. masks_at (xs ++ c.put_in-2.new.map.entries) q) c.clear.ensures.items ∙ c.in_ok-put_in-2.ensures.put q
     ∙ ap (λ o. cond (same_bytes c.args.subject.now q) (Some m) o)
     (c.in_ok-many.ensures q ∙ ap (λ xs. masks_at xs q) c.as_slice-2.ensures.value ∙ alone es ys (c.is_empty.ensures.0 c.if-not-is_empty.false) q)
 
 pub returns-clause-direct : goal.returns-clause-direct
 returns-clause-direct c =
-    known_direct c.args.self.now (c.self.inside.few.items ++ c.self.inside.many.entries) (c.clear.new.self.items ++ c.insert-2.new.self.entries)
+    known_direct c.args.self.now (c.self.inside.few.items ++ c.self.inside.many.entries) (c.clear.new.self.items ++ c.put_in-2.new.map.entries)
     c.args.subject.now c.args.masks (ap (λ (r : Known). r.direct) c.self.view_is) (moved c)
 
 pub returns-clause-all : goal.returns-clause-all
 returns-clause-all c =
-    known_all c.args.self.now (c.self.inside.few.items ++ c.self.inside.many.entries) (c.clear.new.self.items ++ c.insert-2.new.self.entries)
+    known_all c.args.self.now (c.self.inside.few.items ++ c.self.inside.many.entries) (c.clear.new.self.items ++ c.put_in-2.new.map.entries)
     c.args.subject.now c.args.masks (ap (λ (r : Known). r.all) c.self.view_is) (moved c)

@@ -10,6 +10,6 @@ pub returns-in-Reply-clause-ok : goal.returns-in-Reply-clause-ok
 unfolding receive_as_joiner
 returns-in-Reply-clause-ok c =
     subst
-    (λ (b : Body). OnOk c.joiner_reply.result (Continues c.args.self.now.me (Some (receive_as_joiner (in_phase c.args.self.now (Joining c.args.joiner.joiner)) c.args.joiner.joiner b)) c.joiner_reply.new.self c.args.out.now.items c.joiner_reply.new.out.items))
+    (λ (b : Body). OnOk c.joiner_reply.result (Continues c.args.self.now.me (Some (receive_as_joiner (in_phase c.args.self.now (Joining c.args.joiner.value.joiner)) c.args.joiner.value.joiner b)) c.joiner_reply.new.self c.args.out.now.items c.joiner_reply.new.out.items))
     (ap body_of (sym c.in-Reply.is) ∙ c.body.ensures.value)
     c.joiner_reply.ensures.ok
