@@ -3,7 +3,7 @@
 ghost use Rattle.std.specs.Prelude.{◌≡◌, ◌+◌, ◌<◌, ◌≤◌, ◌++◌, [], ℕ, max, min, None, Ok, IfOk, IfErr, IfSome, OnOk};
 ghost use Rattle.std.specs.Thread.{IsSync};
 ghost use Rattle.rapid_model.specs.Limits.{most_probers, most_waiting_views};
-ghost use Rattle.rapid_model.specs.Process.{endpoint};
+ghost use Rattle.rapid_model.specs.Process.{endpoint, tags_bytes_of};
 ghost use Rattle.rapid_desk.specs.Desks.{NotSubscribed, joiner_state};
 ghost use Rattle.rapid_signals.specs.declared.fault.RunningFault.TheVariants.{NoIdentifier};
 ghost use Rattle.rapid_agent.specs.Opening.{IsOpenedBy, opening_state};
@@ -12,7 +12,7 @@ use crate::arrivals::Arrivals;
 use crate::posts::Posts;
 use rapid_config::Params;
 use rapid_desk::DeskError;
-use rapid_endpoint::{Endpoint, Process, ProcessId};
+use rapid_endpoint::{Endpoint, Process, ProcessId, Tags};
 use rapid_node::Phase;
 use rapid_options::NodeOptions;
 use rapid_service::{RunningFault, Service, Shared, identify, run_prober, run_ticker};
@@ -82,21 +82,24 @@ fn posts(peers: &Arc<Peers>) -> Result<Posts, AllocError> {
     })
 }
 
-/// The process at this endpoint, with the identifier that is given, or else with one that is drawn.
+/// The process of these tags at this endpoint, with the identifier that is given, or else with one
+/// that is drawn.
 fn process_at<S: RandomSource>(
     at: Endpoint,
     given: Option<ProcessId>,
+    tags: Tags,
     source: &S,
 ) -> Result<Process, RunningFault>
     ensures there { IfOk result (λ me. endpoint me ≡ at) }
-    ensures given { IfSome given (λ id. result ≡ Ok (id ++ at)) }
+    ensures tagged { IfOk result (λ me. tags_bytes_of me ≡ tags) }
+    ensures given { IfSome given (λ id. result ≡ Ok (id ++ at ++ tags)) }
     ensures fault { IfErr result (λ e. e ≡ NoIdentifier) }
 {
     let id = identify(given, source)?;
-    let me = Process::new(id, at);
-    // how long both are tells where the endpoint begins
+    let me = Process::of(id, at, tags);
+    // how long these are tells where the endpoint begins
     id.tell();
-    me.tell();
+    at.tell();
     Ok(me)
 }
 
@@ -176,7 +179,7 @@ impl<'a, W: Wait> Agent<'a, W> {
         S: RandomSource,
         ensures { IfOk result (λ agent. IsOpenedBy options.now agent.endpoint agent.period agent.probers agent.shared.probers) }
     {
-        let me = process_at(options.listen, options.id, source)?;
+        let me = process_at(options.listen, options.id, options.tags, source)?;
         let (peers, ends) = listen(rt, alloc, options.listen)?;
         let probers = options.probers.min(MOST_PROBERS);
         let shared = open_shared(rt, alloc, options, me, posts(&peers)?, probers)?;
@@ -199,7 +202,7 @@ impl<'a, W: Wait> Agent<'a, W> {
         &self.shared
     }
 
-    /// The process that this is: its identifier and its endpoint.
+    /// The process that this is: its identifier, its endpoint and its tags.
     pub fn process(&self) -> Process {
         self.shared.process(self.rt)
     }
@@ -262,9 +265,9 @@ impl<'a, W: Wait> Agent<'a, W> {
     }
 
     /// A member that was removed asks the one at this endpoint to let it in as another process. The
-    /// new process is behind the same listener, and its identifier is drawn from the source. Its
-    /// subscriptions have ended, and its seats are at the views before. The answer is whether it
-    /// asks: it does not if it was not removed, or has ended.
+    /// new process is behind the same listener and has the same tags, and its identifier is drawn
+    /// from the source. Its subscriptions have ended, and its seats are at the views before. The
+    /// answer is whether it asks: it does not if it was not removed, or has ended.
     ///
     /// # Errors
     ///
@@ -290,7 +293,8 @@ impl<'a, W: Wait> Agent<'a, W> {
     ) -> Result<Service<&'a W, Posts>, RunningFault>
         ensures { IfOk result (λ s. (s.desk.state ≡ joiner_state s.me seed) × (endpoint s.me ≡ self.now.endpoint)) }
     {
-        let me = process_at(self.endpoint, None, source)?;
+        let tags = *self.process().tags();
+        let me = process_at(self.endpoint, None, tags, source)?;
         Service::join(self.rt, self.alloc, me, seed, posts(&self.peers)?)
     }
 

@@ -18,7 +18,7 @@ pub fn vote(alloc: Global, sender: Process, id: ConfigId, last: u16) -> Result<M
 fn put_removals(frame: &mut Vec<u8>, subjects: &[(u8, Process)]) -> Result<()> {
     for (ring, subject) in subjects {
         frame.extend_from_slice(&[*ring, 1])?;
-        frame.extend_from_slice(&subject.to_bytes())?;
+        subject.append_to(frame)?;
     }
     Ok(())
 }
@@ -35,14 +35,15 @@ fn batch_frame(
         bail!("a batch has at most 2,048 alerts");
     }
     let count = subjects.len() as u16;
-    let length = 58 + 24 * u32::from(count);
+    let mut rest = Vec::new(alloc);
+    rest.extend_from_slice(&[2, 1])?;
+    observer.append_to(&mut rest)?;
+    rest.extend_from_slice(&id.bytes())?;
+    rest.extend_from_slice(&count.to_be_bytes())?;
+    put_removals(&mut rest, subjects)?;
     let mut frame = Vec::new(alloc);
-    frame.extend_from_slice(&length.to_be_bytes())?;
-    frame.extend_from_slice(&[1, 1])?;
-    frame.extend_from_slice(&observer.to_bytes())?;
-    frame.extend_from_slice(&id.bytes())?;
-    frame.extend_from_slice(&count.to_be_bytes())?;
-    put_removals(&mut frame, subjects)?;
+    frame.extend_from_slice(&u32::try_from(rest.len())?.to_be_bytes())?;
+    frame.extend_from_slice(rest.as_slice())?;
     Ok(frame)
 }
 

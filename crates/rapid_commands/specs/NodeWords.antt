@@ -33,7 +33,7 @@ pub record AreUnfit (rows : List Row) : Type 0 where
   pub h : number_in rows (codes "h") ≡ Some params.h
   pub l : number_in rows (codes "l") ≡ Some params.l
   pub listens : first_of (codes "listen") rows ≡ Some listen
-  pub refused : IsRefusal params listen (first_of (codes "join") rows) (first_of (codes "id") rows) error
+  pub refused : IsRefusal params listen (first_of (codes "join") rows) (first_of (codes "id") rows) (first_of (codes "tags") rows) error
 
 -- No node can be as its options say.
 abbrev pub CannotBe : List Row → Type 0

@@ -36,6 +36,7 @@ fn words_of<'a>(words: &ArgMatches<'a>) -> Option<NodeWords<'a>>
     ensures listen { IfSome result (λ w. first_of (codes "listen") (rows_of (found_of words.now)) ≡ Some w.listen.now) }
     ensures join { IfSome result (λ w. first_of (codes "join") (rows_of (found_of words.now)) ≡ option_map (λ t. t.now) w.join) }
     ensures id { IfSome result (λ w. first_of (codes "id") (rows_of (found_of words.now)) ≡ option_map (λ t. t.now) w.id) }
+    ensures tags { IfSome result (λ w. first_of (codes "tags") (rows_of (found_of words.now)) ≡ option_map (λ t. t.now) w.tags) }
     ensures k { IfSome result (λ w. number_in (rows_of (found_of words.now)) (codes "k") ≡ Some w.k) }
     ensures h { IfSome result (λ w. number_in (rows_of (found_of words.now)) (codes "h") ≡ Some w.h) }
     ensures l { IfSome result (λ w. number_in (rows_of (found_of words.now)) (codes "l") ≡ Some w.l) }
@@ -46,6 +47,7 @@ fn words_of<'a>(words: &ArgMatches<'a>) -> Option<NodeWords<'a>>
     Some(NodeWords {
         listen: words.get_str("listen")?,
         id: words.get_str("id"),
+        tags: words.get_str("tags"),
         join: words.get_str("join"),
         k: words.get_one::<u8>("k")?,
         h: words.get_one::<u8>("h")?,

@@ -2,8 +2,10 @@
 -- The errors of configurations and cuts, and the faults that they report.
 use Rattle.std.specs.Prelude.{◌≡◌, ℕ, Option, Some, None, ◌⊎◌}
 use Rattle.rapid_model.specs.Reading as fault
+use Rattle.rapid_endpoint.specs.declared.read_error.ReadError.{ReadError}
+use Rattle.rapid_endpoint.specs.declared.read_error.ReadError.TheVariants as read
 use Rattle.rapid_config.specs.declared.error.ConfigError.{ConfigError}
-use Rattle.rapid_config.specs.declared.error.ConfigError.TheVariants.{BadParams, Truncated, Trailing, BadMagic, NotSorted, EndpointTwice, TooMany, EmptyCut, HeightFull, OutOfMemory}
+use Rattle.rapid_config.specs.declared.error.ConfigError.TheVariants.{BadParams, Truncated, Trailing, BadMagic, NotSorted, EndpointTwice, TooMany, EmptyCut, HeightFull, BadTags, OutOfMemory}
 
 -- The number of an error.
 abbrev pub code_of : ConfigError → ℕ
@@ -16,7 +18,13 @@ code_of EndpointTwice = 6
 code_of TooMany = 7
 code_of EmptyCut = 8
 code_of HeightFull = 9
+code_of BadTags = 10
 code_of OutOfMemory = 99
+
+-- The error of a configuration for one of a process that is read.
+abbrev pub error_of_read : ReadError → ConfigError
+error_of_read read.Truncated = Truncated
+error_of_read read.BadTags = BadTags
 
 -- The error reports exactly this fault. Out of memory may stand for what holds of `Unseen`: no fault, or one that is
 -- looked for only once memory was asked for.
@@ -30,6 +38,7 @@ ReportsUnless Unseen f EndpointTwice = f ≡ Some fault.EndpointTwice
 ReportsUnless Unseen f TooMany = f ≡ Some fault.TooMany
 ReportsUnless Unseen f EmptyCut = f ≡ Some fault.EmptyCut
 ReportsUnless Unseen f HeightFull = ⊥
+ReportsUnless Unseen f BadTags = f ≡ Some fault.BadTags
 ReportsUnless Unseen f OutOfMemory = Unseen f
 
 -- Of a cut: all is looked at before memory is asked for.
@@ -40,6 +49,7 @@ Reports f e = ReportsUnless (λ g. g ≡ None) f e
 abbrev pub ReportsOfFounders : Option fault.ConfigurationFault → ConfigError → Type 0
 ReportsOfFounders f e = ReportsUnless (λ g. (g ≡ None) ⊎ (g ≡ Some fault.EndpointTwice)) f e
 
--- Of bytes: the head and the length are looked at first, and the members once they are read into memory.
+-- Of bytes: the head, and whether members can be read from all that follows, are looked at first. Then the members are
+-- read into memory, and compared.
 abbrev pub ReportsOfBytes : Option fault.ConfigurationFault → ConfigError → Type 0
 ReportsOfBytes f e = ReportsUnless (λ g. (g ≡ None) ⊎ ((g ≡ Some fault.NotSorted) ⊎ (g ≡ Some fault.EndpointTwice))) f e

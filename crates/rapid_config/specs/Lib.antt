@@ -1,2 +1,3 @@
-pub mod Faults
 pub mod Endpoints
+pub mod Ends
+pub mod Faults

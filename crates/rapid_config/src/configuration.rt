@@ -98,11 +98,12 @@ impl Configuration {
     }
 
     /// The configuration in these bytes. The error is the first that holds. `Truncated` below 4
-    /// bytes, `BadMagic` if they do not begin with `RPC1`, `Truncated` below 49 bytes. `BadParams`
-    /// if K, H and L are not in order. `TooMany` if they announce more than 1,024 members.
-    /// `Truncated` or `Trailing` if there are fewer or more bytes than these members have.
-    /// `NotSorted` if their identifiers do not strictly ascend. `EndpointTwice` if two have one
-    /// endpoint. `OutOfMemory` comes only if none of those before `NotSorted` holds.
+    /// bytes, `BadMagic` if they do not begin with `RPC2`, `Truncated` below 49 bytes. `BadParams`
+    /// if K, H and L are not in order. `TooMany` if they announce more than 1,024 members. Then the
+    /// members are read from the left: `Truncated` or `BadTags`, whichever is met first. `Trailing`
+    /// if bytes are left over. `NotSorted` if their identifiers do not strictly ascend.
+    /// `EndpointTwice` if two have one endpoint. `OutOfMemory` comes only if none of those before
+    /// `NotSorted` holds.
     pub fn from_bytes(alloc: Global, bytes: &[u8]) -> Result<Configuration, ConfigError>
         ensures value { IfOk result (λ c. c ≡ configuration_in bytes.now) }
         ensures valid { IfOk result IsConfiguration }

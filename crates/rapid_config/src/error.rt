@@ -2,7 +2,9 @@
 
 ghost use Rattle.std.specs.Prelude.{◌≡◌};
 ghost use Rattle.rapid_config.specs.declared.error.ConfigError.TheVariants.{OutOfMemory};
+ghost use Rattle.rapid_config.specs.Faults.{error_of_read};
 
+use rapid_endpoint::ReadError;
 use std::alloc::{AllocError, AllocFailed};
 use thiserror::Error;
 
@@ -36,6 +38,9 @@ pub enum ConfigError {
     /// The height has reached its last value.
     #[error("the height has reached its last value")]
     HeightFull,
+    /// A member has wrong tags.
+    #[error("a member has wrong tags")]
+    BadTags,
     /// There was no memory.
     #[error("out of memory")]
     OutOfMemory,
@@ -58,6 +63,7 @@ impl ConfigError {
             ConfigError::TooMany => 7,
             ConfigError::EmptyCut => 8,
             ConfigError::HeightFull => 9,
+            ConfigError::BadTags => 10,
             ConfigError::OutOfMemory => 99,
         }
     }
@@ -76,5 +82,16 @@ impl<T: Drop> From<AllocFailed<T>> for ConfigError {
 
     fn from(_error: AllocFailed<T>) -> ConfigError {
         ConfigError::OutOfMemory
+    }
+}
+
+impl From<ReadError> for ConfigError {
+    ghost from_gives = { λ r e. e ≡ error_of_read r };
+
+    fn from(error: ReadError) -> ConfigError {
+        match error {
+            ReadError::Truncated => ConfigError::Truncated,
+            ReadError::BadTags => ConfigError::BadTags,
+        }
     }
 }

@@ -1,17 +1,19 @@
 // Configurations in bytes.
 
-ghost use Rattle.std.specs.Prelude.{◌≡◌, ◌≢◌, ◌+◌, ◌*◌, ◌≤◌, None, length, take, drop, IfOk, IfErr, OnOk};
+ghost use Rattle.std.specs.Prelude.{◌≡◌, ◌≢◌, ◌+◌, ◌≤◌, None, length, take, drop, IfOk, IfErr, OnOk};
 ghost use Rattle.std.specs.Arc.{arc_slice_items};
-ghost use Rattle.rapid_model.specs.Process.{same_bytes};
+ghost use Rattle.rapid_model.specs.Process.{same_bytes, process_at};
 ghost use Rattle.rapid_model.specs.Configuration.{magic, AreMembers};
-ghost use Rattle.rapid_model.specs.Reading.{params_in, count_in, configuration_in, processes_in, members_fault, bytes_fault};
+ghost use Rattle.rapid_model.specs.Reading.{params_in, count_in, configuration_in, processes_at, read_in, read_fault, members_fault, bytes_fault};
 ghost use Rattle.rapid_model.specs.Limits.{most_members};
+ghost use Rattle.rapid_endpoint.specs.ReadErrors.{Gives};
+ghost use Rattle.rapid_config.specs.Ends.{EndsAt, AreAll};
 ghost use Rattle.rapid_config.specs.Faults.{ReportsOfBytes};
 
 use crate::members::{MOST_MEMBERS, check_members};
-use crate::spelling::{HEAD_BYTES, MAGIC, MEMBER_BYTES};
+use crate::spelling::{HEAD_BYTES, MAGIC};
 use crate::{ConfigError, Params};
-use rapid_endpoint::Process;
+use rapid_endpoint::{Process, ReadError};
 use std::alloc::{AllocError, Global};
 use std::sync::ArcSlice;
 
@@ -36,14 +38,13 @@ fn has_magic(bytes: &[u8]) -> bool
     first == MAGIC
 }
 
-/// The parameters in the bytes, and the number of members that they announce. An error if the bytes
-/// are not as many as they have to be.
-pub(crate) fn check_head(bytes: &[u8]) -> Result<(Params, usize), ConfigError>
+/// The parameters in the bytes, and the number of members that they announce.
+fn read_head(bytes: &[u8]) -> Result<(Params, usize), ConfigError>
     ensures params { IfOk result (λ r. r.0 ≡ params_in bytes.now) }
     ensures count { IfOk result (λ r. r.1 ≡ count_in bytes.now) }
     ensures few { IfOk result (λ r. r.1 ≤ most_members) }
-    ensures length { IfOk result (λ r. length bytes.now ≡ 49 + 22 * r.1) }
-    ensures fault { IfOk result (λ r. bytes_fault bytes.now ≡ members_fault (configuration_in bytes.now).members) }
+    ensures long { OnOk result (49 ≤ length bytes.now) }
+    ensures fault { OnOk result (bytes_fault bytes.now ≡ read_fault (processes_at (count_in bytes.now) (drop 49 bytes.now))) }
     ensures refused { IfErr result (ReportsOfBytes (bytes_fault bytes.now)) }
     ensures no_memory { IfErr result (λ e. e ≢ ConfigError.OutOfMemory) }
 {
@@ -61,36 +62,79 @@ pub(crate) fn check_head(bytes: &[u8]) -> Result<(Params, usize), ConfigError>
     if count > MOST_MEMBERS {
         return Err(ConfigError::TooMany);
     }
-    let length = HEAD_BYTES + MEMBER_BYTES * count;
-    if bytes.len() < length {
-        return Err(ConfigError::Truncated);
-    }
-    if bytes.len() > length {
-        return Err(ConfigError::Trailing);
-    }
     Ok((params, count))
 }
 
-/// The member from a place on.
-fn member_at(bytes: &[u8], at: usize) -> Process
-    requires { at + 22 ≤ length bytes.now }
-    ensures { result ≡ take 22 (drop at bytes.now) }
+/// The process from a place on, and the place behind it.
+fn process_from(bytes: &[u8], at: usize) -> Result<(Process, usize), ReadError>
+    requires { at ≤ length bytes.now }
+    ensures read { Gives (λ r. (r.0, drop r.1 bytes.now)) result (process_at (drop at bytes.now)) }
+    ensures within { IfOk result (λ r. r.1 ≤ length bytes.now) }
 {
-    let rest = &bytes[at..];
-    match Process::read(rest) {
-        Some((member, _used)) => member,
-        None => unreachable!(),
+    match Process::read(&bytes[at..]) {
+        Ok((process, length)) => Ok((process, at + length)),
+        Err(error) => Err(error),
     }
 }
 
-/// The members in the bytes, one after another.
+/// The place behind this many processes, which begin behind the head.
+fn end_of_members(count: usize, bytes: &[u8]) -> Result<usize, ReadError>
+    requires { 49 ≤ length bytes.now }
+    ensures { EndsAt bytes.now result (processes_at count (drop 49 bytes.now)) }
+{
+    let mut at = HEAD_BYTES;
+    for _ in 0..count {
+        let (_member, next) = process_from(bytes, at)?;
+        at = next;
+    }
+    Ok(at)
+}
+
+/// Whether this many members are all that stands behind the head.
+fn check_end(count: usize, bytes: &[u8]) -> Result<(), ConfigError>
+    requires { 49 ≤ length bytes.now }
+    ensures all { OnOk result (AreAll (processes_at count (drop 49 bytes.now))) }
+    ensures refused { IfErr result (ReportsOfBytes (read_fault (processes_at count (drop 49 bytes.now)))) }
+    ensures no_memory { IfErr result (λ e. e ≢ ConfigError.OutOfMemory) }
+{
+    match end_of_members(count, bytes) {
+        Ok(end) if end < bytes.len() => Err(ConfigError::Trailing),
+        Ok(_end) => Ok(()),
+        Err(error) => Err(ConfigError::from(error)),
+    }
+}
+
+/// The parameters in the bytes, and the number of members that they announce. An error if members
+/// cannot be read, or are not all that follows.
+pub(crate) fn check_head(bytes: &[u8]) -> Result<(Params, usize), ConfigError>
+    ensures params { IfOk result (λ r. r.0 ≡ params_in bytes.now) }
+    ensures count { IfOk result (λ r. r.1 ≡ count_in bytes.now) }
+    ensures few { IfOk result (λ r. r.1 ≤ most_members) }
+    ensures long { OnOk result (49 ≤ length bytes.now) }
+    ensures all { OnOk result (AreAll (processes_at (count_in bytes.now) (drop 49 bytes.now))) }
+    ensures fault { OnOk result (bytes_fault bytes.now ≡ members_fault (configuration_in bytes.now).members) }
+    ensures refused { IfErr result (ReportsOfBytes (bytes_fault bytes.now)) }
+    ensures no_memory { IfErr result (λ e. e ≢ ConfigError.OutOfMemory) }
+{
+    let (params, count) = read_head(bytes)?;
+    check_end(count, bytes)?;
+    Ok((params, count))
+}
+
+/// The members behind the head, one after another.
 fn read_members(alloc: Global, count: usize, bytes: &[u8]) -> Result<Vec<Process>, AllocError>
-    requires { length bytes.now ≡ 22 * count }
-    ensures { IfOk result (λ members. members.items ≡ processes_in count bytes.now) }
+    requires long { 49 ≤ length bytes.now }
+    requires all { AreAll (processes_at count (drop 49 bytes.now)) }
+    ensures { IfOk result (λ members. members.items ≡ read_in (processes_at count (drop 49 bytes.now))) }
 {
     let mut members = Vec::with_capacity(alloc, count)?;
-    for i in 0..count {
-        members.push(member_at(bytes, MEMBER_BYTES * i))?;
+    let mut at = HEAD_BYTES;
+    for _ in 0..count {
+        let Ok((member, next)) = process_from(bytes, at) else {
+            unreachable!()
+        };
+        members.push(member)?;
+        at = next;
     }
     Ok(members)
 }
@@ -103,13 +147,14 @@ pub(crate) fn members_in(
 ) -> Result<ArcSlice<Process>, ConfigError>
     requires count { count ≡ count_in bytes.now }
     requires few { count ≤ most_members }
-    requires length { length bytes.now ≡ 49 + 22 * count }
+    requires long { 49 ≤ length bytes.now }
+    requires all { AreAll (processes_at (count_in bytes.now) (drop 49 bytes.now)) }
     ensures members { IfOk result (λ members. arc_slice_items members ≡ (configuration_in bytes.now).members) }
     ensures valid { IfOk result (λ members. AreMembers (arc_slice_items members)) }
     ensures allowed { OnOk result (members_fault (configuration_in bytes.now).members ≡ None) }
     ensures refused { IfErr result (ReportsOfBytes (members_fault (configuration_in bytes.now).members)) }
 {
-    let members = read_members(alloc, count, &bytes[HEAD_BYTES..])?;
+    let members = read_members(alloc, count, bytes)?;
     check_members(alloc, members.as_slice())?;
     let shared = ArcSlice::from_vec(members)?;
     Ok(shared)

@@ -8,14 +8,14 @@ use crate::{ConfigId, Params};
 use rapid_endpoint::Process;
 use std::alloc::{AllocError, Global};
 
-/// The letters `RPC1`, with which the bytes of a configuration begin.
-pub(crate) const MAGIC: [u8; 4] = [0x52, 0x50, 0x43, 0x31];
+/// The letters `RPC2`, with which the bytes of a configuration begin.
+pub(crate) const MAGIC: [u8; 4] = [0x52, 0x50, 0x43, 0x32];
 
 /// How many bytes stand before those of the members.
 pub(crate) const HEAD_BYTES: usize = 49;
 
-/// How many bytes each member has.
-pub(crate) const MEMBER_BYTES: usize = 22;
+/// How many bytes a member without tags has.
+const LEAST_MEMBER_BYTES: usize = 23;
 
 /// The canonical bytes of the configuration of these parts.
 pub(crate) fn spell(
@@ -30,14 +30,14 @@ pub(crate) fn spell(
         (λ bytes. bytes.items ≡ configuration_bytes (record { params = params; height = height; previous = previous; members = members.now })) }
 {
     let count = members.len() as u16;
-    let mut bytes = Vec::with_capacity(alloc, HEAD_BYTES + MEMBER_BYTES * members.len())?;
+    let mut bytes = Vec::with_capacity(alloc, HEAD_BYTES + LEAST_MEMBER_BYTES * members.len())?;
     bytes.extend_from_slice(&MAGIC)?;
     bytes.extend_from_slice(&previous.bytes())?;
     bytes.extend_from_slice(&height.to_be_bytes())?;
     bytes.extend_from_slice(&[params.k(), params.h(), params.l()])?;
     bytes.extend_from_slice(&count.to_be_bytes())?;
     for member in members {
-        bytes.extend_from_slice(&member.to_bytes())?;
+        member.append_to(&mut bytes)?;
     }
     Ok(bytes)
 }

@@ -1,5 +1,7 @@
+pub mod Commas
 pub mod Fronts
 pub mod Hosts
+pub mod Keys
 pub mod Numbers
 pub mod Rooms
 pub mod Spellings

@@ -1,4 +1,6 @@
 pub mod Joined
+pub mod Keys
+pub mod OneSpelling
 pub mod ParseErrors
 pub mod ReadErrors
 pub mod Room

@@ -1,14 +1,15 @@
 //! Endpoints, identifiers, processes and tags.
 //!
-//! A process of the membership service (Rapid, USENIX ATC 2018) is an identifier of sixteen bytes
-//! and an IPv4 endpoint. Contracts see each of these as its bytes, and the order is that of the
-//! bytes. So it is with tags, which no process has yet.
+//! A process of the membership service (Rapid, USENIX ATC 2018) is an identifier of sixteen bytes,
+//! an IPv4 endpoint, and up to eight tags: words that it has of its own. Contracts see each of these
+//! as its bytes, and the order is that of the bytes.
 #![tactic(auto)]
 
 mod bytes;
 mod endpoint;
 mod endpoint_text;
 mod identifier_text;
+mod key;
 mod number;
 mod parse_error;
 mod process;
@@ -18,11 +19,12 @@ mod spelling;
 mod tag_list;
 mod tag_reading;
 mod tags;
+mod tags_text;
 
 pub use endpoint::Endpoint;
 pub use endpoint_text::endpoints_have_one_spelling;
 pub use parse_error::ParseError;
-pub use process::Process;
+pub use process::{Process, processes_have_one_spelling};
 pub use process_id::ProcessId;
 pub use read_error::ReadError;
 pub use tags::{Tags, TagsIter, tags_have_one_spelling};

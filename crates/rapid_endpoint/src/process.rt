@@ -1,22 +1,28 @@
 // Processes.
 
-ghost use Rattle.std.specs.Prelude.{◌≡◌, ◌<◌, ◌↔◌, ◌++◌, length, take, drop, IfSome, IsNone};
+ghost use Rattle.std.specs.Prelude.{◌≡◌, ◌≤◌, ◌++◌, [], ◌∷◌, ◌⊎◌, map, length, take, drop, IfOk, IfErr, OnOk, OnErr};
 ghost use Rattle.std.specs.Ordering.{as_partial_cmp};
 ghost use Rattle.std.specs.Cmp.{partial_equiv_from_equiv, partial_order_from_total};
 ghost use Rattle.std.proofs.lemmas.Cmp.{nat_list_cmp_total, eq_by_cmp_equiv};
 ghost use Rattle.std.proofs.Common.{refl};
-ghost use Rattle.rapid_model.specs.Process.{IsProcess, identifier, endpoint, process_cmp, same_bytes, same_identifier, same_endpoint};
+ghost use Rattle.rapid_model.specs.Process.{IsProcess, identifier, endpoint, tags_bytes_of, process_at, process_cmp, same_bytes, same_identifier, same_endpoint};
+ghost use Rattle.rapid_model.specs.Tags.{AreTags, tags_refusal};
+ghost use Rattle.rapid_endpoint.specs.OneSpelling.{SpeltProcessesAreRead, ProcessesTell};
+ghost use Rattle.rapid_endpoint.specs.ParseErrors.{Reports};
+ghost use Rattle.rapid_endpoint.specs.ReadErrors.{Gives};
 
-use crate::{Endpoint, ProcessId};
+use crate::key::Key;
+use crate::{Endpoint, ParseError, ProcessId, ReadError, Tags};
+use std::alloc::{AllocError, Global};
 use std::cmp::Ordering;
 use std::marker::Model;
 
-/// A process: an identifier and an endpoint. Processes are ordered by identifier, then endpoint,
-/// which is the order of their bytes.
+/// A process: an identifier, an endpoint and tags. Processes are ordered by identifier, endpoint and
+/// the bytes of their tags, which is the order of their bytes.
 #[derive(Clone, Copy, Debug)]
 pub struct Process {
-    id: ProcessId,
-    endpoint: Endpoint,
+    key: Key,
+    tags: Tags,
 }
 
 impl Model for Process {
@@ -25,76 +31,137 @@ impl Model for Process {
 
     ghost Value = { ModelProcess };
 
-    ghost view = { λ p. p.id ++ p.endpoint };
+    ghost view = { λ p. p.key ++ p.tags };
 
-    ghost invariant = { λ p. (length p.id ≡ 16) × IsProcess (p.id ++ p.endpoint) };
+    ghost invariant = { λ p. (length p.key ≡ 22) × IsProcess (p.key ++ p.tags) };
 
-    ghost inverse = { λ p. record { id = take 16 p; endpoint = drop 16 p } };
+    ghost inverse = { λ p. record { key = take 22 p; tags = drop 22 p } };
 
     ghost use Rattle.rapid_endpoint.specs.Joined.{first_part, second_part};
 
-    ghost inverse_ok = { λ p h. λ i. record { id = first_part 16 p.id p.endpoint h.0 i; endpoint = second_part 16 p.id p.endpoint h.0 i } };
+    ghost inverse_ok = { λ p h. λ i. record { key = first_part 22 p.key p.tags h.0 i; tags = second_part 22 p.key p.tags h.0 i } };
 }
 
 impl Process {
-    /// The process of this identifier and endpoint.
+    /// The process of this identifier and endpoint, without tags.
     pub fn new(id: ProcessId, endpoint: Endpoint) -> Process
-        ensures { result ≡ id ++ endpoint }
+        ensures { result ≡ id ++ endpoint ++ 0 ∷ [] }
     {
-        id.tell();
-        endpoint.tell();
-        Process { id, endpoint }
+        Process::of(id, endpoint, Tags::none())
+    }
+
+    /// The process of this identifier, endpoint and tags. The first that holds: `TooManyTags` if
+    /// there are more than 8, `BadTag` if one has no byte or more than 64, or a byte that does not
+    /// print, a space, a comma or a square bracket, `TagsNotSorted` if they do not strictly ascend.
+    pub fn tagged(id: ProcessId, endpoint: Endpoint, tags: &[&[u8]]) -> Result<Process, ParseError>
+        ensures front { IfOk result (λ process. take 22 process ≡ id ++ endpoint) }
+        ensures tags { IfOk result (λ process. AreTags (map (λ tag. tag.now) tags.now) (tags_bytes_of process)) }
+        ensures refused { IfErr result (Reports (tags_refusal (map (λ tag. tag.now) tags.now))) }
+    {
+        match Tags::new(tags) {
+            Ok(tags) => Ok(Process::of(id, endpoint, tags)),
+            Err(error) => Err(error),
+        }
+    }
+
+    /// The process of this identifier, endpoint and tags.
+    pub fn of(id: ProcessId, endpoint: Endpoint, tags: Tags) -> Process
+        ensures whole { result ≡ id ++ endpoint ++ tags }
+        ensures front { take 22 result ≡ id ++ endpoint }
+        ensures tags { tags_bytes_of result ≡ tags }
+    {
+        Process::joined(Key::new(id, endpoint), tags)
+    }
+
+    /// The process of these two parts.
+    fn joined(key: Key, tags: Tags) -> Process
+        ensures whole { result ≡ key ++ tags }
+        ensures front { take 22 result ≡ key }
+        ensures tags { drop 22 result ≡ tags }
+    {
+        key.tell();
+        tags.tell();
+        tags.tell_bytes();
+        Process { key, tags }
     }
 
     /// The identifier.
     pub fn id(&self) -> ProcessId
         ensures { result ≡ identifier self.now }
     {
-        self.id
+        self.key.id()
     }
 
     /// The endpoint.
     pub fn endpoint(&self) -> Endpoint
         ensures { result ≡ endpoint self.now }
     {
-        self.endpoint
+        self.key.endpoint()
     }
 
-    /// The sixteen bytes of the identifier, then the six of the endpoint.
-    pub fn to_bytes(&self) -> [u8; 22]
-        ensures value { result ≡ self.now }
+    /// The tags.
+    pub fn tags(&self) -> &Tags
+        ensures { result.now ≡ tags_bytes_of self.now }
+    {
+        &self.tags
+    }
+
+    /// The bytes: those of the identifier, the endpoint and the tags.
+    pub fn to_bytes(&self, alloc: Global) -> Result<Vec<u8>, AllocError>
+        ensures value { IfOk result (λ bytes. bytes.items ≡ self.now) }
         ensures process { IsProcess self.now }
     {
-        self.key_bytes()
+        let mut bytes = Vec::new(alloc);
+        self.append_to(&mut bytes)?;
+        Ok(bytes)
+    }
+
+    /// How many bytes it has: 23 to 543.
+    pub fn length(&self) -> usize
+        ensures value { result ≡ length self.now }
+        ensures least { 23 ≤ result }
+        ensures most { result ≤ 543 }
+    {
+        22 + self.tags.as_bytes().len()
+    }
+
+    /// Appends the bytes to these. If out of memory the identifier and the endpoint may stand there
+    /// without the tags.
+    pub fn append_to(&self, bytes: &mut Vec<u8>) -> Result<(), AllocError>
+        ensures value { OnOk result (bytes.new.items ≡ bytes.old.items ++ self.now) }
+        ensures process { IsProcess self.now }
+        ensures kept { OnErr result ((bytes.new.items ≡ bytes.old.items) ⊎ (bytes.new.items ≡ bytes.old.items ++ take 22 self.now)) }
+    {
+        bytes.extend_from_slice(&self.key_bytes())?;
+        bytes.extend_from_slice(self.tags.as_bytes())?;
+        Ok(())
     }
 
     /// The bytes of the identifier and of the endpoint, over which processes are hashed.
     pub fn key_bytes(&self) -> [u8; 22]
         ensures value { result ≡ take 22 self.now }
-        ensures whole { result ≡ self.now }
         ensures process { IsProcess self.now }
     {
-        let mut bytes = [0; 22];
-        bytes[..16].copy_from_slice(&self.id.bytes());
-        bytes[16..].copy_from_slice(&self.endpoint.to_bytes());
-        bytes
+        self.key.bytes()
     }
 
-    /// The process in front of the bytes, and how many bytes it takes. None if there are fewer
-    /// bytes than a process has.
-    pub fn read(bytes: &[u8]) -> Option<(Process, usize)>
-        ensures short { IsNone result ↔ (length bytes.now < 22) }
-        ensures front { IfSome result (λ r. (r.0 ≡ take 22 bytes.now) × (r.1 ≡ 22)) }
-        ensures taken { IfSome result (λ r. bytes.now ≡ r.0 ++ drop r.1 bytes.now) }
-        ensures process { IfSome result (λ r. IsProcess r.0) }
+    /// The process in front of the bytes, and how many bytes it takes. The error is the first that is
+    /// met from the left: `Truncated` if the bytes end before the process does, `BadTags` at a number
+    /// of tags above 8, a length of 0 or above 64, a byte that no tag may have, or the end of a tag
+    /// that is not above the one before it.
+    pub fn read(bytes: &[u8]) -> Result<(Process, usize), ReadError>
+        ensures read { Gives (λ r. (r.0, drop r.1 bytes.now)) result (process_at bytes.now) }
+        ensures taken { IfOk result (λ r. bytes.now ≡ r.0 ++ drop r.1 bytes.now) }
+        ensures length { IfOk result (λ r. length r.0 ≡ r.1) }
+        ensures process { IfOk result (λ r. IsProcess r.0) }
     {
-        let (id, rest) = bytes.split_first_chunk::<16>()?;
-        let (address, rest) = rest.split_first_chunk::<4>()?;
-        let (port, _) = rest.split_first_chunk::<2>()?;
-        let endpoint = Endpoint::new(*address, u16::from_be_bytes(*port));
-        let process = Process::new(ProcessId::new(*id), endpoint);
-        process.tell();
-        Some((process, 22))
+        let Some(key) = Key::read(bytes) else {
+            return Err(ReadError::Truncated);
+        };
+        match Tags::read(&bytes[22..]) {
+            Ok((tags, length)) => Ok((Process::joined(key, tags), 22 + length)),
+            Err(error) => Err(error),
+        }
     }
 
     /// The value is a process. It does nothing: what it ensures is for proofs.
@@ -102,21 +169,21 @@ impl Process {
     pub fn tell(&self)
         ensures { IsProcess self.now }
     {
-        let _ = &self.id;
+        let _ = &self.key;
     }
 
     /// Whether both have one identifier.
     pub fn has_same_identifier(&self, other: &Process) -> bool
         ensures { result ≡ same_identifier self.now other.now }
     {
-        self.id == other.id
+        self.key.has_same_identifier(&other.key)
     }
 
     /// Whether both have one endpoint.
     pub fn has_same_endpoint(&self, other: &Process) -> bool
         ensures { result ≡ same_endpoint self.now other.now }
     {
-        self.endpoint == other.endpoint
+        self.key.has_same_endpoint(&other.key)
     }
 }
 
@@ -127,7 +194,7 @@ impl PartialEq for Process {
 
     #[inline(always)]
     fn eq(&self, other: &Process) -> bool {
-        self.id == other.id && self.endpoint == other.endpoint
+        self.key == other.key && self.tags == other.tags
     }
 }
 
@@ -156,9 +223,16 @@ impl Ord for Process {
 
     #[inline(always)]
     fn cmp(&self, other: &Process) -> Ordering {
-        if self.id != other.id {
-            return self.id.cmp(&other.id);
+        if self.key != other.key {
+            return self.key.cmp(&other.key);
         }
-        self.endpoint.cmp(&other.endpoint)
+        self.tags.cmp(&other.tags)
     }
 }
+
+/// What is spelt of a process is read, whatever follows, and no process begins another. It does
+/// nothing: what it ensures is for proofs.
+pub fn processes_have_one_spelling()
+    ensures spelt { SpeltProcessesAreRead }
+    ensures tell { ProcessesTell }
+{}

@@ -1,6 +1,6 @@
 // The tags of processes.
 
-ghost use Rattle.std.specs.Prelude.{◌≡◌, ◌==◌, ◌++◌, [], map, length, drop, slice_get, option_map, Some, Ok, IfOk, IfErr};
+ghost use Rattle.std.specs.Prelude.{◌≡◌, ◌<◌, ◌==◌, ◌++◌, All, [], map, length, drop, slice_get, option_map, Some, Ok, IfOk, IfErr};
 ghost use Rattle.std.specs.Ordering.{as_partial_cmp};
 ghost use Rattle.std.specs.Cmp.{partial_equiv_from_equiv, partial_order_from_total};
 ghost use Rattle.std.proofs.lemmas.Cmp.{nat_list_cmp_total, eq_by_cmp_equiv};
@@ -14,7 +14,7 @@ ghost use Rattle.rapid_endpoint.specs.TagsLeft.{tags_left};
 use crate::spelling::Spelling;
 use crate::tag_list::{are_tags, ascend, spelled};
 use crate::tag_reading::{first, read_tags};
-use crate::{ParseError, ReadError};
+use crate::{ParseError, ReadError, bytes};
 use std::cmp::Ordering;
 use std::fmt;
 use std::marker::Model;
@@ -109,6 +109,14 @@ impl Tags {
         let _ = &self.spelling;
     }
 
+    /// Each byte is below 256. It does nothing: what it ensures is for proofs.
+    #[inline(always)]
+    pub(crate) fn tell_bytes(&self)
+        ensures { All (λ b. b < 256) self.now }
+    {
+        bytes::tell(self.as_bytes());
+    }
+
     /// How many tags there are.
     pub fn len(&self) -> usize
         ensures { result ≡ length (tags_of self.now) }
@@ -190,8 +198,13 @@ impl PartialEq for Tags {
 
     ghost laws = { partial_equiv_from_equiv (eq_by_cmp_equiv nat_list_cmp_total) };
 
+    #[inline(always)]
     fn eq(&self, other: &Tags) -> bool {
-        self.as_bytes() == other.as_bytes()
+        match (self.as_bytes(), other.as_bytes()) {
+            // no tags on either side, as is most common: this calls nothing to compare bytes
+            ([mine], [others]) => mine == others,
+            (mine, others) => mine == others,
+        }
     }
 }
 

@@ -1,4 +1,5 @@
-//! The lines of a node: what they ask for, what is printed of views and edges, and what is reported.
+//! The lines of a node: what they ask for, what is printed of views and edges, and what is
+//! reported.
 #![tactic(auto)]
 
 mod asking;

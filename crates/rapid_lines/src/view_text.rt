@@ -6,6 +6,7 @@ ghost use Rattle.rapid_lines.specs.ViewText.{member_text, members_text, view_tex
 
 use rapid_config::Configuration;
 use rapid_endpoint::{Endpoint, Process};
+use rapid_text::write_tags;
 use std::alloc::AllocError;
 
 /// The line that a line prints which is no command.
@@ -32,15 +33,16 @@ pub(crate) fn write_endpoint(endpoint: Endpoint, output: &mut Vec<u8>) -> Result
     output.extend_from_slice(text.as_bytes())
 }
 
-/// Appends the endpoint of a member, with a space before it.
+/// Appends the endpoint of a member and its tags, with a space before them.
 fn write_member(member: &Process, output: &mut Vec<u8>) -> Result<(), AllocError>
     ensures { OnOk result (output.new.items ≡ output.old.items ++ member_text member.now) }
 {
     output.push(b' ')?;
-    write_endpoint(member.endpoint(), output)
+    write_endpoint(member.endpoint(), output)?;
+    write_tags(member.tags(), output)
 }
 
-/// Appends the endpoints of members.
+/// Appends the endpoints of members, and their tags.
 fn write_members(members: &[Process], output: &mut Vec<u8>) -> Result<(), AllocError>
     ensures { OnOk result (output.new.items ≡ output.old.items ++ members_text members.now) }
 {
@@ -50,7 +52,8 @@ fn write_members(members: &[Process], output: &mut Vec<u8>) -> Result<(), AllocE
     Ok(())
 }
 
-/// Appends the line of a view: its height, and the endpoints of its members in order of identifier.
+/// Appends the line of a view: its height, and the endpoints and tags of its members in order of
+/// identifier.
 pub fn write_view(configuration: &Configuration, output: &mut Vec<u8>) -> Result<(), AllocError>
     ensures { OnOk result (output.new.items ≡ output.old.items ++ view_text configuration.now) }
 {

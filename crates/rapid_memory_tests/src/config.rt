@@ -3,7 +3,7 @@
 
 use crate::numbered::{Marks, Name, at, named, process, seeded};
 use rapid_config::{ConfigError, Configuration, Cut, Params};
-use rapid_endpoint::{Endpoint, Process};
+use rapid_endpoint::{Endpoint, ParseError, Process};
 use std::alloc::{AllocError, Global};
 use std::test::Fail;
 
@@ -11,6 +11,39 @@ use std::test::Fail;
 fn out_of_memory_in_texts(rt: HostRuntime) -> Result<(), Fail> {
     let printed = Endpoint::new([127, 0, 0, 1], 7000).to_string(rt.alloc())?;
     assert!(rt; printed.as_str() == "127.0.0.1:7000");
+    Ok(())
+}
+
+/// The process with this number and these tags.
+fn tagged(number: u16, tags: &[&[u8]]) -> Result<Process, ParseError> {
+    let bare = process(number);
+    Process::tagged(bare.id(), bare.endpoint(), tags)
+}
+
+/// The bytes of the process with the number 2 and the tags `db` and `web`.
+const TAGGED: [u8; 30] = [
+    0, 0, 0, 0, 0, 0, 0, 0, 0, 0, 0, 0, 0, 0, 0, 2, 0x7f, 0, 0, 1, 0, 2, 2, 2, b'd', b'b', 3, b'w',
+    b'e', b'b',
+];
+
+#[test]
+fn out_of_memory_in_the_bytes_of_a_process(rt: HostRuntime) -> Result<(), Fail> {
+    let made = tagged(2, &[b"db", b"web"])?;
+    let bytes = made.to_bytes(rt.alloc())?;
+    assert!(rt; bytes.as_slice() == TAGGED.as_slice());
+    Ok(())
+}
+
+/// Nothing is appended then, or the identifier and the endpoint alone.
+#[test]
+fn out_of_memory_while_a_process_is_appended(rt: HostRuntime) -> Result<(), Fail> {
+    let made = tagged(2, &[b"db", b"web"])?;
+    let mut bytes = Vec::new(rt.alloc());
+    let appended = made.append_to(&mut bytes);
+    let fits = matches!(bytes.len(), 0 | 22) || appended.is_ok() && bytes.len() == 30;
+    assert!(rt; fits && TAGGED.as_slice().starts_with(bytes.as_slice()));
+    appended?;
+    assert!(rt; bytes.as_slice() == TAGGED.as_slice());
     Ok(())
 }
 
@@ -62,6 +95,14 @@ fn is_read_again(alloc: Global, configuration: &Configuration) -> Result<bool, F
 fn out_of_memory_in_readings(rt: HostRuntime) -> Result<(), Fail> {
     let two = founded(rt.alloc(), (3, 3, 1), 2)?;
     assert!(rt; is_read_again(rt.alloc(), &two)?);
+    Ok(())
+}
+
+#[test]
+fn out_of_memory_in_readings_of_tags(rt: HostRuntime) -> Result<(), Fail> {
+    let members = [process(1), tagged(2, &[b"db", b"web"])?];
+    let configuration = Configuration::seed(rt.alloc(), Params::new(3, 3, 1)?, &members)?;
+    assert!(rt; is_read_again(rt.alloc(), &configuration)?);
     Ok(())
 }
 

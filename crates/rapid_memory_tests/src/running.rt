@@ -2,7 +2,7 @@
 
 use bytes::Bytes;
 use rapid_config::Params;
-use rapid_endpoint::{Endpoint, ProcessId};
+use rapid_endpoint::{Endpoint, ProcessId, Tags};
 use rapid_options::NodeOptions;
 use rapid_run::{Streams, run_node};
 use rapid_service::RunningFault;
@@ -18,8 +18,8 @@ use std::thread::Threads;
 use std::time::Clock;
 
 /// The frame in which the process with the number 2 asks to join.
-const PRE_JOIN: [u8; 28] = [
-    0, 0, 0, 0x18, 1, 8, 0, 0, 0, 0, 0, 0, 0, 0, 0, 0, 0, 0, 0, 0, 0, 2, 0x7f, 0, 0, 1, 0, 2,
+const PRE_JOIN: [u8; 29] = [
+    0, 0, 0, 0x19, 2, 8, 0, 0, 0, 0, 0, 0, 0, 0, 0, 0, 0, 0, 0, 0, 0, 2, 0x7f, 0, 0, 1, 0, 2, 0,
 ];
 
 /// A reader that gives at most this many bytes a call.
@@ -87,6 +87,7 @@ where
     let asked = NodeOptions {
         listen: Endpoint::new([127, 0, 0, 1], port),
         id: Some(ProcessId::new(id)),
+        tags: Tags::none(),
         join: None,
         params,
         tick_ms: 0,

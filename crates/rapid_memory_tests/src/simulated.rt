@@ -92,6 +92,18 @@ fn out_of_memory_in_a_simulated_join(rt: HostRuntime) {
     assert_named(&rt, rt.alloc(), JOIN, JOIN_VIEWS);
 }
 
+/// The same with tags, after a start with wrong ones.
+const TAGGED: &[u8] =
+    b"params 3 3 1\nfound 1\nstart 2 2 1 web db\nstart 2 2 1 db web\ntick 2\nflow\ntick 1\nflow\n";
+
+const TAGGED_VIEWS: &[u8] = b"node 1 height 0 members 1\nrefused TagsNotSorted\n\
+      node 1 height 1 members 1 2[db,web]\nnode 2 height 1 members 1 2[db,web]\n";
+
+#[test]
+fn out_of_memory_in_a_simulated_join_with_tags(rt: HostRuntime) {
+    assert_named(&rt, rt.alloc(), TAGGED, TAGGED_VIEWS);
+}
+
 /// Three founders of whom one crashes: two votes are no fast quorum, and recovery decides.
 const RECOVERY: &[u8] =
     b"params 3 3 1\nfound 1 2 3\ncrash 3\nlose 3\ntick 1\ntick 2\nflow\ntick 1 20\nflow\n";

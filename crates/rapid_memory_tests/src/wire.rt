@@ -6,16 +6,22 @@ use std::alloc::{AllocError, Global};
 use std::test::Fail;
 
 /// The processes with the numbers 1, 2 and 3: the identifier n, and the endpoint 127.0.0.1:n.
-const ONE: [u8; 22] = [
-    0, 0, 0, 0, 0, 0, 0, 0, 0, 0, 0, 0, 0, 0, 0, 1, 0x7f, 0, 0, 1, 0, 1,
+const ONE: [u8; 23] = [
+    0, 0, 0, 0, 0, 0, 0, 0, 0, 0, 0, 0, 0, 0, 0, 1, 0x7f, 0, 0, 1, 0, 1, 0,
 ];
 
-const TWO: [u8; 22] = [
-    0, 0, 0, 0, 0, 0, 0, 0, 0, 0, 0, 0, 0, 0, 0, 2, 0x7f, 0, 0, 1, 0, 2,
+const TWO: [u8; 23] = [
+    0, 0, 0, 0, 0, 0, 0, 0, 0, 0, 0, 0, 0, 0, 0, 2, 0x7f, 0, 0, 1, 0, 2, 0,
 ];
 
-const THREE: [u8; 22] = [
-    0, 0, 0, 0, 0, 0, 0, 0, 0, 0, 0, 0, 0, 0, 0, 3, 0x7f, 0, 0, 1, 0, 3,
+const THREE: [u8; 23] = [
+    0, 0, 0, 0, 0, 0, 0, 0, 0, 0, 0, 0, 0, 0, 0, 3, 0x7f, 0, 0, 1, 0, 3, 0,
+];
+
+/// The process with the number 2 and the tags `db` and `web`.
+const TAGGED: [u8; 30] = [
+    0, 0, 0, 0, 0, 0, 0, 0, 0, 0, 0, 0, 0, 0, 0, 2, 0x7f, 0, 0, 1, 0, 2, 2, 2, b'd', b'b', 3, b'w',
+    b'e', b'b',
 ];
 
 /// The identifier of a configuration.
@@ -24,7 +30,7 @@ const ID: [u8; 32] = [7; 32];
 /// The bytes of a configuration in front of its members, with the parameters 3, 3 and 1, at height
 /// 0.
 const HEAD: [u8; 47] = [
-    0x52, 0x50, 0x43, 0x31, 0, 0, 0, 0, 0, 0, 0, 0, 0, 0, 0, 0, 0, 0, 0, 0, 0, 0, 0, 0, 0, 0, 0, 0,
+    0x52, 0x50, 0x43, 0x32, 0, 0, 0, 0, 0, 0, 0, 0, 0, 0, 0, 0, 0, 0, 0, 0, 0, 0, 0, 0, 0, 0, 0, 0,
     0, 0, 0, 0, 0, 0, 0, 0, 0, 0, 0, 0, 0, 0, 0, 0, 3, 3, 1,
 ];
 
@@ -42,7 +48,7 @@ type Parts<'a> = (u8, &'a [&'a [u8]]);
 /// The frame of a body from the process with the number 1.
 fn frame(alloc: Global, (kind, parts): &Parts) -> Result<Vec<u8>, Fail> {
     let mut payload = Vec::new(alloc);
-    append(&mut payload, &[&[1, *kind], &ONE])?;
+    append(&mut payload, &[&[2, *kind], &ONE])?;
     append(&mut payload, parts)?;
     let length = u32::try_from(payload.len())?.to_be_bytes();
     let mut frame = Vec::new(alloc);
@@ -76,12 +82,15 @@ fn survives(alloc: Global, body: &Parts) -> Result<bool, Fail> {
     }
 }
 
-const GROWING: [Parts; 5] = [
+const GROWING: [Parts; 8] = [
     (1, &[&ID, &[0, 1], &[3, 1], &TWO]),
     (2, &[&ID, &[0, 2], &TWO, &THREE]),
     (9, &[&TWO, &[1], &ID, &[2], &ONE, &ONE]),
     (11, &[&HEAD, &[0, 2], &ONE, &TWO]),
     (14, &[&ID, &[2]]),
+    (2, &[&ID, &[0, 2], &TWO, &TAGGED]),
+    (9, &[&TAGGED, &[1], &ID, &[1], &TAGGED]),
+    (11, &[&HEAD, &[0, 2], &ONE, &TAGGED]),
 ];
 
 /// After a refused growth the feed is as it was: the piece is fed again, and the message comes when

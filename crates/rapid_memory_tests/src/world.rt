@@ -91,8 +91,8 @@ fn has_halted(world: &World) -> bool {
 }
 
 /// The frame by which the process 2 asks to join.
-const PRE_JOIN: [u8; 28] = [
-    0, 0, 0, 0x18, 1, 8, 0, 0, 0, 0, 0, 0, 0, 0, 0, 0, 0, 0, 0, 0, 0, 2, 0x7f, 0, 0, 1, 0, 2,
+const PRE_JOIN: [u8; 29] = [
+    0, 0, 0, 0x19, 2, 8, 0, 0, 0, 0, 0, 0, 0, 0, 0, 0, 0, 0, 0, 0, 0, 2, 0x7f, 0, 0, 1, 0, 2, 0,
 ];
 
 /// Whether all six packets of a join were sent, the first of them with its frame.

@@ -1,5 +1,5 @@
 -- Processes and reports among others.
-use Rattle.std.proofs.Common.{◌≡◌, Bool, true, ◌&&◌, List, [], ◌∷◌, filter, refl, sym, ap, ◌∙◌, inl, inr, Option, Some}
+use Rattle.std.proofs.Common.{◌≡◌, Bool, true, ◌&&◌, List, [], ◌∷◌, filter, refl, sym, ap, ◌∙◌, inl, inr, Some}
 use Rattle.std.specs.Ordering.{eq_by_cmp}
 use Rattle.std.proofs.lemmas.Bool.{or_cases, or_left, or_right}
 use Rattle.std.specs.Cmp.{eq_by_cmp_equiv}

@@ -1,41 +1,18 @@
 -- The bytes of a configuration are read back, and no others are taken for it.
-use Rattle.std.proofs.Common.{◌≡◌, ℕ, zero, suc, ◌+◌, ◌*◌, ◌<◌, ◌≤◌, Bool, true, false, not, ◌&&◌, cond, List, [], ◌∷◌, ◌++◌, length, take, drop, get_or, refl, sym, ap, subst, ◌∙◌, Option, Some, None, inl, inr, append_assoc, length-append, arith}
-use Rattle.std.specs.Prelude.{All, nat_lt, nat_le}
+use Rattle.std.proofs.Common.{◌≡◌, ℕ, suc, ◌+◌, ◌<◌, ◌≤◌, Bool, true, false, not, ◌&&◌, cond, List, [], ◌∷◌, ◌++◌, length, take, drop, get_or, refl, sym, ap, subst, ◌∙◌, Option, Some, None, inl, inr, append_assoc, append-nil, length-append, arith}
+use Rattle.std.specs.Prelude.{All, nat_lt, nat_le, Ok, Err}
 use Rattle.std.specs.List.{concat}
 use Rattle.std.specs.Int.{w16, w64, to_be_bytes, from_be_bytes}
 use Rattle.std.proofs.lemmas.Bool.{le-ltb, le-leb, and_from, ltb-false, not-false, cases_lt}
 use Rattle.std.proofs.lemmas.Nat.{from_be_bytes-to_be_bytes_2, from_be_bytes-to_be_bytes_8, be_bytes_2, be_bytes_8}
 use Rattle.std.proofs.lemmas.List.{length-drop, drop-drop, take-append-drop, get_or-drop, get_or_past, length-take-le}
 use Rattle.std.proofs.lemmas.List.Elements.{All-take, All-drop}
-use Rattle.std.proofs.Math.Seq.{take-append_seam, drop-append_seam}
-use Rattle.rapid_model.specs.Process.{Process, IsProcess, same_bytes}
+use Rattle.rapid_model.specs.Tags as tags
+use Rattle.rapid_model.specs.Process.{Process, same_bytes}
 use Rattle.rapid_model.specs.Configuration.{Params, AreParams, Configuration, AreMembers, IsConfiguration, identifiers_ascend, endpoints_differ, magic, configuration_bytes}
-use Rattle.rapid_model.specs.Reading.{ConfigurationFault, BadParams, Truncated, Trailing, BadMagic, TooMany, NotSorted, EndpointTwice, are_params, members_fault, processes_in, params_in, count_in, configuration_in, bytes_fault}
+use Rattle.rapid_model.specs.Reading.{ConfigurationFault, BadParams, Truncated, Trailing, BadMagic, TooMany, NotSorted, EndpointTwice, are_params, members_fault, ProcessesRead, processes_at, read_in, read_fault, params_in, count_in, configuration_in, bytes_fault}
 use Rattle.rapid_model.proofs.Orders.{same_bytes_decides}
-
--- the first part, and what is behind it
-front : (n : ℕ) (xs ys : List ℕ) → length xs ≡ n → take n (xs ++ ys) ≡ xs
-front n xs ys e = subst (λ k. take k (xs ++ ys) ≡ xs) e (take-append_seam xs ys)
-
-behind : (n : ℕ) (xs ys : List ℕ) → length xs ≡ n → drop n (xs ++ ys) ≡ ys
-behind n xs ys e = subst (λ k. drop k (xs ++ ys) ≡ ys) e (drop-append_seam xs ys)
-
--- processes one after another are read back
-read_back : (ps : List Process) → All IsProcess ps → processes_in (length ps) (concat ps) ≡ ps
-read_back [] h = refl
-read_back (p ∷ ps) h =
-    let l = (h 0 p (omega arith)).length in
-    ap (λ q. q ∷ processes_in (length ps) (drop 22 (p ++ concat ps))) (front 22 p (concat ps) l)
-    ∙ ap (λ x. p ∷ processes_in (length ps) x) (behind 22 p (concat ps) l)
-    ∙ ap (λ qs. p ∷ qs) (read_back ps (λ k d m. h (suc k) d (omega (arith, m))))
-
-length_all : (ps : List Process) → All IsProcess ps → length (concat ps) ≡ 22 * length ps
-length_all [] h = refl
-length_all (p ∷ ps) h =
-    let l = (h 0 p (omega arith)).length in
-    let r = length_all ps (λ k d m. h (suc k) d (omega (arith, m))) in
-    let e = length-append p (concat ps) in
-    omega (arith, l, r, e)
+use Rattle.rapid_model.proofs.Processes.{front, behind, processes_read, AreRead, processes_taken}
 
 -- a fault that is none
 skip : (b : Bool) (f g : Option ConfigurationFault) → b ≡ false → g ≡ None → cond b f g ≡ None
@@ -80,8 +57,11 @@ module _ (c : Configuration) (h : IsConfiguration c) where
       ap (λ x. from_be_bytes w16 (take 2 x)) (behind_before 11)
       ∙ from_be_bytes-to_be_bytes_2 (length c.members) (omega (arith, h.members.few))
 
-  members_are : processes_in (count_in (whole c)) (drop 49 (whole c)) ≡ c.members
-  members_are = ap (λ n. processes_in n (drop 49 (whole c))) count_is ∙ ap (processes_in (length c.members)) (behind_before 13) ∙ read_back c.members h.members.processes
+  members_read : processes_at (count_in (whole c)) (drop 49 (whole c)) ≡ Ok (c.members, [])
+  members_read =
+      ap (λ n. processes_at n (drop 49 (whole c))) count_is
+      ∙ ap (processes_at (length c.members)) (behind_before 13 ∙ sym (append-nil (concat c.members)))
+      ∙ processes_read c.members [] h.members.processes
 
   params_are : params_in (whole c) ≡ c.params
   params_are =
@@ -90,51 +70,36 @@ module _ (c : Configuration) (h : IsConfiguration c) where
       let l : get_or (whole c) 46 0 ≡ c.params.l = get_behind 10 in
       λ i. record { k = k i; h = m i; l = l i }
 
-  length_is : length (whole c) ≡ 49 + 22 * length c.members
-  length_is =
+  is_long : 49 ≤ length (whole c)
+  is_long =
       let a = length-append c.previous (after c) in
-      let b = length_all c.members h.members.processes in
-      omega (arith, a, b, h.previous.0)
+      omega (arith, a, h.previous.0)
 
   pub read_is : configuration_in (whole c) ≡ c
   read_is =
       let params = params_are in
       let height : from_be_bytes w64 (take 8 (drop 36 (whole c))) ≡ c.height = ap (λ x. from_be_bytes w64 (take 8 x)) (behind_before 0) ∙ from_be_bytes-to_be_bytes_8 c.height h.height in
       let previous : take 32 (drop 4 (whole c)) ≡ c.previous = front 32 c.previous (after c) h.previous.0 in
-      let members = members_are in
+      let members : read_in (processes_at (count_in (whole c)) (drop 49 (whole c))) ≡ c.members = ap read_in members_read in
       λ i. record { params = params i; height = height i; previous = previous i; members = members i }
 
   pub no_fault : bytes_fault (whole c) ≡ None
   no_fault =
       let few = h.members.few in
-      let all = length_is in
+      let long = is_long in
       let count = count_is in
       skip (nat_lt (length (whole c)) 4) (Some Truncated) _ (le-ltb (length (whole c)) 4 (omega arith))
       (skip (not (same_bytes (take 4 (whole c)) magic)) (Some BadMagic) _ (ap not ((same_bytes_decides magic magic).1 refl))
       (skip (nat_lt (length (whole c)) 49) (Some Truncated) _ (le-ltb (length (whole c)) 49 (omega arith))
       (skip (not (are_params (params_in (whole c)))) (Some BadParams) _ (ap (λ p. not (are_params p)) params_are ∙ ap not (params_pass c.params h.params))
       (skip (nat_lt 1024 (count_in (whole c))) (Some TooMany) _ (ap (λ n. nat_lt 1024 n) count_is ∙ le-ltb 1024 (length c.members) few)
-      (skip (nat_lt (length (whole c)) (49 + 22 * count_in (whole c))) (Some Truncated) _ (ap (λ n. nat_lt (length (whole c)) (49 + 22 * n)) count_is ∙ le-ltb (length (whole c)) (49 + 22 * length c.members) (omega arith))
-      (skip (nat_lt (49 + 22 * count_in (whole c)) (length (whole c))) (Some Trailing) _ (ap (λ n. nat_lt (49 + 22 * n) (length (whole c))) count_is ∙ le-ltb (49 + 22 * length c.members) (length (whole c)) (omega arith))
-      (ap members_fault members_are ∙ no_members_fault c.members h.members)))))))
+      (ap read_fault members_read ∙ no_members_fault c.members h.members)))))
 
 pub spelling_read : (c : Configuration) → IsConfiguration c → (bytes_fault (configuration_bytes c) ≡ None) × (configuration_in (configuration_bytes c) ≡ c)
 spelling_read c h = (ap bytes_fault (regrouped c) ∙ no_fault c h, ap configuration_in (regrouped c) ∙ read_is c h)
 
 pub spelling_tell : (c d : Configuration) → IsConfiguration c → IsConfiguration d → configuration_bytes c ≡ configuration_bytes d → c ≡ d
 spelling_tell c d h k e = sym (spelling_read c h).1 ∙ ap configuration_in e ∙ (spelling_read d k).1
-
-length_in : (n : ℕ) (l : List ℕ) → length (processes_in n l) ≡ n
-length_in zero l = refl
-length_in (suc n) l = ap suc (length_in n (drop 22 l))
-
--- processes that were read stand one after another
-joined : (n : ℕ) (l : List ℕ) → length l ≡ 22 * n → concat (processes_in n l) ≡ l
-joined zero [] e = refl
-joined zero (x ∷ l) e = absurd (omega (arith, e))
-joined (suc n) l e =
-    let k = length-drop 22 l in
-    ap (λ x. take 22 l ++ x) (joined n (drop 22 l) (omega (arith, e, k))) ∙ take-append-drop 22 l
 
 bounded : (l : List ℕ) → All (λ b. b < 256) l → (i : ℕ) → get_or l i 0 < 256
 bounded l h i =
@@ -160,16 +125,16 @@ part_length i j b l = length-take-le j (drop i b) (let k = length-drop i b in om
 part_bytes : (i j : ℕ) (b : List ℕ) → All (λ x. x < 256) b → (k : ℕ) → get_or (take j (drop i b)) k 0 < 256
 part_bytes i j b h = bounded (take j (drop i b)) (All-take (λ x. x < 256) j (drop i b) (All-drop (λ x. x < 256) i b h))
 
--- bytes of the right length that begin with the letters are spelled again
-respelled : (b : List ℕ) → All (λ x. x < 256) b → same_bytes (take 4 b) magic ≡ true → length b ≡ 49 + 22 * count_in b → configuration_bytes (configuration_in b) ≡ b
-respelled b h m l =
-    let ps = processes_in (count_in b) (drop 49 b) in
-    let dropped = length-drop 49 b in
+-- bytes that begin with the letters and end with the members are spelled again
+respelled : (b : List ℕ) → All (λ x. x < 256) b → same_bytes (take 4 b) magic ≡ true → 49 ≤ length b
+    → AreRead (count_in b) (drop 49 b) ((configuration_in b).members, []) → configuration_bytes (configuration_in b) ≡ b
+respelled b h m l r =
+    let ps = (configuration_in b).members in
     let e1 : magic ≡ take 4 b = sym ((same_bytes_decides (take 4 b) magic).0 m) in
     let e2 : to_be_bytes w64 (from_be_bytes w64 (take 8 (drop 36 b))) ≡ take 8 (drop 36 b) = be_bytes_8 (take 8 (drop 36 b)) _ (part_length 36 8 b (omega arith)) (part_bytes 36 8 b h) refl in
     let e3 : (get_or b 44 0 ∷ get_or b 45 0 ∷ get_or b 46 0 ∷ []) ≡ take 3 (drop 44 b) = three in
-    let e4 : to_be_bytes w16 (length ps) ≡ take 2 (drop 47 b) = be_bytes_2 (take 2 (drop 47 b)) (length ps) (part_length 47 2 b (omega arith)) (part_bytes 47 2 b h) (length_in (count_in b) (drop 49 b)) in
-    let x5 : concat ps ≡ drop 49 b = joined (count_in b) (drop 49 b) (omega arith) in
+    let e4 : to_be_bytes w16 (length ps) ≡ take 2 (drop 47 b) = be_bytes_2 (take 2 (drop 47 b)) (length ps) (part_length 47 2 b (omega arith)) (part_bytes 47 2 b h) r.count in
+    let x5 : concat ps ≡ drop 49 b = sym (r.spelt ∙ append-nil (concat ps)) in
     let x4 : to_be_bytes w16 (length ps) ++ concat ps ≡ drop 47 b = ap (λ x. to_be_bytes w16 (length ps) ++ x) x5 ∙ ap (λ x. x ++ drop 49 b) e4 ∙ seam 47 2 b in
     let x3 : (get_or b 44 0 ∷ get_or b 45 0 ∷ get_or b 46 0 ∷ []) ++ (to_be_bytes w16 (length ps) ++ concat ps) ≡ drop 44 b =
     ap (λ x. (get_or b 44 0 ∷ get_or b 45 0 ∷ get_or b 46 0 ∷ []) ++ x) x4 ∙ ap (λ x. x ++ drop 47 b) e3 ∙ seam 44 3 b in
@@ -187,6 +152,22 @@ respelled b h m l =
         let g : (get_or b 44 0 ∷ get_or b 45 0 ∷ get_or b 46 0 ∷ []) ≡ (get_or (drop 44 b) 0 0 ∷ get_or (drop 44 b) 1 0 ∷ get_or (drop 44 b) 2 0 ∷ []) = cc in
         g ∙ first_three (drop 44 b) (omega (arith, l, k))
 
+-- members that have no fault are all of the bytes
+none_left : (ps : List Process) (rest : List ℕ) → read_fault (Ok (ps, rest)) ≡ None → rest ≡ []
+none_left ps [] h = refl
+none_left ps (x ∷ rest) h =
+    let e = past (nat_lt 0 (suc (length rest))) Trailing (members_fault ps) h in
+    let none = ltb-false 0 (suc (length rest)) e.0 in
+    absurd (omega (arith, none))
+
+all_read : (r : ProcessesRead) → read_fault r ≡ None → (ps : List Process) × (r ≡ Ok (ps, []))
+all_read (Ok x) h = (x.0, ap (λ l. given x.0 l) (none_left x.0 x.1 h))
+  where
+    given : List Process → List ℕ → ProcessesRead
+    given ps l = Ok (ps, l)
+all_read (Err tags.Truncated) h = absurd cc
+all_read (Err tags.BadTags) h = absurd cc
+
 pub spelling_one : (b : List ℕ) → All (λ x. x < 256) b → bytes_fault b ≡ None → configuration_bytes (configuration_in b) ≡ b
 spelling_one b h f =
     let p1 = past (nat_lt (length b) 4) Truncated _ f in
@@ -194,11 +175,9 @@ spelling_one b h f =
     let p3 = past (nat_lt (length b) 49) Truncated _ p2.1 in
     let p4 = past (not (are_params (params_in b))) BadParams _ p3.1 in
     let p5 = past (nat_lt 1024 (count_in b)) TooMany _ p4.1 in
-    let p6 = past (nat_lt (length b) (49 + 22 * count_in b)) Truncated _ p5.1 in
-    let p7 = past (nat_lt (49 + 22 * count_in b) (length b)) Trailing _ p6.1 in
-    let least = ltb-false (length b) (49 + 22 * count_in b) p6.0 in
-    let most = ltb-false (49 + 22 * count_in b) (length b) p7.0 in
-    respelled b h (not-false (same_bytes (take 4 b) magic) p2.0) (both (length b) (49 + 22 * count_in b) most least)
-  where
-    both : (m n : ℕ) → m ≤ n → n ≤ m → m ≡ n
-    both m n h k = omega arith
+    let read = all_read (processes_at (count_in b) (drop 49 b)) p5.1 in
+    let taken = processes_taken (count_in b) (drop 49 b) (read.0, []) read.1 in
+    let members : read.0 ≡ (configuration_in b).members = sym (ap read_in read.1) in
+    let are : AreRead (count_in b) (drop 49 b) ((configuration_in b).members, []) =
+    subst (λ ps. AreRead (count_in b) (drop 49 b) (ps, [])) members taken in
+    respelled b h (not-false (same_bytes (take 4 b) magic) p2.0) (ltb-false (length b) 49 p3.0) are

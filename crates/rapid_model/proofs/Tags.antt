@@ -19,10 +19,10 @@ pub passed : {A : Type 0} (b : Bool) (e : TagsFault) (r : Result A TagsFault) (x
 passed true e r x h = absurd cc
 passed false e r x h = (refl, h)
 
-abbrev some_ok : {A : Type 0} → A → Result A TagsFault
+abbrev pub some_ok : {A : Type 0} → A → Result A TagsFault
 some_ok x = Ok x
 
-ok_is : {A : Type 0} (x y : A) → some_ok x ≡ some_ok y → x ≡ y
+pub ok_is : {A : Type 0} (x y : A) → some_ok x ≡ some_ok y → x ≡ y
 ok_is x y e = cc
 
 -- ---- one tag

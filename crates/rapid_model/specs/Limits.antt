@@ -52,7 +52,7 @@ most_entries = 65536
 
 -- How many bytes a frame has at most, after those of its length.
 abbrev pub longest_frame : ℕ
-longest_frame = 65536
+longest_frame = 2097152
 
 -- How many bytes a line of an input has at most.
 abbrev pub longest_line : ℕ

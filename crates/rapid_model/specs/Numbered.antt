@@ -1,5 +1,5 @@
 -- The processes that texts name by a number.
-use Rattle.std.specs.Prelude.{ℕ, ◌==◌, ◌∷◌, ◌++◌, drop, if◌then◌else◌, Option, Some, None}
+use Rattle.std.specs.Prelude.{ℕ, ◌==◌, [], ◌∷◌, ◌++◌, drop, if◌then◌else◌, Option, Some, None}
 use Rattle.std.specs.Option.{option_and_then}
 use Rattle.std.specs.Int.{w16, w128, to_be_bytes, from_be_bytes}
 use Rattle.rapid_model.specs.Bytes.{Identifier, Endpoint, Word}
@@ -14,9 +14,9 @@ numbered_identifier n = to_be_bytes w128 n
 abbrev pub local_endpoint : ℕ → Endpoint
 local_endpoint port = 127 ∷ 0 ∷ 0 ∷ 1 ∷ to_be_bytes w16 port
 
--- Process n has the number n as its identifier and the endpoint 127.0.0.1:n.
+-- Process n has the number n as its identifier, the endpoint 127.0.0.1:n and no tags.
 abbrev pub numbered : ℕ → Process
-numbered n = numbered_identifier n ++ local_endpoint n
+numbered n = numbered_identifier n ++ local_endpoint n ++ 0 ∷ []
 
 -- The number of an identifier.
 abbrev pub number_under : Identifier → ℕ

@@ -3,6 +3,7 @@ use Rattle.std.specs.Prelude.{ℕ, ◌-◌, ◌^◌, Bool, true, false, ◌==◌
 use Rattle.std.specs.Option.{option_and_then, option_map}
 use Rattle.rapid_model.specs.Bytes.{Identifier, Endpoint, Word}
 use Rattle.rapid_model.specs.Process.{Process}
+use Rattle.rapid_model.specs.Tags.{TagsRefusal, tags_refusal, tags_bytes}
 use Rattle.rapid_model.specs.Configuration.{Params}
 use Rattle.rapid_model.specs.Reading.{members_fault}
 use Rattle.rapid_model.specs.World as world
@@ -19,6 +20,8 @@ pub data SimLine : Type 0 where
   Found : List Process → SimLine
   -- an event, repeated
   Events : WorldEvent → ℕ → SimLine
+  -- a start with tags that are refused
+  WrongTags : TagsRefusal → SimLine
   Lose : Identifier → SimLine
   Deliver : ℕ → SimLine
   Drop : ℕ → SimLine
@@ -80,14 +83,20 @@ abbrev pub found_in : List Word → Option SimLine
 found_in [] = None
 found_in (w ∷ ws) = option_and_then founding_by (all_named (w ∷ ws))
 
--- A process starts at an endpoint, and asks at another.
-abbrev pub start : Option Identifier → Option Endpoint → Option Endpoint → Option SimLine
-start (Some id) (Some place) (Some seed) = Some (Events (world.Start (id ++ place) seed) 1)
-start _ _ _ = None
+-- A process starts, and asks at an endpoint, unless its tags are refused.
+abbrev pub start_unless : Option TagsRefusal → Process → Endpoint → SimLine
+start_unless None p seed = Events (world.Start p seed) 1
+start_unless (Some r) p seed = WrongTags r
 
--- The number of a process, its port and the port of its seed.
+-- A process of these tags starts at an endpoint, and asks at another.
+abbrev pub start : Option Identifier → Option Endpoint → Option Endpoint → List Word → Option SimLine
+start (Some id) (Some place) (Some seed) tags =
+    Some (start_unless (tags_refusal tags) (id ++ place ++ tags_bytes tags) seed)
+start _ _ _ tags = None
+
+-- The number of a process, its port, the port of its seed, and its tags.
 abbrev pub start_in : List Word → Option SimLine
-start_in (n ∷ port ∷ seed ∷ []) = start (identifier_named n) (endpoint_named port) (endpoint_named seed)
+start_in (n ∷ port ∷ seed ∷ tags) = start (identifier_named n) (endpoint_named port) (endpoint_named seed) tags
 start_in _ = None
 
 -- A node probes on a ring, with a result, a number of times.

@@ -1,10 +1,11 @@
 -- What `sim` prints: the state of a run, which lines are refused, and the output of an input.
-use Rattle.std.specs.Prelude.{ℕ, zero, suc, Bool, false, not, List, [], ◌∷◌, ◌++◌, length, filter, flat_map, replicate, codes, decimal, nat_lt, if◌then◌else◌, Option, Some, None, is_some}
+use Rattle.std.specs.Prelude.{ℕ, zero, suc, Bool, false, not, List, [], ◌∷◌, ◌++◌, length, filter, flat_map, replicate, codes, decimal, nat_lt, if◌then◌else◌, Option, Some, None}
 use Rattle.std.specs.List.{find, list_any, range_with_len}
 use Rattle.std.specs.FinSet as set
 use Rattle.std.specs.Ordering.{nat_cmp}
 use Rattle.rapid_model.specs.Bytes.{Identifier, Line, Word, Text}
-use Rattle.rapid_model.specs.Process.{Process, identifier, same_bytes}
+use Rattle.rapid_model.specs.Process.{Process, identifier, tags_bytes_of, same_bytes}
+use Rattle.rapid_model.specs.Tags as tags
 use Rattle.rapid_model.specs.Configuration.{Params, Configuration, founding}
 use Rattle.rapid_model.specs.Reading.{are_params}
 use Rattle.rapid_model.specs.World as world
@@ -16,7 +17,7 @@ use Rattle.rapid_model.specs.StoredWorld.{StoredWorld, new_world, world_of, even
 use Rattle.rapid_model.specs.Limits.{down_failures, most_in_flow}
 use Rattle.rapid_model.specs.Lines.{line_feed, space, lines, line_words}
 use Rattle.rapid_model.specs.Numbered.{number_under}
-use Rattle.rapid_model.specs.SimLine.{SimLine, Parameters, Found, Events, Lose, Deliver, Drop, Flow, Packets, command_named}
+use Rattle.rapid_model.specs.SimLine.{SimLine, Parameters, Found, Events, WrongTags, Lose, Deliver, Drop, Flow, Packets, command_named}
 
 -- What a run keeps once its founders were taken.
 pub record Simulation : Type 0 where
@@ -38,6 +39,7 @@ pub data SimRefusal : Type 0 where
   BadLine : SimRefusal
   NoParams : SimRefusal
   BadParams : SimRefusal
+  ByTags : tags.TagsRefusal → SimRefusal
   -- the world refuses an event
   ByWorld : WorldRefusal → SimRefusal
 
@@ -91,6 +93,7 @@ prepared_refusal _ = Some NoParams
 abbrev pub underway_refusal : Simulation → SimLine → Option SimRefusal
 underway_refusal s (Parameters params) = Some BadLine
 underway_refusal s (Found founders) = Some BadLine
+underway_refusal s (WrongTags r) = Some (ByTags r)
 underway_refusal s (Drop k) = if nat_lt (packets_sent s) k then Some BadLine else None
 underway_refusal s _ = None
 
@@ -160,20 +163,31 @@ world_refusal_name faults.NoSuchPacket = codes "NoSuchPacket"
 world_refusal_name faults.NotObserved = codes "NotObserved"
 world_refusal_name faults.EventsFull = codes "EventsFull"
 
+-- The name of a refusal of tags.
+abbrev pub tags_refusal_name : tags.TagsRefusal → Text
+tags_refusal_name tags.BadTag = codes "BadTag"
+tags_refusal_name tags.TooManyTags = codes "TooManyTags"
+tags_refusal_name tags.TagsNotSorted = codes "TagsNotSorted"
+
 -- The name of a refusal.
 abbrev pub refusal_name : SimRefusal → Text
 refusal_name BadLine = codes "BadLine"
 refusal_name NoParams = codes "NoParams"
 refusal_name BadParams = codes "BadParams"
+refusal_name (ByTags r) = tags_refusal_name r
 refusal_name (ByWorld r) = world_refusal_name r
 
 -- The line that a refusal prints.
 abbrev pub refusal_line : SimRefusal → Text
 refusal_line r = codes "refused " ++ refusal_name r ++ line_feed ∷ []
 
--- The numbers of processes, each after a space.
+-- The number of a process, and its tags.
+abbrev pub number_text : Process → Text
+number_text p = decimal (number_under (identifier p)) ++ tags.tags_text (tags.tags_of (tags_bytes_of p))
+
+-- The numbers of processes with their tags, each after a space.
 abbrev pub numbers_text : List Process → Text
-numbers_text ps = flat_map (λ p. space ∷ decimal (number_under (identifier p))) ps
+numbers_text ps = flat_map (λ p. space ∷ number_text p) ps
 
 -- A node by its number.
 abbrev pub node_text : Identifier → Text
@@ -250,6 +264,7 @@ founding_text c = reports_text (reports_of (founded c).log)
 abbrev pub do_command : Simulation → SimLine → Said
 do_command s (Parameters params) = silent s
 do_command s (Found founders) = silent s
+do_command s (WrongTags r) = silent s
 do_command s (Events e n) = do_events s (replicate n e)
 do_command s (Lose id) = do_events s (losing (world_in s) id)
 do_command s (Deliver k) = deliver_then s k silent

@@ -1,8 +1,8 @@
 -- Tags: words that a process has of its own. What they are, their bytes, and how they are read.
 use Rattle.std.specs.Prelude.{◌≡◌, ℕ, ◌≤◌, zero, suc, Bool, true, not, ◌&&◌, ◌==◌, List, [], ◌∷◌, ◌++◌, flat_map, length, take, drop, nat_lt, nat_le, if◌then◌else◌, IsTrue, Option, Some, None, Result, Ok, Err}
 use Rattle.std.specs.List.{list_all}
-use Rattle.std.specs.Ordering.{is_lt}
-use Rattle.rapid_model.specs.Process.{bytes_cmp}
+use Rattle.std.specs.Ordering.{is_lt, nat_cmp}
+use Rattle.std.specs.Cmp.Lexicographic.{slice_cmp}
 
 -- A tag is a string of bytes.
 abbrev pub Tag : Type 0
@@ -30,7 +30,7 @@ is_tag t = is_tag_length (length t) && list_all is_tag_byte t
 
 -- One tag is below another. They are ordered by their own bytes, as in a dictionary.
 abbrev pub is_below : Tag → Tag → Bool
-is_below t u = is_lt (bytes_cmp t u)
+is_below t u = is_lt (slice_cmp nat_cmp t u)
 
 -- Each is above the one before it, and the first above this one.
 abbrev pub ascend_from : Tag → List Tag → Bool
@@ -69,6 +69,11 @@ tags_refusal ts =
     else if not (list_all is_tag ts) then Some BadTag
     else if not (tags_ascend ts) then Some TagsNotSorted
     else None
+
+-- How tags are printed: between square brackets, with commas between them. None are printed as nothing.
+abbrev pub tags_text : List Tag → List ℕ
+tags_text [] = []
+tags_text (t ∷ ts) = 0x5b ∷ t ++ flat_map (λ u. 0x2c ∷ u) ts ++ 0x5d ∷ []
 
 -- The first n tags in bytes that have the length of each before it.
 abbrev pub tags_in : ℕ → List ℕ → List Tag

@@ -18,3 +18,4 @@ mod recovery;
 mod said;
 mod shared;
 mod steps;
+mod tags;

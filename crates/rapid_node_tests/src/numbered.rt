@@ -1,7 +1,7 @@
 // Processes by their numbers, and their cuts.
 
 use rapid_config::Cut;
-use rapid_endpoint::{Endpoint, Process, ProcessId};
+use rapid_endpoint::{Endpoint, ParseError, Process, ProcessId};
 use std::alloc::Global;
 use std::test::Fail;
 
@@ -12,6 +12,12 @@ pub fn process(number: u16) -> Process {
     id[14] = high;
     id[15] = low;
     Process::new(ProcessId::new(id), Endpoint::new([127, 0, 0, 1], number))
+}
+
+/// The process with this number and these tags.
+pub fn tagged(number: u16, tags: &[&[u8]]) -> Result<Process, ParseError> {
+    let bare = process(number);
+    Process::tagged(bare.id(), bare.endpoint(), tags)
 }
 
 /// The cut of the process with this number alone.

@@ -1,9 +1,10 @@
 -- Clauses of public calls cite this file.
 -- What the words of `node` are read as, and what its options are if nothing is said.
-use Rattle.std.specs.Prelude.{◌≡◌, if◌then◌else◌, Option, Some, None, Result, Ok, Err}
+use Rattle.std.specs.Prelude.{◌≡◌, ℕ, List, [], if◌then◌else◌, Option, Some, None, Result, Ok, Err}
 use Rattle.rapid_model.specs.Bytes.{Identifier, Endpoint, Text}
 use Rattle.rapid_model.specs.Configuration.{Params, AreParams}
-use Rattle.rapid_endpoint.specs.Texts.{endpoint_from, identifier_from}
+use Rattle.rapid_model.specs.Tags.{tags_bytes}
+use Rattle.rapid_endpoint.specs.Texts.{endpoint_from, identifier_from, tags_from}
 use Rattle.rapid_endpoint.specs.declared.parse_error.ParseError.{ParseError}
 use Rattle.rapid_transport.specs.Local.{is_local}
 use Rattle.rapid_options.specs.declared.options.NodeOptions.{NodeOptions}
@@ -29,6 +30,16 @@ abbrev pub identifier_of : Option Text → Result (Option Identifier) OptionsErr
 identifier_of None = Ok None
 identifier_of (Some text) = readable (identifier_from text)
 
+-- Tags, or why there are none.
+abbrev pub readable_tags : Result (List ℕ) ParseError → Result (List ℕ) OptionsError
+readable_tags (Ok tags) = Ok tags
+readable_tags (Err fault) = Err (Unreadable fault)
+
+-- The bytes of the tags that the text spells, or why it spells none; no tags if there is no text.
+abbrev pub tags_of : Option Text → Result (List ℕ) OptionsError
+tags_of None = Ok (tags_bytes [])
+tags_of (Some text) = readable_tags (tags_from text)
+
 -- An endpoint, if there is one.
 abbrev pub perhaps : {X : Type 0} → Result X OptionsError → Result (Option X) OptionsError
 perhaps (Ok x) = Ok (Some x)
@@ -49,22 +60,25 @@ abbrev pub or_then : Option OptionsError → Option OptionsError → Option Opti
 or_then None other = other
 or_then (Some fault) other = Some fault
 
--- Why the texts behind `--listen`, `--join` and `--id` are refused, if they are: the first that holds.
-abbrev pub texts_fault : Text → Option Text → Option Text → Option OptionsError
-texts_fault listen join id = or_then (fault_of (local_from listen)) (or_then (fault_of (endpoint_of join)) (fault_of (identifier_of id)))
+-- Why the texts behind `--listen`, `--join`, `--id` and `--tags` are refused, if they are: the first that holds.
+abbrev pub texts_fault : Text → Option Text → Option Text → Option Text → Option OptionsError
+texts_fault listen join id tags =
+    or_then (fault_of (local_from listen))
+    (or_then (fault_of (endpoint_of join)) (or_then (fault_of (identifier_of id)) (fault_of (tags_of tags))))
 
 -- Why words are refused: the parameters come first.
-abbrev pub IsRefusal : Params → Text → Option Text → Option Text → OptionsError → Type 0
-IsRefusal params listen join id BadParams = ¬ AreParams params
-IsRefusal params listen join id (Unreadable fault) = AreParams params × (texts_fault listen join id ≡ Some (Unreadable fault))
-IsRefusal params listen join id NotLocal = AreParams params × (texts_fault listen join id ≡ Some NotLocal)
+abbrev pub IsRefusal : Params → Text → Option Text → Option Text → Option Text → OptionsError → Type 0
+IsRefusal params listen join id tags BadParams = ¬ AreParams params
+IsRefusal params listen join id tags (Unreadable fault) = AreParams params × (texts_fault listen join id tags ≡ Some (Unreadable fault))
+IsRefusal params listen join id tags NotLocal = AreParams params × (texts_fault listen join id tags ≡ Some NotLocal)
 
 -- What the texts are read as.
-pub record AreRead (listen : Text) (join id : Option Text) (place : Endpoint) (seed : Option Endpoint) (identifier : Option Identifier) : Type 0 where
+pub record AreRead (listen : Text) (join id tags : Option Text) (place : Endpoint) (seed : Option Endpoint) (identifier : Option Identifier) (words : List ℕ) : Type 0 where
   pub listens : local_from listen ≡ Ok place
   pub joins : endpoint_of join ≡ Ok seed
   pub goes_by : identifier_of id ≡ Ok identifier
+  pub is_tagged : tags_of tags ≡ Ok words
 
 -- The options of a node at this endpoint of which nothing else is said.
 abbrev pub options_at : Endpoint → NodeOptions
-options_at e = record { listen = e; id = None; join = None; params = record { k = 10; h = 9; l = 3 }; tick_ms = 100; probers = 1 }
+options_at e = record { listen = e; id = None; tags = tags_bytes []; join = None; params = record { k = 10; h = 9; l = 3 }; tick_ms = 100; probers = 1 }

@@ -3,12 +3,12 @@
 ghost use Rattle.std.specs.Prelude.{◌≡◌, true, IfOk, IfErr, OnOk, Ok, Err, None, Some};
 ghost use Rattle.std.specs.Result.{OkIff};
 ghost use Rattle.std.specs.Option.{option_map};
-ghost use Rattle.rapid_options.specs.Options.{local_from, identifier_of, endpoint_of, IsRefusal, AreRead, options_at};
+ghost use Rattle.rapid_options.specs.Options.{local_from, identifier_of, tags_of, endpoint_of, IsRefusal, AreRead, options_at};
 ghost use Rattle.rapid_options.specs.declared.options.OptionsError.TheVariants.{NotLocal};
 ghost use Rattle.rapid_transport.specs.Local.{is_local};
 
 use rapid_config::Params;
-use rapid_endpoint::{Endpoint, ParseError, ProcessId};
+use rapid_endpoint::{Endpoint, ParseError, ProcessId, Tags};
 use rapid_transport::is_local;
 use thiserror::Error;
 
@@ -22,6 +22,8 @@ pub struct NodeWords<'a> {
     pub listen: &'a str,
     /// The value of `--id`.
     pub id: Option<&'a str>,
+    /// The value of `--tags`.
+    pub tags: Option<&'a str>,
     /// The value of `--join`.
     pub join: Option<&'a str>,
     /// The number of rings.
@@ -43,6 +45,8 @@ pub struct NodeOptions {
     pub listen: Endpoint,
     /// Its identifier; one is drawn if there is none.
     pub id: Option<ProcessId>,
+    /// Its tags.
+    pub tags: Tags,
     /// The endpoint of the seed by which it joins; it founds a cluster if there is none.
     pub join: Option<Endpoint>,
     /// K, H and L of a cluster that it founds.
@@ -59,7 +63,7 @@ pub enum OptionsError {
     /// K, H and L are not in order.
     #[error("K, H and L are not 1 <= L <= H <= K <= 16")]
     BadParams,
-    /// An endpoint or the identifier cannot be read.
+    /// An endpoint, the identifier or the tags cannot be read.
     #[error("{0}")]
     Unreadable(ParseError),
     /// An endpoint is not 127.x.x.x with a port from 1.
@@ -69,8 +73,8 @@ pub enum OptionsError {
 
 impl NodeOptions {
     /// The options of a node at this endpoint. It founds a cluster with K = 10, H = 9 and L = 3,
-    /// and draws its identifier. It ticks every 100 milliseconds and probes in one thread. The
-    /// other methods change these.
+    /// draws its identifier, and has no tags. It ticks every 100 milliseconds and probes in one
+    /// thread. The other methods change these.
     ///
     /// # Errors
     ///
@@ -88,6 +92,7 @@ impl NodeOptions {
         Ok(NodeOptions {
             listen,
             id: None,
+            tags: Tags::none(),
             join: None,
             params,
             tick_ms: DEFAULT_TICK_MS,
@@ -121,6 +126,13 @@ impl NodeOptions {
             id: Some(id),
             ..self
         }
+    }
+
+    /// The node has these tags.
+    pub fn tagged(self, tags: Tags) -> NodeOptions
+        ensures { result ≡ record self { tags = tags } }
+    {
+        NodeOptions { tags, ..self }
     }
 
     /// A cluster that the node founds has this K, H and L.
@@ -183,22 +195,37 @@ fn identifier(text: Option<&str>) -> Result<Option<ProcessId>, OptionsError>
     }
 }
 
+/// The tags that a text spells, or none if there is no text.
+fn tags(text: Option<&str>) -> Result<Tags, OptionsError>
+    ensures { result ≡ tags_of (option_map (λ t. t.now) text.entry) }
+{
+    match text {
+        None => Ok(Tags::none()),
+        Some(text) => match Tags::parse(text) {
+            Ok(tags) => Ok(tags),
+            Err(fault) => Err(OptionsError::Unreadable(fault)),
+        },
+    }
+}
+
 /// Judges the words of `node`.
 ///
 /// # Errors
 ///
 /// The first that holds. `BadParams` if K, H and L are not in order. `Unreadable` or `NotLocal` of
-/// the endpoint after `--listen`, then of that after `--join`. `Unreadable` of the identifier.
+/// the endpoint after `--listen`, then of that after `--join`. `Unreadable` of the identifier, then
+/// of the tags.
 pub fn judge(words: NodeWords) -> Result<NodeOptions, OptionsError>
-    ensures texts { IfOk result (λ o. AreRead words.entry.listen.now (option_map (λ t. t.now) words.entry.join) (option_map (λ t. t.now) words.entry.id) o.listen o.join o.id) }
+    ensures texts { IfOk result (λ o. AreRead words.entry.listen.now (option_map (λ t. t.now) words.entry.join) (option_map (λ t. t.now) words.entry.id) (option_map (λ t. t.now) words.entry.tags) o.listen o.join o.id o.tags) }
     ensures params { IfOk result (λ o. o.params ≡ record { k = words.entry.k; h = words.entry.h; l = words.entry.l }) }
     ensures tick { IfOk result (λ o. o.tick_ms ≡ words.entry.tick_ms) }
     ensures probers { IfOk result (λ o. o.probers ≡ words.entry.probers) }
-    ensures refused { IfErr result (IsRefusal (record { k = words.entry.k; h = words.entry.h; l = words.entry.l }) words.entry.listen.now (option_map (λ t. t.now) words.entry.join) (option_map (λ t. t.now) words.entry.id)) }
+    ensures refused { IfErr result (IsRefusal (record { k = words.entry.k; h = words.entry.h; l = words.entry.l }) words.entry.listen.now (option_map (λ t. t.now) words.entry.join) (option_map (λ t. t.now) words.entry.id) (option_map (λ t. t.now) words.entry.tags)) }
 {
     let NodeWords {
         listen,
         id,
+        tags: words_of_tags,
         join,
         k,
         h,
@@ -211,10 +238,12 @@ pub fn judge(words: NodeWords) -> Result<NodeOptions, OptionsError>
     };
     let listen = local_endpoint(listen)?;
     let join = seed(join)?;
-    match identifier(id) {
-        Ok(id) => Ok(NodeOptions {
+    let id = identifier(id)?;
+    match tags(words_of_tags) {
+        Ok(tags) => Ok(NodeOptions {
             listen,
             id,
+            tags,
             join,
             params,
             tick_ms,

@@ -1,4 +1,4 @@
-// Tests of who the members are: endpoints, identifiers, cuts and configurations.
+// Tests of who the members are: endpoints, identifiers, tags, cuts and configurations.
 
 mod changes;
 mod configurations;
@@ -7,3 +7,4 @@ mod endpoints;
 mod hexadecimal;
 mod readings;
 mod tags;
+mod texts;

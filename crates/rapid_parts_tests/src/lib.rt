@@ -12,6 +12,8 @@ mod numbered;
 #[cfg(test)]
 mod rings;
 #[cfg(test)]
+mod second;
+#[cfg(test)]
 mod vote;
 #[cfg(test)]
 mod wire;

@@ -1,7 +1,7 @@
 // Processes by their numbers, and configurations of them.
 
 use rapid_config::{ConfigError, Configuration, Params};
-use rapid_endpoint::{Endpoint, Process, ProcessId};
+use rapid_endpoint::{Endpoint, ParseError, Process, ProcessId};
 use std::alloc::{AllocError, Global};
 
 /// The process of this identifier in 16 bytes, at this port of 127.0.0.1.
@@ -13,6 +13,12 @@ pub fn at(number: u16, port: u16) -> Process {
 /// The process with this number as identifier and port.
 pub fn process(number: u16) -> Process {
     at(number, number)
+}
+
+/// The process with this number as identifier and port, and with these tags.
+pub fn tagged(number: u16, tags: &[&[u8]]) -> Result<Process, ParseError> {
+    let bare = process(number);
+    Process::tagged(bare.id(), bare.endpoint(), tags)
 }
 
 /// An identifier and a port.

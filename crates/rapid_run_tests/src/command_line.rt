@@ -17,7 +17,7 @@ type Row = (&'static str, u8, &'static str, &'static str);
 const NO_TICKS: &str =
     "note: with --tick-ms 0 only lines tick this node: it joins nobody, sees no crash, and may hold up its cluster\n";
 
-const ROWS: [Row; 43] = [
+const ROWS: [Row; 57] = [
     ("--version", 0, "rapidd 0.1.0\n", ""),
     ("-V", 0, "rapidd 0.1.0\n", ""),
     ("detect", 0, "", ""),
@@ -291,6 +291,120 @@ For more information, try 'rapidd node --help'.
 For more information, try 'rapidd node --help'.
 ",
     ),
+    // tags
+    (
+        "node --listen 127.0.0.1:7441 --tags",
+        2,
+        "",
+        "error: no value for '--tags <TAGS>': up to 8 ascending words of 1 to 64 bytes are wanted, with commas between them, such as db,zone-a
+
+For more information, try 'rapidd node --help'.
+",
+    ),
+    (
+        "node --listen 127.0.0.1:7441 --tags web,db",
+        2,
+        "",
+        "error: invalid value 'web,db' for '--tags <TAGS>': they do not ascend; up to 8 ascending words of 1 to 64 bytes are wanted, with commas between them, such as db,zone-a
+
+For more information, try 'rapidd node --help'.
+",
+    ),
+    (
+        "node --listen 127.0.0.1:7441 --tags=1,2,3,4,5,6,7,8,9",
+        2,
+        "",
+        "error: invalid value '1,2,3,4,5,6,7,8,9' for '--tags <TAGS>': there are more than 8; up to 8 ascending words of 1 to 64 bytes are wanted, with commas between them, such as db,zone-a
+
+For more information, try 'rapidd node --help'.
+",
+    ),
+    (
+        "node --listen 127.0.0.1:7441 --tags web,db]",
+        2,
+        "",
+        "error: invalid value 'web,db]' for '--tags <TAGS>': one is empty, too long, or has a byte that is not allowed; up to 8 ascending words of 1 to 64 bytes are wanted, with commas between them, such as db,zone-a
+
+For more information, try 'rapidd node --help'.
+",
+    ),
+    (
+        "node --listen 127.0.0.1:7441 --tags db,",
+        2,
+        "",
+        "error: invalid value 'db,' for '--tags <TAGS>': one is empty, too long, or has a byte that is not allowed; up to 8 ascending words of 1 to 64 bytes are wanted, with commas between them, such as db,zone-a
+
+For more information, try 'rapidd node --help'.
+",
+    ),
+    (
+        "node --listen 127.0.0.1:7441 --tags=",
+        2,
+        "",
+        "error: invalid value '' for '--tags <TAGS>': one is empty, too long, or has a byte that is not allowed; up to 8 ascending words of 1 to 64 bytes are wanted, with commas between them, such as db,zone-a
+
+For more information, try 'rapidd node --help'.
+",
+    ),
+    // 65 bytes, and 64
+    (
+        "node --listen 127.0.0.1:7441 --tags xxxxxxxxxxxxxxxxxxxxxxxxxxxxxxxxxxxxxxxxxxxxxxxxxxxxxxxxxxxxxxxxx",
+        2,
+        "",
+        "error: invalid value 'xxxxxxxxxxxxxxxxxxxxxxxxxxxxxxxxxxxxxxxxxxxxxxxxxxxxxxxxxxxxxxxxx' for '--tags <TAGS>': one is empty, too long, or has a byte that is not allowed; up to 8 ascending words of 1 to 64 bytes are wanted, with commas between them, such as db,zone-a
+
+For more information, try 'rapidd node --help'.
+",
+    ),
+    (
+        "node --listen 127.0.0.1:7441 --tags xxxxxxxxxxxxxxxxxxxxxxxxxxxxxxxxxxxxxxxxxxxxxxxxxxxxxxxxxxxxxxxx",
+        0,
+        "height 0 members 127.0.0.1:7441[xxxxxxxxxxxxxxxxxxxxxxxxxxxxxxxxxxxxxxxxxxxxxxxxxxxxxxxxxxxxxxxx]\n",
+        NO_TICKS,
+    ),
+    (
+        "node --listen 127.0.0.1:7441 --tags db,web",
+        0,
+        "height 0 members 127.0.0.1:7441[db,web]\n",
+        NO_TICKS,
+    ),
+    (
+        "node --listen 127.0.0.1:7441 --tags !",
+        0,
+        "height 0 members 127.0.0.1:7441[!]\n",
+        NO_TICKS,
+    ),
+    // a value that begins with - stands behind =
+    (
+        "node --listen 127.0.0.1:7441 --tags=-x",
+        0,
+        "height 0 members 127.0.0.1:7441[-x]\n",
+        NO_TICKS,
+    ),
+    (
+        "node --listen 127.0.0.1:7441 --tags -",
+        0,
+        "height 0 members 127.0.0.1:7441[-]\n",
+        NO_TICKS,
+    ),
+    (
+        "node --listen 127.0.0.1:7441 --tags -x",
+        2,
+        "",
+        "error: invalid value '-x' for '--tags <TAGS>': up to 8 ascending words of 1 to 64 bytes are wanted, with commas between them, such as db,zone-a
+
+For more information, try 'rapidd node --help'.
+",
+    ),
+    (
+        "node --listen 127.0.0.1:7441 --id 1 --tags web,db",
+        2,
+        "",
+        "error: invalid value '1' for '--id <UUID>': a UUID is wanted that was never used before, such as 6ba7b810-9dad-41d1-80b4-00c04fd430c8
+
+For more information, try 'rapidd node --help'.
+",
+    ),
     // faults at the first place are reported first
     (
         "node --listen localhost:1 --join 127.0.0.1 --id 1 --k 3",
@@ -453,9 +567,14 @@ const HELPS: [(&str, &[&str]); 6] = [
         "sim --help",
         &[
             "its status stays 0",
+            "  start N PORT SEEDPORT [TAG ..] ",
+            "2[db,web]",
             "  BadLine ",
             "  NoParams ",
             "  BadParams ",
+            "  TooManyTags ",
+            "  BadTag ",
+            "  TagsNotSorted ",
             "  IdentifierUsed ",
             "  EndpointBusy ",
             "  NoSuchNode ",
@@ -483,6 +602,9 @@ const HELPS: [(&str, &[&str]); 6] = [
             "--listen <ENDPOINT>",
             "required",
             "without it one is drawn",
+            "--tags <TAGS>",
+            "up to 8 words, ascending",
+            "127.0.0.1:7401[db,zone-a]",
             "without it the node founds a cluster",
             "0 to 60000",
             "[default: 0]",

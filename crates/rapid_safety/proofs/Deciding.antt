@@ -1,6 +1,6 @@
 -- A life that ends with a decision has heard a quorum for it, or a Decision.
 use Rattle.std.proofs.Common.{◌≡◌, ◌≤◌, ◌+◌, inl, inr, ℕ, Bool, true, false, cond, ◌&&◌, ◌||◌, List, [], ◌∷◌, count_by, refl, sym, ap, subst, ◌∙◌, arith, ◌++◌, Option, Some, None, length, ◌<◌, ◌*◌, ◌==◌, not}
-use Rattle.rapid_safety.proofs.Basics.{and_parts, and_from, false_from_ne_true, unwrap_or, nat_le, nat_cmp_total, cond_some, In, in_from, contains_from, same_bytes_decides, ballots_exact, ballots_decided, cuts_exact, same_cut_decides, notices_total, first_equal, second_equal}
+use Rattle.rapid_safety.proofs.Basics.{and_parts, and_from, false_from_ne_true, unwrap_or, nat_cmp_total, cond_some, In, in_from, contains_from, same_bytes_decides, ballots_exact, ballots_decided, cuts_exact, same_cut_decides, notices_total, first_equal, second_equal}
 use Rattle.std.specs.FinSet as set
 use Rattle.std.specs.FinMap as map
 use Rattle.rapid_safety.proofs.Values.{Process, same_bytes, Cut, cut_cmp, same_cut, Configuration, configuration_id, position_of, Message, Body, FastVote, Accepted, Decision, Ballot, same_ballot, ballot_cmp, fast_ballot, size, classic_size, fast_size}

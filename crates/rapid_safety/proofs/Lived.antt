@@ -1,6 +1,6 @@
 -- In every run the life of each member stands in the log.
 use Rattle.std.proofs.Common.{◌≡◌, ◌≢◌, ◌⊎◌, ◌<◌, ◌+◌, inl, inr, ℕ, zero, suc, Bool, true, false, cond, not, ◌&&◌, ◌||◌, ◌==◌, List, [], ◌∷◌, ◌++◌, map, refl, sym, ap, subst, ◌∙◌, Option, Some, None, arith, append_assoc, unwrap_or, length, append-nil}
-use Rattle.rapid_safety.proofs.Basics.{slice_get, nat_lt, list_any, list_all, is_lt, and_parts, or_parts, false_from_ne_true, cond_both, filter_map-append, and-false, same_bytes_decides, In}
+use Rattle.rapid_safety.proofs.Basics.{slice_get, nat_lt, list_any, is_lt, and_parts, or_parts, false_from_ne_true, cond_both, filter_map-append, and-false, same_bytes_decides, In}
 use Rattle.rapid_safety.proofs.Values.{Process, identifier, bytes_cmp, same_bytes, is_in, Cut, Configuration, AreMembers, is_member, identifiers_ascend, apply, Message, Body, Reply, Confirm}
 use Rattle.rapid_safety.proofs.Parts.{fresh_edge, probed, edge_after, Monitors, Joiner, after_tick, asks_at_tick}
 use Rattle.rapid_safety.proofs.Working.{Node, Phase, Joining, Member, Removed, Halted, MemberState, Effect, Outcome, Event, EdgeDown, Receive, member_in, member_config, fresh_member, seed_node, has_installed, halt, receive_as_joiner, joins_on, replied, node_step, step_tick, step_receive, step_edge_down, step_leave, phase_in, question_to, idle}

@@ -1,6 +1,6 @@
 -- Members that differ: their places, how many of them pass a test, and that a cut makes of them members that differ.
 use Rattle.std.proofs.Common.{◌≡◌, ◌≤◌, ◌<◌, ◌+◌, ◌⊎◌, inl, inr, ℕ, zero, suc, Bool, true, false, cond, not, ◌&&◌, ◌||◌, List, [], ◌∷◌, map, filter, count_by, refl, sym, ap, ap₂, subst, ◌∙◌, Option, Some, None, length, unwrap_or, arith}
-use Rattle.rapid_safety.proofs.Basics.{position, get_or, slice_get, nat_lt, flat_map, tied_itself, list_any, list_all, position_or_len, range_with_len, is_lt, and_parts, false_from_ne_true, cond_both, not-true, or_parts, position-Some, sum_by-cons, slice_get-get_or, In, in_split, same_bytes_decides, processes_total}
+use Rattle.rapid_safety.proofs.Basics.{position, get_or, slice_get, nat_lt, flat_map, tied_itself, list_any, position_or_len, range_with_len, is_lt, and_parts, false_from_ne_true, cond_both, not-true, or_parts, position-Some, slice_get-get_or, In, in_split, same_bytes_decides, processes_total}
 use Rattle.rapid_safety.proofs.Values.{Process, identifier, bytes_cmp, process_cmp, same_bytes, is_in, same_identifier, same_endpoint, Cut, Configuration, identifiers_ascend, collides, insert_process, with_joiners, apply}
 use Rattle.rapid_safety.proofs.Working.{place}
 use Rattle.rapid_model.proofs.Logic.{not_both}

@@ -3,7 +3,7 @@ use Rattle.std.proofs.Common.{◌≡◌, ℕ, Bool, true, false, cond, ◌&&◌,
 use Rattle.rapid_safety.proofs.Basics.{filter_map, nat_lt, nat_le, Contains, flat_map, All, slice_index_or, filter_map-append, and_parts, and_from, cond_both, In, in_left, in_right, in_from, contains_from, same_bytes_decides, reports_exact, processes_total, reports_total, tie_decides, list_any, eq_by_cmp, or-true, and-false}
 use Rattle.std.specs.FinSet as set
 use Rattle.rapid_safety.proofs.Values.{Process, same_bytes, is_in, process_cmp, Cut, Configuration, AreMembers, AreParams, configuration_id, is_member, observers_of, Observers, rings, Message, apply, Alert, is_well_formed}
-use Rattle.rapid_safety.proofs.Parts.{direct_reports, cut_of, Report, Reports, tally, reaches_low, is_implied, Includes, IsClosed, IsLeastClosed, reports, is_stable, subjects, stable, unstable, cut_if, is_unstable, report_cmp, empty_detector}
+use Rattle.rapid_safety.proofs.Parts.{direct_reports, cut_of, Report, Reports, tally, reaches_low, is_implied, Includes, IsClosed, IsLeastClosed, reports, is_stable, subjects, stable, unstable, is_unstable, report_cmp, empty_detector}
 use Rattle.rapid_safety.proofs.Working.{Node, Phase, Member, MemberState, Outcome, Event, member_in, member_config, node_step}
 use Rattle.rapid_safety.proofs.Worlds.{World, Peer, Act, Probed, HasHalted, Crashed, Installed, Entry, MarkedEvent, entry, acts_of, run, founded, first_of, proposed_by, acts_in, sent, alerts_said, SentAlert, received, taken_by, alerts_taken, batches_in, IsJustified, NoCollision, IsSupport, IsSupported, IsReportedEnough}
 use Rattle.rapid_model.proofs.Closure.{count_mono, least_closed}

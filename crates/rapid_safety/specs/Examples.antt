@@ -7,9 +7,9 @@ use Rattle.rapid_model.specs.Apply.{apply}
 use Rattle.rapid_model.specs.Ballot.{Ballot}
 use Rattle.rapid_model.specs.World.{WorldEvent, Start, Tick, Deliver, MarkedEvent}
 
--- The process of number n below 256.
+-- The process of number n below 256, without tags.
 abbrev pub process : ℕ → Process
-process n = replicate 15 0 ++ n ∷ 127 ∷ 0 ∷ 0 ∷ 1 ∷ 0 ∷ n ∷ []
+process n = replicate 15 0 ++ n ∷ 127 ∷ 0 ∷ 0 ∷ 1 ∷ 0 ∷ n ∷ 0 ∷ []
 
 -- The founder that misses the decision.
 abbrev pub other : Process

@@ -4,7 +4,7 @@ use Rattle.rapid_model.specs.World as world
 use Rattle.rapid_model.specs.World.{WorldEvent}
 use Rattle.rapid_model.specs.Run.{WorldReport, step_reports}
 use Rattle.rapid_model.specs.StoredWorld.{StoredWorld, StoresEvent, with_event, world_of, unmarked, wants_of}
-use Rattle.rapid_model.specs.SimLine.{SimLine, Parameters, Found, Events, Lose, Deliver, Drop, Flow, Packets}
+use Rattle.rapid_model.specs.SimLine.{SimLine, Parameters, Found, Events, WrongTags, Lose, Deliver, Drop, Flow, Packets}
 use Rattle.rapid_model.specs.Limits.{most_in_flow}
 use Rattle.rapid_model.specs.SimText.{Simulation, SimState, Underway, Asked, Command, Said, asked, answer, after, printed, world_in, refused, reports_text, taking, taken_text, settling, losing, least_unsettled, can_reach, silent, event_then, do_events, deliver_then, next_then, do_flow, text_of_lines}
 use Rattle.rapid_sim.specs.Wants.{IsSilent, EventPrints, EventsPrint, DeliveryPrints, IfHolds, NextPrints, FlowPrints, CommandPrints, LinePrints, LinesPrint}
@@ -79,6 +79,7 @@ command_exact s (Deliver k) text t p = let h = delivery_exact s k text t p in (h
 command_exact s Flow text t p = let h = flow_exact most_in_flow s text t p in (h.0, ap Underway h.1)
 command_exact s (Parameters params) text t p = absurd p
 command_exact s (Found founders) text t p = absurd p
+command_exact s (WrongTags r) text t p = absurd p
 command_exact s (Drop k) text t p = absurd p
 command_exact s Packets text t p = absurd p
 

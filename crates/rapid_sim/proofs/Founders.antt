@@ -8,7 +8,7 @@ abbrev pub before_all : List Process → Option (List Process) → Option (List 
 before_all ps None = None
 before_all ps (Some qs) = Some (ps ++ qs)
 
-joins : (ps : List Process) (p : Process) (later : Option (List Process)) → before_all ps (with_named (Some p) later) ≡ before_all (ps ++ p ∷ []) later
+pub joins : (ps : List Process) (p : Process) (later : Option (List Process)) → before_all ps (with_named (Some p) later) ≡ before_all (ps ++ p ∷ []) later
 joins ps p None = refl
 joins ps p (Some qs) = ap Some (sym (append_assoc ps (p ∷ []) qs))
 

@@ -5,17 +5,27 @@ use Rattle.rapid_model.specs.Process as model_process
 use Rattle.rapid_model.specs.Reading.{members_fault}
 use Rattle.rapid_model.specs.SimLine as model
 use Rattle.rapid_model.specs.SimText as text
+use Rattle.rapid_model.specs.Tags as tags
+use Rattle.rapid_endpoint.specs.declared.parse_error.ParseError.{ParseError}
+use Rattle.rapid_endpoint.specs.declared.parse_error.ParseError.TheVariants as parse
 use Rattle.rapid_world.specs.Events.{event_of}
 use Rattle.rapid_sim.specs.declared.command.SimCommand.{SimCommand}
-use Rattle.rapid_sim.specs.declared.command.SimCommand.TheVariants.{Parameters, Found, Events, Lose, Deliver, Drop, Flow, Packets}
+use Rattle.rapid_sim.specs.declared.command.SimCommand.TheVariants.{Parameters, Found, Events, WrongTags, Lose, Deliver, Drop, Flow, Packets}
 use Rattle.rapid_sim.specs.declared.command.SimAsked.{SimAsked}
 use Rattle.rapid_sim.specs.declared.command.SimAsked.TheVariants.{Nothing, Unknown, Taken}
+
+-- Why tags are refused, by the error that says so. The errors of other texts do not come of tags.
+abbrev pub tags_refusal_of : ParseError → tags.TagsRefusal
+tags_refusal_of parse.TooManyTags = tags.TooManyTags
+tags_refusal_of parse.TagsNotSorted = tags.TagsNotSorted
+tags_refusal_of _ = tags.BadTag
 
 -- A command.
 abbrev pub command_of : SimCommand → model.SimLine
 command_of (Parameters k h l) = model.Parameters (record { k = k; h = h; l = l })
 command_of (Found c) = model.Found c.members
 command_of (Events e n) = model.Events (event_of e) n
+command_of (WrongTags e) = model.WrongTags (tags_refusal_of e)
 command_of (Lose id) = model.Lose id
 command_of (Deliver k) = model.Deliver k
 command_of (Drop k) = model.Drop k

@@ -9,7 +9,7 @@ use Rattle.rapid_model.specs.Refusal.{WorldRefusal}
 use Rattle.rapid_model.specs.Run.{WorldReport}
 use Rattle.rapid_model.specs.StoredWorld.{StoredWorld, StoresEvent, wants_of}
 use Rattle.rapid_model.specs.Lines.{line_feed, lines}
-use Rattle.rapid_model.specs.SimLine.{SimLine, Parameters, Found, Events, Lose, Deliver, Drop, Flow, Packets}
+use Rattle.rapid_model.specs.SimLine.{SimLine, Parameters, Found, Events, WrongTags, Lose, Deliver, Drop, Flow, Packets}
 use Rattle.rapid_model.specs.Limits.{most_in_flow}
 use Rattle.rapid_model.specs.SimText.{Simulation, SimState, Blank, Underway, ByWorld, Asked, Command, asked, after, printed, world_in, refused, refusal_line, reports_text, settling, losing, least_unsettled, can_reach}
 
@@ -90,6 +90,7 @@ CommandPrints s (Deliver k) text t wants = DeliveryPrints s k text t wants
 CommandPrints s Flow text t wants = FlowPrints most_in_flow s text t wants
 CommandPrints s (Parameters params) text t wants = ⊥
 CommandPrints s (Found founders) text t wants = ⊥
+CommandPrints s (WrongTags r) text t wants = ⊥
 CommandPrints s (Drop k) text t wants = ⊥
 CommandPrints s Packets text t wants = ⊥
 

@@ -1,6 +1,6 @@
 // The commands of `sim`, and the lines that spell them.
 
-ghost use Rattle.std.specs.Prelude.{◌≡◌, ◌<◌, ◌≤◌, false, length, bytes_eq, codes, IfOk, IfSome};
+ghost use Rattle.std.specs.Prelude.{◌≡◌, ◌<◌, ◌≤◌, ◌++◌, false, length, map, bytes_eq, codes, Some, IfOk, IfSome};
 ghost use Rattle.std.specs.Option.{option_map, option_and_then};
 ghost use Rattle.rapid_model.specs.Lines.{words};
 ghost use Rattle.rapid_model.specs.Configuration.{founding};
@@ -8,10 +8,11 @@ ghost use Rattle.rapid_model.specs.DetectLine.{marks_in};
 ghost use Rattle.rapid_model.specs.SimLine as model;
 ghost use Rattle.rapid_model.specs.SimLine.{number_from_1, identifier_named, endpoint_named, result_named, count_in, identifier_in, packet_in, all_named, found_in, start_in, probe_in, tick_in, command_named};
 ghost use Rattle.rapid_model.specs.SimText.{asked};
+ghost use Rattle.rapid_model.specs.Tags.{tags_refusal, tags_bytes};
 ghost use Rattle.rapid_sim.specs.Commands.{command_of, asked_of, IsFoundingBy, HasFounding, IsPlain, IsFromOne, IsReady, AsksReady};
 
 use rapid_config::{ConfigError, Configuration, Params};
-use rapid_endpoint::{Endpoint, Process, ProcessId};
+use rapid_endpoint::{Endpoint, ParseError, Process, ProcessId};
 use rapid_text::{byte, is_plain, number, one_word, process, split_word, three_words};
 use rapid_world::WorldEvent;
 use std::alloc::{AllocError, Global};
@@ -25,6 +26,8 @@ pub(crate) enum SimCommand {
     Found(Configuration),
     /// An event of the world, and how often it happens, from 1.
     Events(WorldEvent, u64),
+    /// A start of a process with tags that are refused.
+    WrongTags(ParseError),
     /// All that run lose the member of this identifier.
     Lose(ProcessId),
     /// A packet, from 1, is delivered.
@@ -157,14 +160,51 @@ fn found(alloc: Global, params: Params, line: &[u8]) -> Result<Option<SimCommand
     }
 }
 
-/// The start that the words of a line name: a process, its port and the port of its seed.
-fn start(line: &[u8]) -> Option<SimCommand>
-    ensures named { option_map command_of result ≡ start_in (words line.now) }
-    ensures plain { IfSome result IsPlain }
+/// The words of a line.
+fn words_of(alloc: Global, line: &[u8]) -> Result<Vec<&[u8]>, AllocError>
+    ensures { IfOk result (λ found. map (λ word. word.now) found.items ≡ words line.now) }
 {
-    let (id, place, seed) = three_words(line)?;
-    let process = Process::new(identifier(id)?, endpoint(place)?);
-    Some(SimCommand::Events(WorldEvent::Start(process, endpoint(seed)?), 1))
+    let mut found = Vec::new(alloc);
+    let mut rest = line;
+    while let Some((word, others)) = split_word(rest) {
+        found.push(word)?;
+        rest = others;
+    }
+    Ok(found)
+}
+
+/// The start of a process of these tags at an endpoint, which asks at another.
+fn start_of(id: ProcessId, place: Endpoint, seed: Endpoint, tags: &[&[u8]]) -> SimCommand
+    ensures named { command_of result ≡ model.start_unless (tags_refusal (map (λ tag. tag.now) tags.now)) (id ++ place ++ tags_bytes (map (λ tag. tag.now) tags.now)) seed }
+    ensures plain { IsPlain result }
+{
+    match Process::tagged(id, place, tags) {
+        Ok(process) => SimCommand::Events(WorldEvent::Start(process, seed), 1),
+        Err(error) => SimCommand::WrongTags(error),
+    }
+}
+
+/// The start that the words of a line name: a process, its port, the port of its seed, and its tags.
+fn start(alloc: Global, line: &[u8]) -> Result<Option<SimCommand>, AllocError>
+    ensures named { IfOk result (λ c. option_map command_of c ≡ start_in (words line.now)) }
+    ensures plain { IfOk result (λ c. IfSome c IsPlain) }
+{
+    let Some((id, place, seed, rest)) = start_words(line) else {
+        return Ok(None);
+    };
+    let tags = words_of(alloc, rest)?;
+    Ok(Some(start_of(id, place, seed, tags.as_slice())))
+}
+
+/// The identifier of a process, its endpoint and that of its seed, by the first words of a line, and
+/// what follows these.
+fn start_words(line: &[u8]) -> Option<(ProcessId, Endpoint, Endpoint, &[u8])>
+    ensures { option_map (λ x. model.start (Some x.0) (Some x.1) (Some x.2) (words x.3.now)) result ≡ option_map Some (start_in (words line.now)) }
+{
+    let (id, rest) = split_word(line)?;
+    let (place, rest) = split_word(rest)?;
+    let (seed, rest) = split_word(rest)?;
+    Some((identifier(id)?, endpoint(place)?, endpoint(seed)?, rest))
 }
 
 /// The probe that the words of a line name: a node, a ring, a result, and perhaps how often.
@@ -214,16 +254,15 @@ fn alone(command: SimCommand, line: &[u8]) -> Option<SimCommand>
     }
 }
 
-/// The command of a name and the words after it, but for a founding.
+/// The command of a name and the words after it, but for a founding and a start.
 fn plain_command(name: &[u8], rest: &[u8]) -> Option<SimCommand>
-    requires { bytes_eq name.now (codes "found") ≡ false }
+    requires found { bytes_eq name.now (codes "found") ≡ false }
+    requires start { bytes_eq name.now (codes "start") ≡ false }
     ensures named { option_map command_of result ≡ command_named name.now (words rest.now) }
     ensures plain { IfSome result IsPlain }
 {
     if name == b"params".as_slice() {
         parameters(rest)
-    } else if name == b"start".as_slice() {
-        start(rest)
     } else if name == b"probe".as_slice() {
         probe(rest)
     } else if name == b"lose".as_slice() {
@@ -259,6 +298,8 @@ fn command_by(
 {
     if name == b"found".as_slice() {
         found(alloc, params, rest)
+    } else if name == b"start".as_slice() {
+        start(alloc, rest)
     } else {
         Ok(plain_command(name, rest))
     }

@@ -8,7 +8,7 @@ ghost use Rattle.rapid_model.specs.SimLine as line;
 ghost use Rattle.rapid_model.specs.SimText as model;
 ghost use Rattle.rapid_text.specs.Underway.{AppendsFront, IsCounted};
 ghost use Rattle.rapid_text.specs.declared.fault.RunFault.TheVariants.{OutOfMemory};
-ghost use Rattle.rapid_sim.specs.Commands.{command_of, asked_of, HasFounding, IsFromOne, IsPreparation, IsReady, AsksReady};
+ghost use Rattle.rapid_sim.specs.Commands.{command_of, tags_refusal_of, asked_of, HasFounding, IsFromOne, IsPreparation, IsReady, AsksReady};
 ghost use Rattle.rapid_sim.specs.Progress.{IsAnswered, IsAnsweredExactly};
 ghost use Rattle.rapid_sim.specs.Replies.{refusal_of};
 ghost use Rattle.rapid_sim.specs.Simulators.{simulation_of, phase_state, phase_wants, state_of, wants_in, HasParams};
@@ -19,6 +19,7 @@ use crate::settled::Settled;
 use crate::simulator::Simulator;
 use crate::view::{SimRefusal, refused_line, write_founding, write_packets};
 use rapid_config::{Configuration, Params};
+use rapid_endpoint::ParseError;
 use rapid_text::{Engine, RunFault};
 use rapid_world::World;
 use std::alloc::{AllocError, Global};
@@ -87,6 +88,18 @@ impl Simulator {
         output.extend_from_slice(refused_line(SimRefusal::BadLine))
     }
 
+    /// Refuses a start with wrong tags.
+    fn refuse_tags(&self, error: ParseError, output: &mut Vec<u8>) -> Result<(), AllocError>
+        ensures { OnOk result (IsAnsweredExactly (model.Underway (simulation_of self.now)) (model.Underway (simulation_of self.now)) (model.Command (line.WrongTags (tags_refusal_of error))) output.old.items output.new.items) }
+    {
+        let refusal = match error {
+            ParseError::TooManyTags => SimRefusal::TooManyTags,
+            ParseError::TagsNotSorted => SimRefusal::TagsNotSorted,
+            _ => SimRefusal::BadTag,
+        };
+        output.extend_from_slice(refused_line(refusal))
+    }
+
     /// Does what a command asks for, or refuses it, and appends what that prints.
     fn obey(
         &mut self,
@@ -100,6 +113,7 @@ impl Simulator {
         match command {
             SimCommand::Parameters(_, _, _) | SimCommand::Found(_) => self.refuse(command, output),
             SimCommand::Events(event, count) => self.repeat(event, *count, output),
+            SimCommand::WrongTags(error) => self.refuse_tags(*error, output),
             SimCommand::Lose(id) => self.lose(alloc, id, output),
             SimCommand::Deliver(packet) => self.deliver(*packet, output),
             SimCommand::Drop(packet) => self.drop_packet(*packet, output),
@@ -183,6 +197,7 @@ impl SimRun {
             SimCommand::Drop(_) => output.extend_from_slice(refused_line(SimRefusal::BadLine)),
             SimCommand::Found(_)
             | SimCommand::Events(_, _)
+            | SimCommand::WrongTags(_)
             | SimCommand::Lose(_)
             | SimCommand::Deliver(_)
             | SimCommand::Flow
@@ -208,6 +223,7 @@ impl SimRun {
                 output.extend_from_slice(refused_line(SimRefusal::BadLine))
             }
             SimCommand::Events(_, _)
+            | SimCommand::WrongTags(_)
             | SimCommand::Lose(_)
             | SimCommand::Deliver(_)
             | SimCommand::Flow

@@ -23,6 +23,12 @@ pub(crate) enum SimRefusal {
     NoParams,
     /// K, H and L are not in order.
     BadParams,
+    /// A process starts with a tag that is none.
+    BadTag,
+    /// A process starts with more than 8 tags.
+    TooManyTags,
+    /// A process starts with tags that do not strictly ascend.
+    TagsNotSorted,
     /// A process starts under an identifier that was used before.
     IdentifierUsed,
     /// A process starts at an endpoint at which a node runs.
@@ -45,6 +51,9 @@ pub(crate) fn refused_line(refusal: SimRefusal) -> &'static [u8]
         SimRefusal::BadLine => b"refused BadLine\n",
         SimRefusal::NoParams => b"refused NoParams\n",
         SimRefusal::BadParams => b"refused BadParams\n",
+        SimRefusal::BadTag => b"refused BadTag\n",
+        SimRefusal::TooManyTags => b"refused TooManyTags\n",
+        SimRefusal::TagsNotSorted => b"refused TagsNotSorted\n",
         SimRefusal::IdentifierUsed => b"refused IdentifierUsed\n",
         SimRefusal::EndpointBusy => b"refused EndpointBusy\n",
         SimRefusal::NoSuchNode => b"refused NoSuchNode\n",

@@ -27,6 +27,7 @@ fn printed(
     }
 }
 
+/// Wrong tags are told before it.
 #[test]
 fn a_tick_too_many_is_refused(rt: HostRuntime) -> Result<(), Fail> {
     let before = b"params 3 3 1\nfound 1\n";
@@ -34,11 +35,13 @@ fn a_tick_too_many_is_refused(rt: HostRuntime) -> Result<(), Fail> {
         rt.alloc(),
         before,
         (1000, b""),
-        b"tick 1\ntick 1 1000\npackets\n",
+        b"tick 1\ntick 1 1000\nstart 2 2 1 web db\nstart 2 2 1 db web\npackets\n",
     )?;
     assert_eq!(rt;
         output.as_slice(),
-        b"node 1 height 0 members 1\nrefused EventsFull\nrefused EventsFull\npackets 0\n".as_slice()
+        b"node 1 height 0 members 1\nrefused EventsFull\nrefused EventsFull\nrefused TagsNotSorted\n\
+          refused EventsFull\npackets 0\n"
+            .as_slice()
     );
     Ok(())
 }

@@ -29,3 +29,10 @@ front_within old mid new more e k =
     let rest = drop (length mid) new in
     front_more old new (more ++ rest)
     (sym (take-append-drop (length mid) new) ∙ ap (λ xs. xs ++ rest) (k ∙ e) ∙ append_assoc old more rest)
+
+-- One byte and two texts.
+pub two_behind : (before one two all d e : List ℕ) (x : ℕ) → one ≡ before ++ x ∷ [] → two ≡ one ++ d → all ≡ two ++ e
+    → all ≡ before ++ (x ∷ (d ++ e))
+two_behind before one two all d e x i j k =
+    k ∙ ap (λ l. l ++ e) (j ∙ ap (λ l. l ++ d) i)
+    ∙ append_assoc (before ++ x ∷ []) d e ∙ append_assoc before (x ∷ []) (d ++ e)

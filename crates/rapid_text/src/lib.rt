@@ -17,4 +17,4 @@ pub use line::{is_plain, number, one_word, split_word, three_words};
 pub use names::{byte, numbered, process};
 pub use output::write_text;
 pub use stream::run;
-pub use written::{write_members, write_node, write_number};
+pub use written::{write_members, write_node, write_number, write_tags};

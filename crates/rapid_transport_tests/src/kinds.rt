@@ -9,16 +9,22 @@ use std::sync::Wait;
 use std::test::Fail;
 
 /// The processes with the numbers 1, 2 and 3: the identifier n, and the endpoint 127.0.0.1:n.
-const ONE: [u8; 22] = [
-    0, 0, 0, 0, 0, 0, 0, 0, 0, 0, 0, 0, 0, 0, 0, 1, 0x7f, 0, 0, 1, 0, 1,
+const ONE: [u8; 23] = [
+    0, 0, 0, 0, 0, 0, 0, 0, 0, 0, 0, 0, 0, 0, 0, 1, 0x7f, 0, 0, 1, 0, 1, 0,
 ];
 
-const TWO: [u8; 22] = [
-    0, 0, 0, 0, 0, 0, 0, 0, 0, 0, 0, 0, 0, 0, 0, 2, 0x7f, 0, 0, 1, 0, 2,
+const TWO: [u8; 23] = [
+    0, 0, 0, 0, 0, 0, 0, 0, 0, 0, 0, 0, 0, 0, 0, 2, 0x7f, 0, 0, 1, 0, 2, 0,
 ];
 
-const THREE: [u8; 22] = [
-    0, 0, 0, 0, 0, 0, 0, 0, 0, 0, 0, 0, 0, 0, 0, 3, 0x7f, 0, 0, 1, 0, 3,
+const THREE: [u8; 23] = [
+    0, 0, 0, 0, 0, 0, 0, 0, 0, 0, 0, 0, 0, 0, 0, 3, 0x7f, 0, 0, 1, 0, 3, 0,
+];
+
+/// The process with the number 2 and the tags `db` and `web`.
+const TAGGED: [u8; 30] = [
+    0, 0, 0, 0, 0, 0, 0, 0, 0, 0, 0, 0, 0, 0, 0, 2, 0x7f, 0, 0, 1, 0, 2, 2, 2, b'd', b'b', 3, b'w',
+    b'e', b'b',
 ];
 
 /// The identifier of a configuration.
@@ -27,7 +33,7 @@ const ID: [u8; 32] = [7; 32];
 /// The bytes of a configuration in front of its members, with the parameters 3, 3 and 1, at height
 /// 0.
 const HEAD: [u8; 47] = [
-    0x52, 0x50, 0x43, 0x31, 0, 0, 0, 0, 0, 0, 0, 0, 0, 0, 0, 0, 0, 0, 0, 0, 0, 0, 0, 0, 0, 0, 0, 0,
+    0x52, 0x50, 0x43, 0x32, 0, 0, 0, 0, 0, 0, 0, 0, 0, 0, 0, 0, 0, 0, 0, 0, 0, 0, 0, 0, 0, 0, 0, 0,
     0, 0, 0, 0, 0, 0, 0, 0, 0, 0, 0, 0, 0, 0, 0, 0, 3, 3, 1,
 ];
 
@@ -38,7 +44,7 @@ const BALLOT: &[u8] = &[2, 0, 5];
 type Parts<'a> = (u8, &'a [&'a [u8]]);
 
 /// A body of every kind, and of each form that a kind has.
-const BODIES: [Parts; 18] = [
+const BODIES: [Parts; 21] = [
     (1, &[&ID, &[0, 2], &[255, 2], &TWO, &[0, 1], &TWO]),
     (2, &[&ID, &[0, 2], &TWO, &THREE]),
     (3, &[&ID, BALLOT]),
@@ -57,12 +63,15 @@ const BODIES: [Parts; 18] = [
     (12, &[&ID]),
     (13, &[&ID]),
     (14, &[&ID, &[9]]),
+    (2, &[&ID, &[0, 2], &TWO, &TAGGED]),
+    (9, &[&TAGGED, &[1], &ID, &[1], &TAGGED]),
+    (11, &[&HEAD, &[0, 2], &ONE, &TAGGED]),
 ];
 
 /// The frame of a body from the process with the number 1.
 fn frame(alloc: Global, (kind, parts): &Parts) -> Result<Vec<u8>, Fail> {
     let mut rest = Vec::new(alloc);
-    rest.extend_from_slice(&[1, *kind])?;
+    rest.extend_from_slice(&[2, *kind])?;
     rest.extend_from_slice(&ONE)?;
     for part in *parts {
         rest.extend_from_slice(part)?;

@@ -116,7 +116,7 @@ where
 {
     let quiet = written(rt, port, &[]);
     let half = written(rt, port, &PRE_JOIN[..11]);
-    let long = written(rt, port, &[0, 1, 0, 1]);
+    let long = written(rt, port, &[0, 0x20, 0, 1]);
     let good = written(rt, port, &PRE_JOIN);
     let closed = match long {
         Ok(mut stream) => is_closed(&mut stream),

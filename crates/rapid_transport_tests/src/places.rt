@@ -197,7 +197,7 @@ fn accepted<R: Clock>(rt: &R, listener: &TcpListener) -> io::Result<TcpStream> {
 
 /// Whether the worked frame comes by a connection.
 fn has_frame(stream: &mut TcpStream) -> bool {
-    let mut frame = [0; 28];
+    let mut frame = [0; 29];
     let waits = stream.set_read_timeout(Some(Duration::from_secs(5)));
     waits.is_ok() && stream.read_exact(&mut frame).is_ok() && frame == PRE_JOIN
 }

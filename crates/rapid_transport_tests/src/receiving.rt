@@ -74,7 +74,19 @@ fn a_reader_that_fails_at_each_call(rt: HostRuntime) {
 #[test]
 fn a_frame_that_is_too_long(rt: HostRuntime) {
     let fault = Received::Failed(TransportError::Wire(WireFault::TooLong));
-    let got = two(&rt, rt.alloc(), &[0, 1, 0, 1], 1, 100);
+    let got = two(&rt, rt.alloc(), &[0, 0x20, 0, 1], 1, 100);
+    assert_eq!(rt; got, (fault, fault, 0));
+}
+
+/// A question to join of the first version of frames, by the process with the number 2.
+const OLD_PRE_JOIN: [u8; 28] = [
+    0, 0, 0, 0x18, 1, 8, 0, 0, 0, 0, 0, 0, 0, 0, 0, 0, 0, 0, 0, 0, 0, 2, 0x7f, 0, 0, 1, 0, 2,
+];
+
+#[test]
+fn a_frame_of_the_first_version(rt: HostRuntime) {
+    let fault = Received::Failed(TransportError::Wire(WireFault::BadVersion));
+    let got = two(&rt, rt.alloc(), &OLD_PRE_JOIN, 1, 100);
     assert_eq!(rt; got, (fault, fault, 0));
 }
 

@@ -58,7 +58,7 @@ fn a_writer_that_takes_none(rt: HostRuntime) -> Result<(), Fail> {
 
 #[test]
 fn a_writer_that_takes_one_byte_a_call(rt: HostRuntime) -> Result<(), Fail> {
-    for step in [1, 5, 28, 64] {
+    for step in [1, 5, 29, 64] {
         let got = sent(rt.alloc(), step, PRE_JOIN.len(), Ends::Fails)?;
         assert_eq!(rt; got, (Ok(()), PRE_JOIN.len(), true, 0), "at {step}");
     }

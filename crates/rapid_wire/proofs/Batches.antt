@@ -1,5 +1,5 @@
 -- The alerts that are read as a batch are one.
-use Rattle.std.proofs.Common.{◌≡◌, ℕ, suc, ◌≤◌, ◌&&◌, Bool, true, false, List, [], ◌∷◌, All, length, map, arith, refl, sym, ap, ◌∙◌, nat_lt, None}
+use Rattle.std.proofs.Common.{◌≡◌, ℕ, suc, ◌≤◌, true, false, List, [], ◌∷◌, All, length, map, arith, refl, sym, ap, ◌∙◌, nat_lt, None}
 use Rattle.std.specs.List.{list_all}
 use Rattle.std.proofs.lemmas.List.Elements.{All-map}
 use Rattle.rapid_model.specs.Process.{Process, same_bytes}

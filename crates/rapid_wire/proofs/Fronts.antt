@@ -35,11 +35,11 @@ announced_below bytes b =
     let fits = bounded (take 4 bytes) (All-take (λ b. b < 256) 4 bytes b) in
     omega (arith, fits 0, fits 1, fits 2, fits 3)
 
-pub too_long : (bytes : List ℕ) → AreBytes bytes → 4 ≤ length bytes → 65536 < announced bytes → IsTooLong bytes
+pub too_long : (bytes : List ℕ) → AreBytes bytes → 4 ≤ length bytes → 2097152 < announced bytes → IsTooLong bytes
 too_long bytes b h l = record { length = announced bytes; rest = drop 4 bytes; above = l; below = announced_below bytes b; is = starts bytes b h }
 
 -- a whole frame stands in front
-pub begins : (bytes : List ℕ) → AreBytes bytes → 4 ≤ length bytes → announced bytes ≤ 65536 → 4 + announced bytes ≤ length bytes →
+pub begins : (bytes : List ℕ) → AreBytes bytes → 4 ≤ length bytes → announced bytes ≤ 2097152 → 4 + announced bytes ≤ length bytes →
     BeginsWith bytes (take (announced bytes) (drop 4 bytes)) (drop (4 + announced bytes) bytes)
 begins bytes b h few long =
     let n = announced bytes in
@@ -71,7 +71,7 @@ long_four bytes h =
     let four : length (to_be_bytes w32 h.length) ≡ 4 = refl in
     omega (arith, size, one, four)
 
-pub long_is : (bytes : List ℕ) → IsTooLong bytes → 65536 < announced bytes
+pub long_is : (bytes : List ℕ) → IsTooLong bytes → 2097152 < announced bytes
 long_is bytes h = let above = h.above in let same = announced_is bytes h.rest h.length h.below h.is in omega (arith, above, same)
 
 -- too few bytes for a length
@@ -83,7 +83,7 @@ too_few bytes l =
     }
 
 -- too few bytes for the length
-pub not_whole : (bytes : List ℕ) → announced bytes ≤ 65536 → length bytes < 4 + announced bytes → IsIncomplete bytes
+pub not_whole : (bytes : List ℕ) → announced bytes ≤ 2097152 → length bytes < 4 + announced bytes → IsIncomplete bytes
 not_whole bytes few l =
     record {
       no_frame = λ whole rest h. (let b = begins_long bytes whole rest h in absurd (omega (arith, l, b.0, b.1)));
@@ -116,7 +116,7 @@ fault_in_front bytes whole rest b code.OutOfMemory h = (whole, rest, b, h)
 -- ---- the first two bytes
 
 -- a list of two or more
-pub opened : (whole : List ℕ) → 2 ≤ length whole → get_or whole 0 0 ≡ 1 → whole ≡ version ∷ get_or whole 1 0 ∷ drop 2 whole
+pub opened : (whole : List ℕ) → 2 ≤ length whole → get_or whole 0 0 ≡ 2 → whole ≡ version ∷ get_or whole 1 0 ∷ drop 2 whole
 opened [] l h = absurd (omega (arith, l))
 opened (x ∷ []) l h = absurd (omega (arith, l))
 opened (x ∷ y ∷ more) l h = ap (λ n. n ∷ y ∷ more) h
@@ -124,12 +124,12 @@ opened (x ∷ y ∷ more) l h = ap (λ n. n ∷ y ∷ more) h
 pub short_fault : (whole : List ℕ) → length whole < 2 → HasFault whole BadBody
 short_fault whole l = too_short whole l
 
-pub version_fault : (whole : List ℕ) → 2 ≤ length whole → get_or whole 0 0 ≢ 1 → HasFault whole BadVersion
+pub version_fault : (whole : List ℕ) → 2 ≤ length whole → get_or whole 0 0 ≢ 2 → HasFault whole BadVersion
 version_fault [] l n = absurd (omega (arith, l))
 version_fault (x ∷ []) l n = absurd (omega (arith, l))
 version_fault (x ∷ y ∷ more) l n = other_version x y more n
 
-pub kind_fault : (whole : List ℕ) → 2 ≤ length whole → get_or whole 0 0 ≡ 1 → (IsKind (get_or whole 1 0) → ⊥) → HasFault whole BadKind
+pub kind_fault : (whole : List ℕ) → 2 ≤ length whole → get_or whole 0 0 ≡ 2 → (IsKind (get_or whole 1 0) → ⊥) → HasFault whole BadKind
 kind_fault [] l h n = absurd (omega (arith, l))
 kind_fault (x ∷ []) l h n = absurd (omega (arith, l))
 kind_fault (x ∷ y ∷ more) l h n = subst (λ v. HasFault (v ∷ y ∷ more) BadKind) (sym h) (other_kind y more n)
@@ -144,7 +144,7 @@ unread whole kind rest w k code.OutOfMemory h = (kind, rest, k, w)
 
 -- ---- the length
 
-pub begins_at : (bytes head rest whole : List ℕ) (n : ℕ) → AreBytes bytes → 4 ≤ length bytes → head ≡ take 4 bytes → rest ≡ drop 4 bytes → n ≡ from_be_bytes w32 head → n ≤ 65536 →
+pub begins_at : (bytes head rest whole : List ℕ) (n : ℕ) → AreBytes bytes → 4 ≤ length bytes → head ≡ take 4 bytes → rest ≡ drop 4 bytes → n ≡ from_be_bytes w32 head → n ≤ 2097152 →
     n ≤ length rest → whole ≡ take n rest → BeginsWith bytes whole (drop (4 + n) bytes)
 begins_at bytes head rest whole n b four h r e few long w =
     let same : n ≡ announced bytes = e ∙ ap (from_be_bytes w32) h in
@@ -154,12 +154,12 @@ begins_at bytes head rest whole n b four h r e few long w =
     let found = begins bytes b four (omega (arith, same, few)) (omega (arith, same, size, dropped, long, four)) in
     subst (λ l. BeginsWith bytes l (drop (4 + n) bytes)) (sym is) (subst (λ k. BeginsWith bytes (take (announced bytes) (drop 4 bytes)) (drop (4 + k) bytes)) (sym same) found)
 
-pub too_long_at : (bytes head : List ℕ) (n : ℕ) → AreBytes bytes → 4 ≤ length bytes → head ≡ take 4 bytes → n ≡ from_be_bytes w32 head → 65536 < n → IsTooLong bytes
+pub too_long_at : (bytes head : List ℕ) (n : ℕ) → AreBytes bytes → 4 ≤ length bytes → head ≡ take 4 bytes → n ≡ from_be_bytes w32 head → 2097152 < n → IsTooLong bytes
 too_long_at bytes head n b four h e l =
     let same : n ≡ announced bytes = e ∙ ap (from_be_bytes w32) h in
     too_long bytes b four (omega (arith, same, l))
 
-pub not_whole_at : (bytes head rest : List ℕ) (n : ℕ) → head ≡ take 4 bytes → rest ≡ drop 4 bytes → n ≡ from_be_bytes w32 head → n ≤ 65536 → length rest < n → IsIncomplete bytes
+pub not_whole_at : (bytes head rest : List ℕ) (n : ℕ) → head ≡ take 4 bytes → rest ≡ drop 4 bytes → n ≡ from_be_bytes w32 head → n ≤ 2097152 → length rest < n → IsIncomplete bytes
 not_whole_at bytes head rest n h r e few l =
     let same : n ≡ announced bytes = e ∙ ap (from_be_bytes w32) h in
     let size : length rest ≡ length (drop 4 bytes) = ap length r in

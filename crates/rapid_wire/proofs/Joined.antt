@@ -19,6 +19,15 @@ pub concat_more : (head : List ℕ) (ps : List (List ℕ)) (i : ℕ) (d : List �
 concat_more head ps i d l =
     append_assoc head (concat (take i ps)) (get_or ps i d) ∙ ap (λ x. head ++ x) (sym (ap concat (take_more ps i d l) ∙ concat_push (take i ps) (get_or ps i d)))
 
+-- the bytes of one piece more
+pub length_more : (ps : List (List ℕ)) (i : ℕ) (d : List ℕ) (n : ℕ) → i < length ps → n ≡ length (concat (take i ps))
+    → n + length (get_or ps i d) ≡ length (concat (take (i + 1) ps))
+length_more ps i d n l e =
+    let before = concat (take i ps) in
+    let parts = length-append before (get_or ps i d) in
+    let more : length (before ++ get_or ps i d) ≡ length (concat (take (i + 1) ps)) = ap length (concat_more [] ps i d l) in
+    omega (arith, parts, more, e)
+
 -- what each alert says
 abbrev pub all_said : List Alert → List (List ℕ)
 all_said xs = map item_bytes (map item_of xs)
@@ -36,6 +45,16 @@ said_more head xs i a h =
     append_assoc head (concat (all_said (take i xs))) (item_bytes (item_of a))
     ∙ ap (λ x. head ++ x)
     (sym (ap (λ ys. concat (all_said ys)) (front_more xs i a h) ∙ ap concat (all_said_push (take i xs) a) ∙ concat_push (all_said (take i xs)) (item_bytes (item_of a))))
+
+-- the bytes of one alert more
+pub length_said : (xs : List Alert) (i : ℕ) (a : Alert) (n : ℕ) → slice_get xs i ≡ Some a
+    → n ≡ length (concat (all_said (take i xs))) → n + (2 + length a.subject) ≡ length (concat (all_said (take (i + 1) xs)))
+length_said xs i a n h e =
+    let before = concat (all_said (take i xs)) in
+    let item = item_bytes (item_of a) in
+    let parts = length-append before item in
+    let more : length (before ++ item) ≡ length (concat (all_said (take (i + 1) xs))) = ap length (said_more [] xs i a h) in
+    omega (arith, parts, more, e)
 
 pub all_more : (P : Alert → Type 0) (xs : List Alert) (i : ℕ) (a : Alert) → slice_get xs i ≡ Some a → All P (take i xs) → P a → All P (take (i + 1) xs)
 all_more P xs i a h so_far this =

@@ -4,6 +4,7 @@ pub mod Frames
 pub mod Joined
 pub mod Readers
 pub mod Loops
+pub mod Counts
 pub mod Parts
 pub mod Spelt
 pub mod Fronts

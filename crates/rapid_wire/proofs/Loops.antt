@@ -13,16 +13,17 @@ regroup : {A : Type 0} (front : List A) (a : A) (read : Option (List A × List �
 regroup front a (Some x) = ap (λ l. Some (l, x.1)) (sym (append_assoc front (a ∷ []) x.0))
 regroup front a None = refl
 
-pub goes_on : {A : Type 0} (r : Reader A) (front : List A) (count i : ℕ) (bytes : List ℕ) (a : A) (after : List ℕ) (total : Option (List A × List ℕ)) → i < count → r bytes ≡ Some (a, after)
-    → with_front front (many (count - i) r bytes) ≡ total → with_front (front ++ a ∷ []) (many (count - (i + 1)) r after) ≡ total
+pub goes_on : {A : Type 0} (r : Reader A) (front next : List A) (count i : ℕ) (bytes : List ℕ) (a : A) (rest after : List ℕ)
+    (total : Option (List A × List ℕ)) → i < count → r bytes ≡ Some (a, rest) → after ≡ rest → next ≡ front ++ a ∷ []
+    → with_front front (many (count - i) r bytes) ≡ total → with_front next (many (count - (i + 1)) r after) ≡ total
 unfolding many
-goes_on r front count i bytes a after total lt h so_far =
+goes_on r front next count i bytes a rest after total lt h left grown so_far =
     let k : count - i ≡ suc (count - (i + 1)) = omega arith in
-    let one : with_front front (many (count - i) r bytes) ≡ with_front (front ++ a ∷ []) (many (count - (i + 1)) r after) =
+    let one : with_front front (many (count - i) r bytes) ≡ with_front (front ++ a ∷ []) (many (count - (i + 1)) r rest) =
     ap (λ n. with_front front (many n r bytes)) k
     ∙ ap (λ o. with_front front (o >>= λ x. many (count - (i + 1)) r x.1 >>= λ y. Some (x.0 ∷ y.0, y.1))) h
-    ∙ regroup front a (many (count - (i + 1)) r after) in
-    sym one ∙ so_far
+    ∙ regroup front a (many (count - (i + 1)) r rest) in
+    (λ j. with_front (grown j) (many (count - (i + 1)) r (left j))) ∙ sym one ∙ so_far
 
 pub ends : {A : Type 0} (e : WireFault) (r : Reader A) (front : List A) (count i : ℕ) (bytes : List ℕ) (total : Option (List A × List ℕ)) → i < count → Fails e (r bytes)
     → with_front front (many (count - i) r bytes) ≡ total → Fails e total

@@ -1,9 +1,12 @@
 -- The parts of frames are read exactly if they are spelt.
-use Rattle.std.proofs.Common.{◌≡◌, ℕ, ◌^◌, ◌<◌, ◌≤◌, ◌⊎◌, inl, inr, Bool, true, false, not, ◌&&◌, ◌||◌, cond, eqb, List, [], ◌∷◌, ◌++◌, length, Option, Some, None, refl, sym, ap, subst, ◌∙◌, arith}
-use Rattle.std.specs.Prelude.{All, map, is_none, nat_lt, nat_le}
+use Rattle.std.proofs.Common.{◌≡◌, ℕ, ◌+◌, ◌^◌, ◌<◌, ◌≤◌, ◌⊎◌, inl, inr, Bool, true, false, not, ◌&&◌, ◌||◌, cond, eqb, List, [], ◌∷◌, ◌++◌, length, drop, Option, Some, None, refl, sym, ap, subst, ◌∙◌, arith}
+use Rattle.std.specs.Prelude.{All, map, is_none, nat_lt, nat_le, Result, Ok, Err}
+use Rattle.std.specs.Result.{result_ok}
 use Rattle.std.specs.List.{concat}
 use Rattle.std.specs.Int.{w16, to_be_bytes}
+use Rattle.std.proofs.lemmas.List.{drop-drop}
 use Rattle.std.proofs.lemmas.Bool.{ltb-false, ltb-true, le-ltb, lt-ltb, leb-true, le-leb, eqb-true}
+use Rattle.rapid_model.specs.Process as model
 use Rattle.rapid_model.specs.Process.{Process, IsProcess}
 use Rattle.rapid_model.specs.Cut.{Cut, IsCut, is_ascending, cut_bytes}
 use Rattle.rapid_model.specs.Alert.{Kind, Remove, Join}
@@ -12,13 +15,22 @@ use Rattle.rapid_model.specs.Reading.{TooMany, NotSorted}
 use Rattle.rapid_model.specs.Message.{AlertItem, Answer, Safe, EndpointInUse, ConfigurationChanged, TooManyJoiners}
 use Rattle.rapid_model.specs.Frame.{IsId, IsItem, IsBatch, IsReport, IsAnswer, ballot_bytes, kind_byte, item_bytes, report_bytes, answer_bytes}
 use Rattle.rapid_wire.specs.Reading.{◌>>=◌, both, made, counted, byte_at, front_at, number_at, process_at, id_at, is_cut, cut_at, ballot_of, is_classic, is_ballot, numbers_at, classic_at, ballot_at, vote_from, report_from, report_at, kind_from, kind_at, item_from, item_at, is_batch, items_at, are_observers, observers_at, safe_from, answer_from, answer_at}
-use Rattle.rapid_wire.proofs.Readers.{AreBytes, Takes, Again, Reads, bind_some, some_is, rest_bytes, reads_both, reads_made, reads_only, reads_as, reads_counted, reads_byte, reads_front, reads_number}
+use Rattle.rapid_model.proofs.Processes.{process_read, process_taken}
+use Rattle.rapid_wire.proofs.Readers.{AreBytes, Takes, Again, Reads, bind_some, some_is, front_bytes, rest_bytes, reads_both, reads_made, reads_only, reads_as, reads_counted, reads_byte, reads_front, reads_number}
+
+-- what is read as an option is read
+was_ok : {A E : Type 0} (r : Result A E) (x : A) → result_ok r ≡ Some x → r ≡ Ok x
+was_ok (Ok y) x e = ap Ok (some_is y x e)
+was_ok (Err f) x e = absurd cc
 
 pub reads_process : Reads IsProcess (λ p. p) process_at
 unfolding process_at
-reads_process =
-    reads_as (λ p. (length p ≡ 22) × AreBytes p) IsProcess (λ p. p) (λ p. p) (front_at 22)
-    (λ p h. record { length = h.0; bytes = h.1 }) (λ p h. (h.length, h.bytes)) (λ p. refl) (reads_front 22)
+reads_process = (takes, λ p rest h. ap result_ok (process_read p rest h))
+  where
+    takes : Takes IsProcess (λ p. p) process_at
+    takes bytes x b e =
+        let t = process_taken bytes x (was_ok (model.process_at bytes) x e) in
+        (record { long = t.long; bytes = front_bytes bytes x.0 x.1 b t.spelt; tags = t.tags }, t.spelt)
 
 pub reads_id : Reads IsId (λ p. p) id_at
 unfolding id_at
@@ -222,6 +234,44 @@ reads_item =
     (λ x. (x.ring, (x.kind, x.subject))) (λ a. refl) (λ b. refl)
     (reads_both (λ b. b < 256) (λ x. Any x.0 × IsProcess x.1) (λ b. b ∷ []) (λ x. (kind_byte x.0 ∷ []) ++ x.1) byte_at (both kind_at process_at) reads_byte
     (reads_both Any IsProcess (λ k. kind_byte k ∷ []) (λ p. p) kind_at process_at reads_kind reads_process)))
+
+-- a ring and a kind are the first two bytes
+byte_first : (bytes : List ℕ) (x : ℕ × List ℕ) → byte_at bytes ≡ Some x → bytes ≡ x.0 ∷ x.1
+unfolding byte_at
+byte_first [] x e = absurd cc
+byte_first (b ∷ bytes) x e = let whole : ℕ × List ℕ = (b, bytes) in ap (λ (z : ℕ × List ℕ). z.0 ∷ z.1) (some_is whole x e)
+
+kind_first : (bytes : List ℕ) (x : Kind × List ℕ) → kind_at bytes ≡ Some x → (b : ℕ) × (bytes ≡ b ∷ x.1)
+unfolding kind_at
+kind_first bytes x e =
+    let one = bind_some (byte_at bytes) (λ u. kind_from u.0 >>= λ k. Some (k, u.1)) x e in
+    let two = bind_some (kind_from one.0.0) (λ k. Some (k, one.0.1)) x one.2 in
+    let whole : Kind × List ℕ = (two.0, one.0.1) in
+    (one.0.0, byte_first bytes one.0 one.1 ∙ ap (λ (z : Kind × List ℕ). one.0.0 ∷ z.1) (some_is whole x two.2))
+
+two_first : (bytes r s : List ℕ) (ring : ℕ) (kind : Kind) → byte_at bytes ≡ Some (ring, r) → kind_at r ≡ Some (kind, s)
+    → (b : ℕ) × (bytes ≡ ring ∷ b ∷ s)
+two_first bytes r s ring kind e k =
+    let two = kind_first r (kind, s) k in
+    (two.0, byte_first bytes (ring, r) e ∙ ap (λ l. ring ∷ l) two.1)
+
+-- an alert ends where its subject does
+pub item_read : (bytes r s : List ℕ) (ring : ℕ) (kind : Kind) (subject : Process) (n : ℕ) → byte_at bytes ≡ Some (ring, r)
+    → kind_at r ≡ Some (kind, s) → process_at s ≡ Some (subject, drop n s)
+    → item_at bytes ≡ Some (record { ring = ring; kind = kind; subject = subject }, drop (2 + n) bytes)
+unfolding item_at
+item_read bytes r s ring kind subject n e k p =
+    let item : AlertItem = record { ring = ring; kind = kind; subject = subject } in
+    let whole = (two_first bytes r s ring kind e k).1 in
+    let after : drop n s ≡ drop (2 + n) bytes = ap (λ l. drop n (drop 2 l)) (sym whole) ∙ drop-drop n 2 bytes in
+    rw (e, k, p) (ap (λ l. Some (item, l)) after)
+
+pub item_within : (bytes r s : List ℕ) (ring : ℕ) (kind : Kind) (n : ℕ) → byte_at bytes ≡ Some (ring, r)
+    → kind_at r ≡ Some (kind, s) → n ≤ length s → 2 + n ≤ length bytes
+item_within bytes r s ring kind n e k l =
+    let first = two_first bytes r s ring kind e k in
+    let size : length bytes ≡ length (ring ∷ first.0 ∷ s) = ap length first.1 in
+    omega (arith, size, l)
 
 abbrev pub items_bytes : List AlertItem → List ℕ
 items_bytes xs = to_be_bytes w16 (length xs) ++ concat (map item_bytes xs)

@@ -1,5 +1,5 @@
 -- How bytes that were joined are taken apart again.
-use Rattle.std.proofs.Common.{◌≡◌, ℕ, ◌*◌, ◌^◌, ◌<◌, List, [], ◌∷◌, ◌++◌, length, refl, sym, ap, ◌∙◌, arith, length-append}
+use Rattle.std.proofs.Common.{◌≡◌, ℕ, ◌*◌, ◌^◌, ◌<◌, ◌≤◌, List, [], ◌∷◌, ◌++◌, length, refl, sym, ap, ◌∙◌, arith, length-append}
 use Rattle.std.specs.Prelude.{All}
 use Rattle.std.specs.List.{concat}
 use Rattle.std.specs.Int.{w32, to_be_bytes, from_be_bytes}
@@ -26,10 +26,11 @@ split (x ∷ xs) (y ∷ ys) us vs l e =
 pub same_32 : (m n : ℕ) → m < 2 ^ 32 → n < 2 ^ 32 → to_be_bytes w32 m ≡ to_be_bytes w32 n → m ≡ n
 same_32 m n h k e = sym (from_be_bytes-to_be_bytes_4 m h) ∙ ap (from_be_bytes w32) e ∙ from_be_bytes-to_be_bytes_4 n k
 
--- pieces of one length, one after another
-pub length-concat : (n : ℕ) (ps : List (List ℕ)) → All (λ p. length p ≡ n) ps → length (concat ps) ≡ n * length ps
-length-concat n [] h = omega arith
-length-concat n (p ∷ ps) h =
-    let first = All-head (λ p. length p ≡ n) p ps h in
-    let rest = length-concat n ps (All-tail (λ p. length p ≡ n) p ps h) in
-    length-append p (concat ps) ∙ grind (arith, first, rest)
+-- pieces of few bytes, one after another
+pub concat_few : (n : ℕ) (ps : List (List ℕ)) → All (λ p. length p ≤ n) ps → length (concat ps) ≤ n * length ps
+concat_few n [] h = omega arith
+concat_few n (p ∷ ps) h =
+    let first = All-head (λ p. length p ≤ n) p ps h in
+    let rest = concat_few n ps (All-tail (λ p. length p ≤ n) p ps h) in
+    let parts = length-append p (concat ps) in
+    omega (arith, first, rest, parts)

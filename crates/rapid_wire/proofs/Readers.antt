@@ -7,7 +7,7 @@ use Rattle.std.proofs.lemmas.Bool.{cases_lt, ltb-false, le-ltb}
 use Rattle.std.proofs.lemmas.Nat.{be_bytes_2, from_be_bytes-to_be_bytes_2}
 use Rattle.std.proofs.lemmas.List.{take_at, drop_at, take-append-drop, length-append, length-take-le, get_or_past}
 use Rattle.std.proofs.lemmas.List.Elements.{All-take, All-drop, All-head, All-from_recursion, recursion_from_All}
-use Rattle.std.proofs.Math.Seq.{drop-append_seam}
+use Rattle.std.proofs.Math.Seq.{take-append_seam, drop-append_seam}
 use Rattle.rapid_wire.specs.Reading.{Reader, ◌>>=◌, both, made, only, many, counted, byte_at, front_at, number_at}
 
 -- numbers that are bytes
@@ -48,6 +48,10 @@ unless_some false x y e = (refl, cc)
 pub rest_bytes : (bytes text rest : List ℕ) → AreBytes bytes → bytes ≡ text ++ rest → AreBytes rest
 rest_bytes bytes text rest h e =
     subst AreBytes (drop-append_seam text rest) (All-drop (λ b. b < 256) (length text) (text ++ rest) (subst AreBytes e h))
+
+pub front_bytes : (bytes text rest : List ℕ) → AreBytes bytes → bytes ≡ text ++ rest → AreBytes text
+front_bytes bytes text rest h e =
+    subst AreBytes (take-append_seam text rest) (All-take (λ b. b < 256) (length text) (text ++ rest) (subst AreBytes e h))
 
 pub bounded : (l : List ℕ) → AreBytes l → (i : ℕ) → get_or l i 0 < 256
 bounded l h i =

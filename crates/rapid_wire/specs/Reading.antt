@@ -1,7 +1,9 @@
 -- How frames are read: each reader gives what stands in front of the bytes, and the bytes that follow; or nothing does.
 use Rattle.std.specs.Prelude.{ℕ, zero, suc, ◌==◌, Bool, ◌&&◌, ◌||◌, nat_lt, nat_le, is_none, List, [], ◌∷◌, length, take, drop, if◌then◌else◌, Option, Some, None}
+use Rattle.std.specs.Result.{result_ok}
 use Rattle.std.specs.Int.{w16, from_be_bytes}
 use Rattle.rapid_model.specs.Bytes.{ConfigurationId}
+use Rattle.rapid_model.specs.Process as model
 use Rattle.rapid_model.specs.Process.{Process}
 use Rattle.rapid_model.specs.Cut.{Cut}
 use Rattle.rapid_model.specs.Alert.{Kind, Remove, Join}
@@ -60,7 +62,7 @@ number_at bytes = front_at 2 bytes >>= λ x. Some (from_be_bytes w16 x.0, x.1)
 
 -- A process.
 unfoldable pub process_at : Reader Process
-process_at bytes = front_at 22 bytes
+process_at bytes = result_ok (model.process_at bytes)
 
 -- An identifier of a configuration.
 unfoldable pub id_at : Reader ConfigurationId

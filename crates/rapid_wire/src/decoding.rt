@@ -11,7 +11,7 @@ use crate::WireFault;
 use crate::encoding::VERSION;
 use crate::kind::FrameKind;
 use crate::kinds::read_body;
-use crate::reading::{PROCESS_BYTES, process_in, read_front};
+use crate::reading::read_process;
 use crate::told::tell_message;
 use rapid_config::Configuration;
 use rapid_message::Message;
@@ -26,7 +26,7 @@ pub(crate) fn tell_bytes(bytes: &[u8])
 }
 
 /// The message of a kind whose sender and body are these bytes. A configuration may be near.
-#[tactic(auto, unfolding(crate::specs::Reading::message_in, crate::specs::Reading::process_at))]
+#[tactic(auto, unfolding(crate::specs::Reading::message_in))]
 fn read_message(
     alloc: Global,
     near: Option<&Configuration>,
@@ -35,9 +35,8 @@ fn read_message(
 ) -> Result<Message, WireFault>
     ensures { Gives (λ m. m) result (message_in (number_of kind) bytes.now) }
 {
-    let (front, rest) = read_front(bytes, PROCESS_BYTES)?;
-    let sender = process_in(front);
-    let body = read_body(alloc, near, sender, kind, rest)?;
+    let (sender, length) = read_process(bytes)?;
+    let body = read_body(alloc, near, sender, kind, &bytes[length..])?;
     Ok(Message::of(sender, body))
 }
 

@@ -12,7 +12,7 @@ use rapid_message::Message;
 use std::alloc::{AllocError, Global};
 
 /// The version of the format.
-pub(crate) const VERSION: u8 = 1;
+pub(crate) const VERSION: u8 = 2;
 
 /// Version, kind, sender and body.
 fn put_payload(alloc: Global, out: &mut Vec<u8>, message: &Message) -> Result<(), AllocError>
@@ -20,7 +20,7 @@ fn put_payload(alloc: Global, out: &mut Vec<u8>, message: &Message) -> Result<()
 {
     let body = message.body();
     out.extend_from_slice(&[VERSION, FrameKind::of(body).number()])?;
-    out.extend_from_slice(&message.sender().to_bytes())?;
+    message.sender().append_to(out)?;
     put_body(alloc, out, body)
 }
 

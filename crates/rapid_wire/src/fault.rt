@@ -9,8 +9,8 @@ use thiserror::Error;
 /// Why bytes are no frames.
 #[derive(Clone, Copy, Debug, PartialEq, Eq, Error)]
 pub enum WireFault {
-    /// The length of a frame is above 65,536.
-    #[error("a frame is longer than 65,536 bytes")]
+    /// The length of a frame is above 2,097,152.
+    #[error("a frame is longer than 2,097,152 bytes")]
     TooLong,
     /// The version of a frame is not the one of this format.
     #[error("a frame is of another version")]

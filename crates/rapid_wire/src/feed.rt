@@ -18,7 +18,7 @@ use std::marker::Model;
 const LENGTH_BYTES: usize = 4;
 
 /// The most bytes of a frame after its length.
-const MOST_BYTES: usize = 65_536;
+const MOST_BYTES: usize = 2_097_152;
 
 /// The messages of a stream of bytes that comes in pieces. A feed holds the bytes that were fed and
 /// not yet answered as messages. If messages are taken until there is none before each next piece,
@@ -142,8 +142,8 @@ impl Feed {
 
     /// The next message of the stream; none if no whole frame is there. The first fault that stands
     /// in a message's place is answered then and at each later call. The fault is `TooLong` as soon
-    /// as the four bytes of a length above 65,536 are there. The others come once the whole frame
-    /// is there, and the first that holds is answered. They are `BadBody` if it has no kind,
+    /// as the four bytes of a length above 2,097,152 are there. The others come once the whole
+    /// frame is there, and the first that holds is answered. They are `BadBody` if it has no kind,
     /// `BadVersion`, `BadKind`, and `BadBody` if it is not spelt as a message is. `OutOfMemory`
     /// comes only in place of a message or of the last of these, and leaves the feed as it was.
     #[tactic(auto, using(crate::proofs::Feeds::same_fault, crate::proofs::Feeds::next_none, crate::proofs::Feeds::next_some, crate::proofs::Feeds::next_fault, crate::proofs::Feeds::is_lasting))]

@@ -14,8 +14,8 @@ use crate::WireFault;
 use crate::kind::FrameKind;
 use crate::lengths::configuration_length;
 use crate::reading::{
-    ID_BYTES, PROCESS_BYTES, classic_of, ended, id_in, process_in, read_answer, read_batch,
-    read_byte, read_cut, read_front, read_numbers, read_report,
+    ID_BYTES, classic_of, ended, id_in, read_answer, read_batch, read_byte, read_cut, read_front,
+    read_numbers, read_process, read_report,
 };
 use rapid_config::{ConfigError, ConfigId, Configuration, Cut};
 use rapid_endpoint::Process;
@@ -96,14 +96,13 @@ fn read_choice(alloc: Global, bytes: &[u8]) -> Result<(ConfigId, Ballot, Cut), W
 }
 
 /// A joiner and what a host answers it.
-#[tactic(auto, unfolding(crate::specs::Reading::process_at))]
 fn read_reply(alloc: Global, bytes: &[u8]) -> Result<Body, WireFault>
     ensures value { Gives body_of result (all_of (made (λ x. model.Reply x.0 x.1) (both process_at answer_at)) bytes.now) }
     ensures said { IfOk result (λ b. (sender : process.Process) → CanSay sender b) }
 {
-    let (front, rest) = read_front(bytes, PROCESS_BYTES)?;
-    let answer = read_answer(alloc, rest)?;
-    Ok(Body::Reply(process_in(front), answer))
+    let (joiner, length) = read_process(bytes)?;
+    let answer = read_answer(alloc, &bytes[length..])?;
+    Ok(Body::Reply(joiner, answer))
 }
 
 /// An identifier and a ring.

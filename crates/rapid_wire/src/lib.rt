@@ -26,7 +26,7 @@ pub fn no_frame_begins_another()
     ensures { NoFrameBeginsAnother }
 {}
 
-/// Every message that can be spelt fits into a frame of at most 65,536 bytes after its length.
+/// Every message that can be spelt fits into a frame of at most 2,097,152 bytes after its length.
 pub fn every_message_fits()
     ensures { EveryMessageFits }
 {}

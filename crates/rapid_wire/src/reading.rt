@@ -1,6 +1,6 @@
 // How the parts of frames are read. A part that ends a body takes all bytes that it is given.
 
-ghost use Rattle.std.specs.Prelude.{◌≡◌, ◌≤◌, ◌==◌, All, Some, None, IfOk, length, map, if◌then◌else◌};
+ghost use Rattle.std.specs.Prelude.{◌≡◌, ◌≤◌, ◌==◌, ◌&&◌, nat_le, All, Some, None, IfOk, drop, length, map, if◌then◌else◌};
 ghost use Rattle.rapid_model.specs.Ballot.{IsClassicBallot};
 ghost use Rattle.rapid_model.specs.Batch.{batch_fault};
 ghost use Rattle.rapid_model.specs.Message.{item_of};
@@ -20,8 +20,8 @@ use rapid_join::{Reply, RingObservers};
 use rapid_paxos::Ballot;
 use std::alloc::{AllocError, Global};
 
-/// How many bytes a process has.
-pub(crate) const PROCESS_BYTES: usize = 22;
+/// How many bytes a process has at least.
+const LEAST_PROCESS_BYTES: usize = 23;
 
 /// How many bytes the identifier of a configuration has.
 pub(crate) const ID_BYTES: usize = 32;
@@ -68,14 +68,15 @@ fn read_number(bytes: &[u8]) -> Result<(u16, &[u8]), WireFault>
     Ok((number_in(front), rest))
 }
 
-/// The process of these bytes.
-pub(crate) fn process_in(bytes: &[u8]) -> Process
-    requires { length bytes.now ≡ 22 }
-    ensures { result ≡ bytes.now }
+/// A process, and how many bytes it takes.
+#[tactic(auto, unfolding(crate::specs::Reading::process_at))]
+pub(crate) fn read_process(bytes: &[u8]) -> Result<(Process, usize), WireFault>
+    ensures value { Gives (λ x. (x.0, drop x.1 bytes.now)) result (process_at bytes.now) }
+    ensures within { IfOk result (λ x. x.1 ≤ length bytes.now) }
 {
     match Process::read(bytes) {
-        Some((process, _)) => process,
-        None => unreachable!(),
+        Ok((process, length)) => Ok((process, length)),
+        Err(_) => Err(WireFault::BadBody),
     }
 }
 
@@ -99,13 +100,13 @@ fn read_processes(
     ensures { Gives (λ x. (x.0.items, x.1.now)) result (many count process_at bytes.now) }
 {
     // no more room than the bytes can fill, whatever number they announce
-    let most = count.min(bytes.len() / PROCESS_BYTES);
+    let most = count.min(bytes.len() / LEAST_PROCESS_BYTES);
     let mut processes = Vec::with_capacity(alloc, most)?;
     let mut rest = bytes;
     for _ in 0..count {
-        let (front, after) = read_front(rest, PROCESS_BYTES)?;
-        processes.push(process_in(front))?;
-        rest = after;
+        let (process, length) = read_process(rest)?;
+        processes.push(process)?;
+        rest = rest.split_at(length).1;
     }
     Ok((processes, rest))
 }
@@ -121,13 +122,17 @@ fn cut_of(processes: Vec<Process>) -> Result<Cut, WireFault>
     }
 }
 
-/// A cut.
-#[tactic(auto, unfolding(crate::specs::Reading::cut_at))]
+/// A cut. If more processes are announced than a cut may have, none of them is read.
+#[tactic(auto, using(crate::proofs::Counts::too_many_in_cut), unfolding(crate::specs::Reading::cut_at))]
 pub(crate) fn read_cut(alloc: Global, bytes: &[u8]) -> Result<Cut, WireFault>
     ensures { Gives (λ cut. cut) result (all_of cut_at bytes.now) }
 {
     let (count, rest) = read_number(bytes)?;
-    let (processes, rest) = read_processes(alloc, usize::from(count), rest)?;
+    let count = usize::from(count);
+    if count > Cut::MOST {
+        return Err(WireFault::BadBody);
+    }
+    let (processes, rest) = read_processes(alloc, count, rest)?;
     let cut = cut_of(processes)?;
     ended(rest)?;
     Ok(cut)
@@ -207,16 +212,17 @@ fn read_kind(bytes: &[u8]) -> Result<(Kind, &[u8]), WireFault>
     }
 }
 
-/// The ring, the kind and the bytes of the subject of an alert, and the rest.
-#[tactic(auto, unfolding(crate::specs::Reading::item_at, crate::specs::Reading::process_at))]
-fn read_item(bytes: &[u8]) -> Result<(u8, Kind, &[u8], &[u8]), WireFault>
-    ensures value { Gives (λ x. (record { ring = x.0; kind = kind_of x.1; subject = x.2.now }, x.3.now)) result (item_at bytes.now) }
-    ensures length { IfOk result (λ x. length x.2.now ≡ 22) }
+/// The ring, the kind and the subject of an alert, and how many bytes it takes in all.
+#[tactic(auto, using(crate::proofs::Parts::item_read, crate::proofs::Parts::item_within), unfolding(crate::specs::Reading::item_at))]
+fn read_item(bytes: &[u8]) -> Result<(u8, Kind, Process, usize), WireFault>
+    ensures value { Gives (λ x. (record { ring = x.0; kind = kind_of x.1; subject = x.2 }, drop x.3 bytes.now)) result
+        (item_at bytes.now) }
+    ensures within { IfOk result (λ x. x.3 ≤ length bytes.now) }
 {
     let (ring, rest) = read_byte(bytes)?;
     let (kind, rest) = read_kind(rest)?;
-    let (subject, rest) = read_front(rest, PROCESS_BYTES)?;
-    Ok((ring, kind, subject, rest))
+    let (subject, length) = read_process(rest)?;
+    Ok((ring, kind, subject, 2 + length))
 }
 
 /// This many alerts of an observer for a configuration, and the rest.
@@ -233,9 +239,9 @@ fn read_alerts(
     let mut alerts = AlertList::new(alloc, observer, config);
     let mut rest = bytes;
     for _ in 0..count {
-        let (ring, kind, subject, after) = read_item(rest)?;
-        alerts.push(&process_in(subject), ring, kind)?;
-        rest = after;
+        let (ring, kind, subject, length) = read_item(rest)?;
+        alerts.push(&subject, ring, kind)?;
+        rest = rest.split_at(length).1;
     }
     Ok((alerts, rest))
 }
@@ -252,7 +258,14 @@ fn batch_of(alloc: Global, alerts: AlertList) -> Result<Batch, AllocError>
     }
 }
 
-/// The alerts of a batch.
+/// Whether a list may have this many values: some, and no more than the most.
+fn may_have(count: usize, most: usize) -> bool
+    ensures { result ≡ (nat_le 1 count && nat_le count most) }
+{
+    1 <= count && count <= most
+}
+
+/// The alerts of a batch. If a batch cannot have as many as are announced, none of them is read.
 #[tactic(auto, unfolding(crate::specs::Reading::items_at))]
 pub(crate) fn read_batch(
     alloc: Global,
@@ -264,25 +277,27 @@ pub(crate) fn read_batch(
     ensures from { IfOk result (λ x. All (IsFrom observer config) x) }
 {
     let (count, rest) = read_number(bytes)?;
-    let (alerts, rest) = read_alerts(alloc, observer, config, usize::from(count), rest)?;
-    if alerts.len() == 0 || alerts.len() > Batch::MOST {
+    let count = usize::from(count);
+    if !may_have(count, Batch::MOST) {
         return Err(WireFault::BadBody);
     }
+    let (alerts, rest) = read_alerts(alloc, observer, config, count, rest)?;
     ended(rest)?;
     Ok(batch_of(alloc, alerts)?)
 }
 
-/// The observers of a joiner.
+/// The observers of a joiner. If there cannot be as many as are announced, none of them is read.
 #[tactic(auto, unfolding(crate::specs::Reading::observers_at))]
 fn read_observers(alloc: Global, bytes: &[u8]) -> Result<RingObservers, WireFault>
     ensures value { Gives (λ x. x) result (all_of observers_at bytes.now) }
     ensures some { IfOk result (λ x. 1 ≤ length x) }
 {
     let (count, rest) = read_byte(bytes)?;
-    let (processes, rest) = read_processes(alloc, usize::from(count), rest)?;
-    if processes.is_empty() || processes.len() > RingObservers::MOST {
+    let count = usize::from(count);
+    if !may_have(count, RingObservers::MOST) {
         return Err(WireFault::BadBody);
     }
+    let (processes, rest) = read_processes(alloc, count, rest)?;
     ended(rest)?;
     Ok(RingObservers::new(processes)?)
 }

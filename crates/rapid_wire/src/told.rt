@@ -123,5 +123,5 @@ pub(crate) fn tell_message(message: &Message)
 {
     let sender = message.sender();
     sender.tell();
-    tell_body(&sender, message.body());
+    tell_body(sender, message.body());
 }

@@ -32,7 +32,7 @@ fn put_processes(out: &mut Vec<u8>, processes: &[Process]) -> Result<(), AllocEr
     ensures { OnOk result (out.new.items ≡ out.old.items ++ concat processes.now) }
 {
     for process in processes {
-        out.extend_from_slice(&process.to_bytes())?;
+        process.append_to(out)?;
     }
     Ok(())
 }
@@ -72,7 +72,7 @@ fn put_alert(out: &mut Vec<u8>, alert: &Alert) -> Result<(), AllocError>
 {
     out.push(alert.ring)?;
     out.push(byte_of_kind(alert.kind))?;
-    out.extend_from_slice(&alert.subject.to_bytes())
+    alert.subject.append_to(out)
 }
 
 /// Alerts, one after another.
@@ -170,7 +170,7 @@ pub(crate) fn put_body(alloc: Global, out: &mut Vec<u8>, body: &Body) -> Result<
         }
         Body::PreJoin => Ok(()),
         Body::Reply(joiner, answer) => {
-            out.extend_from_slice(&joiner.to_bytes())?;
+            joiner.append_to(out)?;
             put_answer(out, answer)
         }
         Body::JoinRequest(id, ring) | Body::Leave(id, ring) => {

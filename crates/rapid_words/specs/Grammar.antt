@@ -34,9 +34,10 @@ cluster_words =
 -- `node`.
 abbrev pub node_words : App
 node_words =
-    with_rule (with_rule (with_params (with_rule (with_rule (with_rule (new_app (codes "node"))
+    with_rule (with_rule (with_params (with_rule (with_rule (with_rule (with_rule (new_app (codes "node"))
     (record (text_option (codes "listen")) { required = true }))
     (text_option (codes "id")))
+    (text_option (codes "tags")))
     (text_option (codes "join"))))
     (number_option (codes "tick-ms") (codes "0") (pos 0) (pos 60000)))
     (number_option (codes "probers") (codes "1") (pos 1) (pos most_probers))

@@ -4,7 +4,7 @@
 use crate::node::NODE;
 use clap::ArgMatches;
 use clap::parser::ValueSource;
-use rapid_endpoint::{Endpoint, ParseError, ProcessId};
+use rapid_endpoint::{Endpoint, ParseError, ProcessId, Tags};
 use rapid_options::{NodeOptions, NodeWords};
 use rapid_transport::is_local;
 use std::convert::AsStr;
@@ -18,6 +18,10 @@ const ENDPOINT: &str =
 /// What an identifier has to be.
 const IDENTIFIER: &str =
     "a UUID is wanted that was never used before, such as 6ba7b810-9dad-41d1-80b4-00c04fd430c8";
+
+/// What tags have to be.
+const TAGS: &str =
+    "up to 8 ascending words of 1 to 64 bytes are wanted, with commas between them, such as db,zone-a";
 
 /// What K, H and L have to be.
 const PARAMS: &str = "1 <= L <= H <= K <= 16 is wanted";
@@ -67,6 +71,7 @@ fn wanted_of(command: &str, option: &str) -> Option<Wanted> {
         ("node", "probers") => number(1, 16, "a number from 1 to 16 is wanted, such as 4"),
         ("node", "listen" | "join") => text("ENDPOINT", ENDPOINT),
         ("node", "id") => text("UUID", IDENTIFIER),
+        ("node", "tags") => text("TAGS", TAGS),
         _ => None,
     }
 }
@@ -76,6 +81,8 @@ fn wanted_of(command: &str, option: &str) -> Option<Wanted> {
 struct GivenOption<'a> {
     name: &'a str,
     value: Option<&'a str>,
+    /// Whether the value stands behind `=`. Then it may begin with `-`.
+    is_joined: bool,
     wanted: Wanted,
 }
 
@@ -90,7 +97,7 @@ impl GivenOption<'_> {
                 Ok(number) => number < least || most < number,
                 Err(_) => true,
             },
-            None => value.starts_with('-'),
+            None => !self.is_joined && value != "-" && value.starts_with('-'),
         }
     }
 
@@ -108,17 +115,18 @@ impl GivenOption<'_> {
     }
 }
 
-/// The option that stands at this place among the words of a command. The word after it is its
-/// value, unless that is an option too.
+/// The option that stands at this place among the words of a command. Its value stands behind `=`,
+/// or is the word after it, unless that is an option too.
 fn option_at<'a, S: AsStr>(command: &str, words: &'a [S], at: usize) -> Option<GivenOption<'a>> {
     let option = words.get(at)?.as_str().strip_prefix("--")?;
-    let (name, value) = match option.split_once('=') {
-        Some((name, value)) => (name, Some(value)),
-        None => (option, value_behind(words, at)),
+    let (name, value, is_joined) = match option.split_once('=') {
+        Some((name, value)) => (name, Some(value), true),
+        None => (option, value_behind(words, at), false),
     };
     Some(GivenOption {
         name,
         value,
+        is_joined,
         wanted: wanted_of(command, name)?,
     })
 }
@@ -245,17 +253,39 @@ fn tell_endpoint<E: Write>(option: &str, text: &str, err: &mut E) -> bool {
     }
 }
 
-/// Explains that an identifier cannot be read.
-fn tell_identifier<E: Write>(text: &str, err: &mut E) {
-    if ProcessId::parse(text).is_err() {
+/// Explains that an identifier cannot be read. The answer is whether it cannot.
+fn tell_identifier<E: Write>(text: &str, err: &mut E) -> bool {
+    if ProcessId::parse(text).is_ok() {
+        return false;
+    }
+    let _ = writeln!(
+        err,
+        "error: invalid value '{text}' for '--id <UUID>': {IDENTIFIER}"
+    );
+    true
+}
+
+/// What is wrong with the text of tags.
+fn tags_fault(text: &str) -> Option<&'static str> {
+    match Tags::parse(text) {
+        Ok(_) => None,
+        Err(ParseError::TooManyTags) => Some("there are more than 8"),
+        Err(ParseError::TagsNotSorted) => Some("they do not ascend"),
+        Err(_) => Some("one is empty, too long, or has a byte that is not allowed"),
+    }
+}
+
+/// Explains that tags cannot be read.
+fn tell_tags<E: Write>(text: &str, err: &mut E) {
+    if let Some(fault) = tags_fault(text) {
         let _ = writeln!(
             err,
-            "error: invalid value '{text}' for '--id <UUID>': {IDENTIFIER}"
+            "error: invalid value '{text}' for '--tags <TAGS>': {fault}; {TAGS}"
         );
     }
 }
 
-/// Explains the first of the values of `--listen`, `--join` and `--id` that is refused.
+/// Explains the first of the values of `--listen`, `--join`, `--id` and `--tags` that is refused.
 pub(crate) fn tell_texts<E: Write>(words: &NodeWords, err: &mut E) {
     let mut told = tell_endpoint("listen", words.listen, err);
     if let Some(seed) = words.join
@@ -266,7 +296,12 @@ pub(crate) fn tell_texts<E: Write>(words: &NodeWords, err: &mut E) {
     if let Some(id) = words.id
         && !told
     {
-        tell_identifier(id, err);
+        told = tell_identifier(id, err);
+    }
+    if let Some(tags) = words.tags
+        && !told
+    {
+        tell_tags(tags, err);
     }
     tell_help(NODE, err);
 }

@@ -38,7 +38,7 @@ were refused, 3 if memory ran out.";
 pub(crate) const SIM_LINES: &str = "Lines:
   params K H L                     first; 1 <= L <= H <= K <= 16
   found N ..                       second: the founders, ascending; founder N is at port N
-  start N PORT SEEDPORT            process N starts at a port, and asks at the port of a member
+  start N PORT SEEDPORT [TAG ..]   process N starts at a port, and asks at the port of a member
   probe N RING ok|fail [COUNT]     node N has a result of a probe on a ring
   lose N                           four probes of N fail on each ring on which it is observed
   tick N [COUNT]                   the clock of node N ticks
@@ -49,14 +49,19 @@ pub(crate) const SIM_LINES: &str = "Lines:
   leave N                          node N asks those that observe it to have it removed
   packets                          prints how many packets were sent
 Processes are numbers from 1 to 65535 at 127.0.0.1, packets are numbered from 1 in the order sent, and
-COUNT is 1 to 1000. A line that begins with # is ignored. A view that a node enters prints
+COUNT is 1 to 1000. A process has up to 8 tags, ascending, each of 1 to 64 characters without , [ and ].
+A line that begins with # is ignored. A view that a node enters prints
   node N height H members N ..     or node N removed at height H if it is not in it
+A member with tags is printed with them behind its number, such as 2[db,web].
 
 A line that is refused prints refused NAME and has no effect; of a repeated event what came before
 stands. The run goes on, and its status stays 0. NAME is one of
   BadLine          the line is none of the above, a second params or found, or drops a packet never sent
   NoParams         params or found was not taken yet
   BadParams        K, H and L are not 1 <= L <= H <= K <= 16
+  TooManyTags      there are more than 8 tags
+  BadTag           a tag has more than 64 characters, or has , [ or ]
+  TagsNotSorted    the tags do not ascend
   IdentifierUsed   process N was started before
   EndpointBusy     a node runs at the port
   NoSuchNode       no node N runs, or none at the packet's endpoint
@@ -91,10 +96,13 @@ pub(crate) const NODE_LINES: &str = "Lines of standard input:
 A line that begins with # is ignored, and another prints refused BadLine. Each view that the node
 enters prints
   height H members ENDPOINT ..
+A member with tags is printed with them behind its endpoint, such as 127.0.0.1:7401[db,zone-a].
 What it reports while it goes on, such as why it waits to be let in, is a line note: .. on standard
 error.
 An ENDPOINT is 127.x.x.x:PORT with a port from 1 to 65535, such as 127.0.0.1:7401. K, H and L are those
 of a cluster that the node founds, 1 <= L <= H <= K <= 16; one that joins takes those of its cluster.
+TAGS are up to 8 words with commas between them, ascending, each of 1 to 64 characters without , [ and ].
+If the first begins with -, give them as --tags=TAGS.
 
 A node acts by itself at its ticks alone. It asks to be let in, reports and votes. At every tenth tick
 it probes those that it observes. With --tick-ms 0, the default, only the lines tick make it tick. Such

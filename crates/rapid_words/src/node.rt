@@ -76,6 +76,12 @@ pub(crate) fn node<'a>(alloc: Global) -> Result<Command<'a>, AllocError>
         "UUID",
         "Its identifier, never used before; without it one is drawn",
     );
+    let tags = text(
+        alloc,
+        "tags",
+        "TAGS",
+        "What it says of itself, such as db,zone-a: up to 8 words, ascending",
+    );
     let join = text(
         alloc,
         "join",
@@ -87,6 +93,7 @@ pub(crate) fn node<'a>(alloc: Global) -> Result<Command<'a>, AllocError>
         .after_help(NODE_LINES)
         .arg(listen.required(true))?
         .arg(id)?
+        .arg(tags)?
         .arg(join)?;
     with_params(alloc, command)?
         .arg(tick_ms(alloc))?
@@ -100,11 +107,11 @@ pub fn options_of<E: Write>(
     matches: &ArgMatches,
     err: &mut E,
 ) -> Option<NodeOptions>
-    ensures texts { IfSome result (λ o. AreRead words.entry.listen.now (option_map (λ t. t.now) words.entry.join) (option_map (λ t. t.now) words.entry.id) o.listen o.join o.id) }
+    ensures texts { IfSome result (λ o. AreRead words.entry.listen.now (option_map (λ t. t.now) words.entry.join) (option_map (λ t. t.now) words.entry.id) (option_map (λ t. t.now) words.entry.tags) o.listen o.join o.id o.tags) }
     ensures params { IfSome result (λ o. o.params ≡ record { k = words.entry.k; h = words.entry.h; l = words.entry.l }) }
     ensures tick { IfSome result (λ o. o.tick_ms ≡ words.entry.tick_ms) }
     ensures probers { IfSome result (λ o. o.probers ≡ words.entry.probers) }
-    ensures refused { IfNone result ((e : OptionsError) × IsRefusal (record { k = words.entry.k; h = words.entry.h; l = words.entry.l }) words.entry.listen.now (option_map (λ t. t.now) words.entry.join) (option_map (λ t. t.now) words.entry.id) e) }
+    ensures refused { IfNone result ((e : OptionsError) × IsRefusal (record { k = words.entry.k; h = words.entry.h; l = words.entry.l }) words.entry.listen.now (option_map (λ t. t.now) words.entry.join) (option_map (λ t. t.now) words.entry.id) (option_map (λ t. t.now) words.entry.tags) e) }
 {
     match judge(words) {
         Ok(options) => {

@@ -1,6 +1,6 @@
 // Processes by their numbers.
 
-use rapid_endpoint::{Endpoint, Process, ProcessId};
+use rapid_endpoint::{Endpoint, ParseError, Process, ProcessId};
 
 /// The identifier with this number.
 pub fn id(number: u16) -> ProcessId {
@@ -15,4 +15,9 @@ pub fn endpoint(port: u16) -> Endpoint {
 /// The process with this number.
 pub fn process(number: u16) -> Process {
     Process::new(id(number), endpoint(number))
+}
+
+/// The process with this number and these tags.
+pub fn tagged(number: u16, tags: &[&[u8]]) -> Result<Process, ParseError> {
+    Process::tagged(id(number), endpoint(number), tags)
 }

@@ -1,7 +1,7 @@
 // Texts of numbers, members and nodes, which `sim` and `cluster` write.
 
 use crate::detect::devices::Narrow;
-use crate::numbered::{id, process};
+use crate::numbered::{id, process, tagged};
 use rapid_text::{RunFault, write_members, write_node, write_number, write_text};
 use std::test::Fail;
 
@@ -16,6 +16,20 @@ fn each_is_appended(rt: HostRuntime) -> Result<(), Fail> {
         output.as_slice(),
         b"node 65535 1 2018446744073709551615".as_slice()
     );
+    Ok(())
+}
+
+#[test]
+fn tags_follow_the_number_of_a_member(rt: HostRuntime) -> Result<(), Fail> {
+    let members = [
+        process(1),
+        tagged(2, &[b"db"])?,
+        tagged(30, &[b"!", b"aa", b"b"])?,
+        process(4),
+    ];
+    let mut output = Vec::new(rt.alloc());
+    write_members(&members, &mut output)?;
+    assert_eq!(rt; output.as_slice(), b" 1 2[db] 30[!,aa,b] 4".as_slice());
     Ok(())
 }
 

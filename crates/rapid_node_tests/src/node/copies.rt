@@ -97,7 +97,7 @@ fn assert_is_halted(rt: &impl Abort, alloc: Global, node: &mut Node) -> Result<(
     node.halt();
     assert_shows(rt, &*node, 0, &[1, 2]);
     assert!(rt; node.installed().len() == 1);
-    assert!(rt; node.process() == process(1));
+    assert!(rt; *node.process() == process(1));
     assert_halted(rt, node, &Event::Tick);
     Ok(())
 }
@@ -116,7 +116,7 @@ fn vote(alloc: Global) -> Result<Message, Fail> {
 
 /// Checks that a message is that vote.
 fn assert_vote(rt: &impl Abort, message: &Message) {
-    assert!(rt; message.sender() == process(1));
+    assert!(rt; *message.sender() == process(1));
     assert!(rt; said_by(message.body()) == Said::Vote(2));
     assert!(rt; message.body().caught_up_by() == Some(ConfigId::zero()));
 }
@@ -130,7 +130,7 @@ fn assert_made(rt: &impl Abort, message: Message) {
 fn assert_copies(rt: &impl Abort, alloc: Global, message: &Message) -> Result<(), Fail> {
     assert_made(rt, message.try_copy(alloc)?);
     let body = message.body().try_copy(alloc)?;
-    assert_made(rt, Message::new(message.sender(), body)?);
+    assert_made(rt, Message::new(*message.sender(), body)?);
     Ok(())
 }
 

@@ -5,7 +5,7 @@ use crate::node::founding::{founding, joiner, member};
 use crate::node::network::Action;
 use crate::node::plays::{Line, plays};
 use crate::node::said::{Said, To};
-use crate::numbered::process;
+use crate::numbered::{process, tagged};
 use rapid_config::Configuration;
 use rapid_endpoint::Process;
 use rapid_join::Reply;
@@ -143,9 +143,8 @@ fn asked(node: &mut Node, joiner: Process) -> Result<Outputs, Fail> {
     Ok(told(node, question)?)
 }
 
-/// Checks that a node refuses another process at the endpoint of the first.
-fn assert_refuses(rt: &impl Abort, node: &mut Node) -> Result<(), Fail> {
-    let joiner = Process::new(process(9).id(), process(1).endpoint());
+/// Checks that a node refuses a process.
+fn assert_refuses(rt: &impl Abort, node: &mut Node, joiner: Process) -> Result<(), Fail> {
     let outputs = asked(node, joiner)?;
     assert!(rt; is_in_use(&outputs, &joiner));
     Ok(())
@@ -154,7 +153,15 @@ fn assert_refuses(rt: &impl Abort, node: &mut Node) -> Result<(), Fail> {
 #[test]
 fn an_endpoint_in_use_is_refused(rt: HostRuntime) -> Result<(), Fail> {
     let mut node = member(&rt, rt.alloc(), (3, 3, 1), &[1], 1)?;
-    assert_refuses(&rt, &mut *node)
+    let joiner = Process::new(process(9).id(), process(1).endpoint());
+    assert_refuses(&rt, &mut *node, joiner)
+}
+
+#[test]
+fn a_member_with_other_tags_is_refused(rt: HostRuntime) -> Result<(), Fail> {
+    let mut node = member(&rt, rt.alloc(), (3, 3, 1), &[1, 2], 1)?;
+    assert_refuses(&rt, &mut *node, tagged(1, &[b"db"])?)?;
+    assert_refuses(&rt, &mut *node, tagged(2, &[b"db"])?)
 }
 
 /// The first process confirms a configuration.
@@ -180,6 +187,17 @@ fn confirmed(rt: &impl Abort, alloc: Global, founders: &[u16]) -> Result<Box<Nod
 #[test]
 fn a_confirmation_of_others_does_nothing(rt: HostRuntime) -> Result<(), Fail> {
     let node = confirmed(&rt, rt.alloc(), &[1])?;
+    assert_joins(&rt, &*node);
+    Ok(())
+}
+
+/// A configuration with the joiner's identifier and endpoint, and other tags, is one without it.
+#[test]
+fn a_confirmation_of_other_tags_does_nothing(rt: HostRuntime) -> Result<(), Fail> {
+    let seed = process(1).endpoint();
+    let node = Node::joiner(rt.alloc(), tagged(2, &[b"db"])?, seed)?;
+    let mut node = Box::new(rt.alloc(), node)?;
+    confirm(&rt, rt.alloc(), &mut *node, &[1, 2])?;
     assert_joins(&rt, &*node);
     Ok(())
 }

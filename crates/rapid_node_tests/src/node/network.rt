@@ -88,7 +88,7 @@ fn others(alloc: Global, node: &Node) -> Result<Vec<Endpoint>, Fail> {
     let mut others = Vec::new(alloc);
     if let Some(configuration) = node.configuration() {
         for member in configuration.members() {
-            if *member != node.process() {
+            if member != node.process() {
                 others.push(member.endpoint())?;
             }
         }
@@ -183,7 +183,7 @@ impl Network {
 
     /// Makes packets of what a node sends.
     fn post(&mut self, output: &Output, others: &[Endpoint]) -> Result<(), Fail> {
-        let from = number(&output.message().sender());
+        let from = number(output.message().sender());
         self.sent.push((from, whom(output.to()), said_by(output.message().body())))?;
         match output.to() {
             Destination::To(to) => self.packets.push(packet_to(self.alloc, to, output)?)?,
@@ -206,7 +206,7 @@ impl Network {
         let outputs = told_of(node, event)?;
         if let Some(stamp) = node.installed().get(before) {
             self.installs
-                .push((number(&node.process()), stamp.height()))?;
+                .push((number(node.process()), stamp.height()))?;
         }
         for output in &outputs {
             self.post(output, others.as_slice())?;

@@ -3,7 +3,7 @@
 use crate::node::assertions::{assert_answers, assert_outputs, assert_phase, assert_shows, told};
 use crate::node::founding::{member, shown};
 use crate::node::said::{Said, To};
-use crate::numbered::{cut, process};
+use crate::numbered::{cut, process, tagged};
 use rapid_config::ConfigId;
 use rapid_message::{Body, Message, Outputs};
 use rapid_node::{Event, Node, Phase};
@@ -41,6 +41,10 @@ pub enum Word {
     Leaves(Which, u8, u16),
     /// The process with this number casts a fast vote for its own cut.
     Vote(u16),
+    /// The process with this number and the tag `db` says that it leaves a configuration, on a ring.
+    LeavesTagged(Which, u8, u16),
+    /// The process with this number and the tag `db` casts a fast vote for the cut of this number.
+    VoteTagged(u16),
 }
 
 /// What happens to a node, or what is seen of it.
@@ -73,6 +77,11 @@ fn heard(number: u16, body: Body) -> Result<Event, Fail> {
     Ok(Event::Receive(Message::new(process(number), body)?))
 }
 
+/// A message of a process with the tag `db` reaches a node.
+fn heard_tagged(number: u16, body: Body) -> Result<Event, Fail> {
+    Ok(Event::Receive(Message::new(tagged(number, &[b"db"])?, body)?))
+}
+
 /// The event of what a node hears that showed this configuration at first.
 fn event(
     rt: &impl Abort,
@@ -101,6 +110,14 @@ fn event(
         Word::Vote(number) => {
             let cut = cut(alloc, number)?;
             heard(number, Body::FastVote(shown(rt, node), cut))
+        }
+        Word::LeavesTagged(which, ring, number) => {
+            let id = identifier(rt, node, first, which);
+            heard_tagged(number, Body::Leave(id, ring))
+        }
+        Word::VoteTagged(number) => {
+            let cut = cut(alloc, number)?;
+            heard_tagged(number, Body::FastVote(shown(rt, node), cut))
         }
     }
 }

@@ -4,15 +4,16 @@ use crate::config::configurations::founded;
 use crate::config::cuts::cut;
 use crate::config::hexadecimal::is_spelt;
 use crate::config::readings::changed;
-use crate::numbered::{are, process};
-use rapid_config::{ConfigError, Configuration, Cut};
+use crate::numbered::{are, process, tagged};
+use rapid_config::{ConfigError, Configuration, Cut, Params};
+use rapid_endpoint::Process;
 use std::alloc::Global;
 use std::test::Fail;
 
 #[test]
 fn two_founders_have_their_identifier(rt: HostRuntime) -> Result<(), Fail> {
     let two = founded(rt.alloc(), (3, 3, 1), 2)?;
-    let digits = "7d3415fcc97888950a48f71ef429d7f0bacab640d712d864baadf0e6c270bda3";
+    let digits = "e3ddfe8b44b30510d5aa018e69032933ff94bc769afac1c7c91bd78e7bc840d4";
     assert!(rt; is_spelt(rt.alloc(), two.id(), digits)?);
     Ok(())
 }
@@ -21,13 +22,13 @@ fn two_founders_have_their_identifier(rt: HostRuntime) -> Result<(), Fail> {
 // configuration's bytes, computed elsewhere.
 type Change<'a> = (&'a [(u16, u16)], &'a [(u16, u16)], &'a str);
 
-const STAYS: &str = "06f8768676e88a66c211916ebb26d8559ca5407c3c7e096ce78aaf30967b7ab4";
+const STAYS: &str = "43d719ae228c316c7d09ec7dda8a0253e195ae453c61b700c7feaa51cb7d99fa";
 
 const CHANGES: [Change; 5] = [
     (
         &[(2, 2), (3, 3)],
         &[(1, 1), (3, 3)],
-        "9b6a2cca63ae7db33c331a641df6f9a34b2942180d49ce371a6b4b6c4fc27b7d",
+        "fe17ea9352e5cc68ad3f9f677740f368c6457f6cbc1959c2dc2c014b1226f77b",
     ),
     // a joiner with an endpoint that is held stays out
     (&[(9, 1)], &[(1, 1), (2, 2)], STAYS),
@@ -35,7 +36,7 @@ const CHANGES: [Change; 5] = [
     (
         &[(2, 2), (9, 2)],
         &[(1, 1), (9, 2)],
-        "9292bc0955d4adafd1dba8dfac82580ed4692c3ba9523925923d8bf8e1f33cb7",
+        "07c5f7d0a0fc623688ed6af19bfaf2c484eaddc6ccc638c9b919cab5c4795ced",
     ),
     // a joiner with an identifier that is held stays out
     (&[(1, 7)], &[(1, 1), (2, 2)], STAYS),
@@ -43,7 +44,7 @@ const CHANGES: [Change; 5] = [
     (
         &[(1, 1), (2, 2)],
         &[],
-        "0e6e0efa61694ba4a53184504f90103bdf2f0d115772318319e3a41c08e4bada",
+        "2056d7cd4e0d0e207495d1d74948fc01ee8d0f54bff557c187ef48cd7699fd22",
     ),
 ];
 
@@ -76,8 +77,30 @@ fn a_second_change_stands_on_the_first(rt: HostRuntime) -> Result<(), Fail> {
     let first = cut(rt.alloc(), &[(2, 2), (3, 3)])?;
     let next = founded(rt.alloc(), (3, 3, 1), 2)?.apply(rt.alloc(), &first)?;
     let none = next.apply(rt.alloc(), &cut(rt.alloc(), &[(1, 1), (3, 3)])?)?;
-    let digits = "3b18d48159ccb421a49f3e961b90a5d572902ae01fb9543a0fc3bfa40742034e";
+    let digits = "1176a0e214cb21d6c463e61ddd3880e62aea785b10c5640608b36f7ee86a20c4";
     assert!(rt; is_spelt(rt.alloc(), none.id(), digits)?);
+    Ok(())
+}
+
+/// Whether these are the members after a cut of these processes.
+fn leads_to(
+    alloc: Global,
+    configuration: &Configuration,
+    processes: &[Process],
+    members: &[Process],
+) -> Result<bool, Fail> {
+    let cut = Cut::new(Vec::from_slice(alloc, processes)?)?;
+    Ok(configuration.apply(alloc, &cut)?.members() == members)
+}
+
+/// A member that is given other tags is another process, under an identifier that is held.
+#[test]
+fn a_process_with_other_tags_comes_only_if_the_member_leaves(rt: HostRuntime) -> Result<(), Fail> {
+    let (one, bare, tagged) = (process(1), process(2), tagged(2, &[b"db"])?);
+    let two = Configuration::seed(rt.alloc(), Params::new(3, 3, 1)?, &[one, tagged])?;
+    assert!(rt; leads_to(rt.alloc(), &two, &[bare], &[one, tagged])?);
+    assert!(rt; leads_to(rt.alloc(), &two, &[tagged], &[one])?);
+    assert!(rt; leads_to(rt.alloc(), &two, &[bare, tagged], &[one, bare])?);
     Ok(())
 }
 

@@ -1,7 +1,7 @@
 // Founding configurations: who is in them, their identifiers, and why others are refused.
 
 use crate::config::hexadecimal::is_spelt;
-use crate::numbered::{are, at, named, process, processes, seeded};
+use crate::numbered::{are, at, named, process, processes, seeded, tagged};
 use rapid_config::{ConfigError, ConfigId, Configuration, Params};
 use rapid_endpoint::Process;
 use std::alloc::Global;
@@ -76,6 +76,19 @@ fn founders_are_refused_by_name(rt: HostRuntime) -> Result<(), Fail> {
     Ok(())
 }
 
+#[test]
+fn tags_tell_no_founders_apart(rt: HostRuntime) -> Result<(), Fail> {
+    let cases = [
+        ([process(1), tagged(1, &[b"db"])?], ConfigError::NotSorted),
+        ([tagged(1, &[b"db"])?, at(2, 1)], ConfigError::EndpointTwice),
+    ];
+    for (founders, expected) in &cases {
+        let refused = seeded(rt.alloc(), Params::new(3, 3, 1)?, founders.as_slice()).err();
+        assert!(rt; refused == Some(*expected), "at {founders:?}");
+    }
+    Ok(())
+}
+
 /// Whether a process has this place in a configuration, or none.
 fn has_place(configuration: &Configuration, member: &Process, place: Option<usize>) -> bool {
     configuration.position(member) == place && configuration.is_member(member) == place.is_some()
@@ -103,58 +116,69 @@ fn members_have_their_places(rt: HostRuntime) -> Result<(), Fail> {
     Ok(())
 }
 
+#[test]
+fn a_process_with_other_tags_is_no_member(rt: HostRuntime) -> Result<(), Fail> {
+    let members = [process(1), tagged(2, &[b"db"])?];
+    let configuration = Configuration::seed(rt.alloc(), Params::new(3, 3, 1)?, &members)?;
+    assert!(rt; has_place(&configuration, &tagged(2, &[b"db"])?, Some(1)));
+    assert!(rt; has_place(&configuration, &process(2), None));
+    assert!(rt; has_place(&configuration, &tagged(2, &[b"db", b"web"])?, None));
+    assert!(rt; has_place(&configuration, &tagged(1, &[b"db"])?, None));
+    Ok(())
+}
+
 // Parameters, how many founders from 1 on, and the SHA-256 of the founding configuration's bytes,
 // computed elsewhere.
 const FOUNDINGS: [((u8, u8, u8), u16, &str); 10] = [
     (
         (10, 9, 3),
         1,
-        "6651b30bb1f26f3ebfa18e0ad270e9f26935d15f9b4efe61f23854095fec20b7",
+        "ef534a3c5be81777609eee175ce6927a5ac7c637af66adb30549d3a196392f8c",
     ),
     (
         (10, 9, 3),
         2,
-        "cd6c6d629bca567e13616d354e545832204a0a1e254a5a63772679225fc9a9ef",
+        "bc488633055b1d7ba95b055a57aaea1903aa1eeda6ffe8d108fb465144adaa97",
     ),
     (
         (10, 9, 3),
         3,
-        "a45bc90b4e7a5c77d94927ee130ac2eca43906c67987801b1a6cf32390eb0621",
+        "7097d0aa0a2da01175ca9946f71526b64e26f6634ef1b05714b3a8dd7bf4c1d1",
     ),
     (
         (10, 9, 3),
         5,
-        "51e75151778c92dda4cf79addd5bc3554cb1346239b8e9984e05a1c21f27dc8f",
+        "fc64e0e548545be8e4f5fd3c0e4aa8bc957375a5b152d7497d644fe7c87dfd08",
     ),
     (
         (10, 9, 3),
         10,
-        "e636366540b5060703d8d22b954d64a7b7cd07513633098993586527977cc5c8",
+        "7e8e095af3806e54191bb995e297c27f281ce66107cb7720cebd130d7d02e76f",
     ),
     (
         (10, 9, 3),
         100,
-        "807db6cbf0c68c7110b25eccc8457e11d218e839b2dd7eff52ff1efae9db0bca",
+        "ebca531c6095e23f0a50022290f464d2bb1c95d3d053c2f14368d3024575c1d0",
     ),
     (
         (10, 9, 3),
         1024,
-        "83d7e05b3340254fd455140d15872757be9f842c35934bffdf1bf3269d9b6eb9",
+        "c3f75c4c508408bafd0561fe730f60376c1b4685b7f0342aa59db932c0c3a760",
     ),
     (
         (3, 3, 1),
         1,
-        "7aaeae4fab077e718eb63a0afa2e8ec0c08f40629379bc981ed9cfa588ff7ff2",
+        "72422b5de2881334870fccfc9cb6afae195747dbf7ab769cce4b05122a6cf5da",
     ),
     (
         (16, 16, 16),
         1,
-        "ad62afcf7cbf3f17f4967fe6b1c957e2a9b564eb2310f97163fb23fcb56e21a5",
+        "ac34e5e592543efaccc748a9fdecb3ad7c6c9a308f1056ac278e3f4127f2d3d8",
     ),
     (
         (1, 1, 1),
         2,
-        "c2c8663b47eedbdff9023ea64d15bbb574c19e104b87704a37bb635e4402ee02",
+        "30ffdb95a8838ecbfc6d6afd964c911df2a253c5a54234bcd3afba1c9aabc731",
     ),
 ];
 

@@ -1,8 +1,9 @@
 // Parameters, identifiers and cuts.
 
-use crate::numbered::{are, named, processes};
+use crate::numbered::{are, named, process, processes, tagged};
 use rapid_config::{ConfigError, ConfigId, Cut, Params};
-use std::alloc::Global;
+use rapid_endpoint::Process;
+use std::alloc::{AllocError, Global};
 use std::test::Fail;
 
 /// Whether parameters are taken, or refused by name.
@@ -95,6 +96,41 @@ fn cuts_are_refused_by_name(rt: HostRuntime) {
     }
 }
 
+/// The cut of one process, or of two.
+fn cut_of(
+    alloc: Global,
+    first: Process,
+    second: Option<Process>,
+) -> Result<Result<Cut, ConfigError>, AllocError> {
+    let mut processes = Vec::new(alloc);
+    processes.push(first)?;
+    if let Some(process) = second {
+        processes.push(process)?;
+    }
+    Ok(Cut::new(processes))
+}
+
+#[test]
+fn processes_of_a_cut_may_differ_in_tags_alone(rt: HostRuntime) -> Result<(), Fail> {
+    let (bare, tagged) = (process(2), tagged(2, &[b"db"])?);
+    let both = cut_of(rt.alloc(), bare, Some(tagged))??;
+    assert!(rt; both.processes() == [bare, tagged].as_slice());
+    let turned = cut_of(rt.alloc(), tagged, Some(bare))?;
+    assert!(rt; turned.err() == Some(ConfigError::NotSorted));
+    let twice = cut_of(rt.alloc(), tagged, Some(tagged))?;
+    assert!(rt; twice.err() == Some(ConfigError::NotSorted));
+    Ok(())
+}
+
+#[test]
+fn cuts_that_differ_in_tags_alone_are_in_order(rt: HostRuntime) -> Result<(), Fail> {
+    let low = cut_of(rt.alloc(), process(2), None)??;
+    let high = cut_of(rt.alloc(), tagged(2, &[b"db"])?, None)??;
+    assert!(rt; low < high && low != high);
+    assert!(rt; high < cut_of(rt.alloc(), process(3), None)??);
+    Ok(())
+}
+
 /// Why the cut of the processes from 1 to `n` is refused, if it is.
 fn refusal(alloc: Global, n: u16) -> Result<Option<ConfigError>, Fail> {
     Ok(Cut::new(processes(alloc, n)?).err())
@@ -107,7 +143,7 @@ fn a_cut_has_at_most_1536_processes(rt: HostRuntime) -> Result<(), Fail> {
     Ok(())
 }
 
-const CODES: [(ConfigError, u8); 10] = [
+const CODES: [(ConfigError, u8); 11] = [
     (ConfigError::BadParams, 1),
     (ConfigError::Truncated, 2),
     (ConfigError::Trailing, 3),
@@ -117,6 +153,7 @@ const CODES: [(ConfigError, u8); 10] = [
     (ConfigError::TooMany, 7),
     (ConfigError::EmptyCut, 8),
     (ConfigError::HeightFull, 9),
+    (ConfigError::BadTags, 10),
     (ConfigError::OutOfMemory, 99),
 ];
 

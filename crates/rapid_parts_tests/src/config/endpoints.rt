@@ -1,8 +1,10 @@
 // The worked cases, and what no clause says: printed text, and calls with values that are known
 // from outside.
 
-use rapid_endpoint::{Endpoint, ParseError, Process, ProcessId, endpoints_have_one_spelling};
-use std::alloc::Global;
+use rapid_endpoint::{
+    Endpoint, ParseError, Process, ProcessId, ReadError, Tags, endpoints_have_one_spelling,
+};
+use std::alloc::{AllocError, Global};
 use std::cmp::Ordering;
 use std::test::Fail;
 
@@ -146,43 +148,166 @@ fn process(id: u8, address: u8, port: u16) -> Process {
     )
 }
 
-const BYTES: [u8; 22] = [
+/// The bytes of the ascending identifier, and of the endpoint 127.0.0.1:7000.
+const KEY: [u8; 22] = [
     0x00, 0x11, 0x22, 0x33, 0x44, 0x55, 0x66, 0x77, 0x88, 0x99, 0xaa, 0xbb, 0xcc, 0xdd, 0xee, 0xff,
     0x7f, 0, 0, 1, 0x1b, 0x58,
 ];
 
-fn ascending() -> Process {
-    Process::new(
-        ProcessId::new(ASCENDING),
-        Endpoint::new([127, 0, 0, 1], 7000),
+/// Lists of tags, and their bytes.
+const TAGS: [(&[&[u8]], &[u8]); 3] = [
+    (&[], &[0]),
+    (&[b"db"], b"\x01\x02db"),
+    (&[b"db", b"web"], b"\x02\x02db\x03web"),
+];
+
+/// The process of the ascending identifier at 127.0.0.1:7000 with these tags.
+fn ascending(tags: &[&[u8]]) -> Result<Process, ParseError> {
+    let endpoint = Endpoint::new([127, 0, 0, 1], 7000);
+    Process::tagged(ProcessId::new(ASCENDING), endpoint, tags)
+}
+
+/// Whether a process has the ascending identifier, the endpoint and tags of these bytes.
+fn has_parts(made: &Process, tags: &[u8]) -> bool {
+    made.id().bytes() == ASCENDING
+        && made.endpoint() == Endpoint::new([127, 0, 0, 1], 7000)
+        && made.tags().as_bytes() == tags
+        && made.key_bytes() == KEY
+}
+
+#[test]
+fn a_process_has_its_parts(rt: HostRuntime) -> Result<(), Fail> {
+    for (list, bytes) in &TAGS {
+        let made = ascending(list)?;
+        assert!(rt; has_parts(&made, bytes), "at {bytes:?}");
+        assert!(rt; made == Process::of(made.id(), made.endpoint(), Tags::new(list)?));
+        made.tell();
+        made.id().tell();
+        made.endpoint().tell();
+        made.tags().tell();
+    }
+    let bare = ascending(&[])?;
+    assert!(rt; bare == Process::new(bare.id(), bare.endpoint()));
+    Ok(())
+}
+
+/// The bytes of the ascending identifier and the endpoint behind some bytes, and others behind these.
+fn joined(alloc: Global, before: &[u8], after: &[u8]) -> Result<Vec<u8>, AllocError> {
+    let mut bytes = Vec::from_slice(alloc, before)?;
+    bytes.extend_from_slice(&KEY)?;
+    bytes.extend_from_slice(after)?;
+    Ok(bytes)
+}
+
+/// Whether the bytes of a process end with these of its tags, also behind others.
+fn has_bytes(alloc: Global, made: &Process, tags: &[u8]) -> Result<bool, AllocError> {
+    let expected = joined(alloc, &[], tags)?;
+    let mut appended = Vec::from_slice(alloc, b"before")?;
+    made.append_to(&mut appended)?;
+    Ok(
+        made.to_bytes(alloc)?.as_slice() == expected.as_slice()
+            && appended.as_slice() == joined(alloc, b"before", tags)?.as_slice()
+            && made.length() == expected.len(),
     )
 }
 
-/// Whether a process has these bytes, and so have its parts.
-fn has_parts(made: &Process) -> bool {
-    made.to_bytes() == BYTES && made.id().bytes() == ASCENDING && made.endpoint().port() == 7000
+#[test]
+fn a_process_has_its_bytes(rt: HostRuntime) -> Result<(), Fail> {
+    for (list, bytes) in &TAGS {
+        assert!(rt;
+            has_bytes(rt.alloc(), &ascending(list)?, bytes)?,
+            "at {bytes:?}"
+        );
+    }
+    Ok(())
+}
+
+/// Whether a process is read from its bytes, whatever follows, and each beginning of these is too
+/// short.
+fn is_read(alloc: Global, made: &Process, tags: &[u8]) -> Result<bool, AllocError> {
+    let mut bytes = joined(alloc, &[], tags)?;
+    let length = bytes.len();
+    bytes.extend_from_slice(&[7, 7])?;
+    for some in 0..length {
+        if Process::read(bytes.get(..some).unwrap_or(&[])) != Err(ReadError::Truncated) {
+            return Ok(false);
+        }
+    }
+    Ok(Process::read(bytes.as_slice()) == Ok((*made, length)))
 }
 
 #[test]
-fn a_process_has_its_parts(rt: HostRuntime) {
-    let made = ascending();
-    assert!(rt; has_parts(&made));
-    assert!(rt; made.key_bytes() == BYTES);
-    made.tell();
-    made.id().tell();
-    made.endpoint().tell();
+fn processes_are_read(rt: HostRuntime) -> Result<(), Fail> {
+    for (list, bytes) in &TAGS {
+        assert!(rt;
+            is_read(rt.alloc(), &ascending(list)?, bytes)?,
+            "at {bytes:?}"
+        );
+    }
+    Ok(())
 }
 
-const LONGER: [u8; 24] = [
-    0x00, 0x11, 0x22, 0x33, 0x44, 0x55, 0x66, 0x77, 0x88, 0x99, 0xaa, 0xbb, 0xcc, 0xdd, 0xee, 0xff,
-    0x7f, 0, 0, 1, 0x1b, 0x58, 7, 7,
+/// Bytes behind an identifier and an endpoint that are no tags, and why.
+const WRONG: [(&[u8], ReadError); 8] = [
+    // a process of the first version
+    (&[], ReadError::Truncated),
+    (&[9], ReadError::BadTags),
+    (&[1, 0], ReadError::BadTags),
+    (&[1, 65], ReadError::BadTags),
+    (b"\x01\x03a,", ReadError::BadTags),
+    (b"\x01\x03ab", ReadError::Truncated),
+    (b"\x02\x03web\x02db", ReadError::BadTags),
+    (b"\x02\x03web\x02d", ReadError::Truncated),
 ];
 
 #[test]
-fn processes_are_read(rt: HostRuntime) {
-    assert!(rt; Process::read(&BYTES) == Some((ascending(), 22)));
-    assert!(rt; Process::read(&LONGER) == Some((ascending(), 22)));
-    assert!(rt; Process::read(&[]).is_none() && Process::read(&BYTES[..21]).is_none());
+fn other_bytes_are_no_process(rt: HostRuntime) -> Result<(), Fail> {
+    for (tags, error) in &WRONG {
+        let bytes = joined(rt.alloc(), &[], tags)?;
+        assert!(rt;
+            Process::read(bytes.as_slice()) == Err(*error),
+            "at {tags:?}"
+        );
+    }
+    Ok(())
+}
+
+/// Lists that are no tags, and why: too many are told first, then a wrong one, then the order.
+const OTHER_TAGS: [(&[&[u8]], ParseError); 6] = [
+    (&[b"web", b"db"], ParseError::TagsNotSorted),
+    (&[b"db", b"db"], ParseError::TagsNotSorted),
+    (&[b"web", b"d b"], ParseError::BadTag),
+    (&[b""], ParseError::BadTag),
+    (
+        &[b"1", b"2", b"3", b"4", b"5", b"6", b"7", b"8", b"9"],
+        ParseError::TooManyTags,
+    ),
+    (
+        &[b"9", b",", b"7", b"6", b"5", b"4", b"3", b"2", b"1"],
+        ParseError::TooManyTags,
+    ),
+];
+
+#[test]
+fn tags_of_a_process_are_refused_by_name(rt: HostRuntime) {
+    for (list, error) in &OTHER_TAGS {
+        assert!(rt; ascending(list) == Err(*error), "at {list:?}");
+    }
+}
+
+/// Eight tags of 64 bytes each.
+const MOST: [[u8; 64]; 8] = [
+    [b'1'; 64], [b'2'; 64], [b'3'; 64], [b'4'; 64], [b'5'; 64], [b'6'; 64], [b'7'; 64], [b'8'; 64],
+];
+
+#[test]
+fn a_process_has_at_most_543_bytes(rt: HostRuntime) -> Result<(), Fail> {
+    let [a, b, c, d, e, f, g, h] = &MOST;
+    let made = ascending(&[a, b, c, d, e, f, g, h])?;
+    let bytes = made.to_bytes(rt.alloc())?;
+    assert!(rt; made.length() == 543 && bytes.len() == 543);
+    assert!(rt; Process::read(bytes.as_slice()) == Ok((made, 543)));
+    Ok(())
 }
 
 /// The parts of a process.
@@ -209,6 +334,12 @@ fn of((id, address, port): &Parts) -> Process {
     process(*id, *address, *port)
 }
 
+/// The process of these parts and tags.
+fn with(parts: &Parts, tags: &[&[u8]]) -> Result<Process, ParseError> {
+    let process = of(parts);
+    Process::tagged(process.id(), process.endpoint(), tags)
+}
+
 #[test]
 fn processes_are_ordered_by_identifier_first(rt: HostRuntime) {
     for (low, high, order) in &ORDERS {
@@ -217,6 +348,61 @@ fn processes_are_ordered_by_identifier_first(rt: HostRuntime) {
             "at {low:?} and {high:?}"
         );
     }
+}
+
+/// Tags that stand at neither, or at one or both of two processes, whichever order these have.
+const BESIDE: [(&[&[u8]], &[&[u8]]); 3] = [
+    (&[b"web"], &[]),
+    (&[], &[b"db"]),
+    (&[b"db", b"web"], &[b"db"]),
+];
+
+/// Whether two processes with these parts are in this order, whatever their tags; not if they have
+/// the same parts.
+fn goes_by_parts(low: &Parts, high: &Parts, order: Ordering) -> Result<bool, ParseError> {
+    for (mine, others) in &BESIDE {
+        if !are_ordered(&with(low, mine)?, &with(high, others)?, order) {
+            return Ok(false);
+        }
+    }
+    Ok(true)
+}
+
+#[test]
+fn identifiers_and_endpoints_are_compared_before_tags(rt: HostRuntime) -> Result<(), Fail> {
+    for (low, high, order) in &ORDERS {
+        let expected = *order != Ordering::Equal;
+        assert!(rt;
+            goes_by_parts(low, high, *order)? == expected,
+            "at {low:?} and {high:?}"
+        );
+    }
+    Ok(())
+}
+
+/// Tags, from low to high: by their number, then by the length of the first that differs, then by
+/// its bytes.
+const ASCENDING_TAGS: [&[&[u8]]; 6] = [
+    &[],
+    &[b"a"],
+    &[b"z"],
+    &[b"aa"],
+    &[b"a", b"aa"],
+    &[b"a", b"ab"],
+];
+
+#[test]
+fn processes_that_differ_in_tags_alone_go_by_the_bytes_of_these(
+    rt: HostRuntime,
+) -> Result<(), Fail> {
+    for pair in ASCENDING_TAGS.windows(2) {
+        let (low, high) = (ascending(pair[0])?, ascending(pair[1])?);
+        assert!(rt; are_ordered(&low, &high, Ordering::Less), "at {pair:?}");
+        assert!(rt; are_ordered(&high, &low, Ordering::Greater), "at {pair:?}");
+        assert!(rt; are_ordered(&low, &low, Ordering::Equal), "at {pair:?}");
+        assert!(rt; shared(&low, &high) == (true, true), "at {pair:?}");
+    }
+    Ok(())
 }
 
 /// Whether two processes share an identifier, and whether they share an endpoint.

@@ -1,5 +1,6 @@
 // Tags: the worked values, the limits, and each change of a byte against a second reader.
 
+use crate::second::end_of_tags;
 use rapid_endpoint::{ParseError, ReadError, Tags, tags_have_one_spelling};
 use std::cmp::Ordering;
 use std::test::Fail;
@@ -54,6 +55,42 @@ fn tags_are_gone_over(rt: HostRuntime) -> Result<(), Fail> {
         assert!(rt; tags.len() == list.len() && tags.is_empty() == list.is_empty());
     }
     assert!(rt; Tags::none() == Tags::new(&[])?);
+    Ok(())
+}
+
+/// Texts of tags, with commas between them; none are no text.
+const TEXTS: [(&str, &[&[u8]]); 4] = [
+    ("db", &[b"db"]),
+    ("db,web", &[b"db", b"web"]),
+    ("a,aa,b", &[b"a", b"aa", b"b"]),
+    (
+        "1,2,3,4,5,6,7,8",
+        &[b"1", b"2", b"3", b"4", b"5", b"6", b"7", b"8"],
+    ),
+];
+
+/// Other texts, and why: too many are told first, then a wrong one, then the order.
+const OTHER_TEXTS: [(&str, ParseError); 10] = [
+    ("", ParseError::BadTag),
+    (",", ParseError::BadTag),
+    ("db,", ParseError::BadTag),
+    (",db", ParseError::BadTag),
+    ("web,,db", ParseError::BadTag),
+    ("web,d b", ParseError::BadTag),
+    ("web,db", ParseError::TagsNotSorted),
+    ("db,db", ParseError::TagsNotSorted),
+    ("1,2,3,4,5,6,7,8,9", ParseError::TooManyTags),
+    (",,,,,,,,", ParseError::TooManyTags),
+];
+
+#[test]
+fn tags_are_read_of_texts(rt: HostRuntime) -> Result<(), Fail> {
+    for (text, list) in &TEXTS {
+        assert!(rt; Tags::parse(text)? == Tags::new(list)?, "at {text}");
+    }
+    for (text, error) in &OTHER_TEXTS {
+        assert!(rt; Tags::parse(text) == Err(*error), "at {text}");
+    }
     Ok(())
 }
 
@@ -120,64 +157,9 @@ fn eight_tags_may_have_64_bytes_each(rt: HostRuntime) -> Result<(), Fail> {
     Ok(())
 }
 
-/// The bytes that a tag may have.
-const ALLOWED: &[u8] =
-    b"!\"#$%&'()*+-./0123456789:;<=>?@ABCDEFGHIJKLMNOPQRSTUVWXYZ\\^_`abcdefghijklmnopqrstuvwxyz{|}~";
-
-/// The byte at a place, or that the bytes end before it.
-fn at(bytes: &[u8], place: usize) -> Result<u8, ReadError> {
-    match bytes.get(place) {
-        Some(byte) => Ok(*byte),
-        None => Err(ReadError::Truncated),
-    }
-}
-
-/// Where the tag ends that begins with its length at a place.
-fn end_of_tag(bytes: &[u8], start: usize) -> Result<usize, ReadError> {
-    let length = at(bytes, start)?;
-    if length == 0 || length > 64 {
-        return Err(ReadError::BadTags);
-    }
-    let mut place = start;
-    for _ in 0..length {
-        place = place.saturating_add(1);
-        if !ALLOWED.contains(&at(bytes, place)?) {
-            return Err(ReadError::BadTags);
-        }
-    }
-    Ok(place.saturating_add(1))
-}
-
-/// Whether the bytes from a place to an end are above others.
-fn are_above(bytes: &[u8], start: usize, end: usize, before: &[u8]) -> bool {
-    match bytes.get(start..end) {
-        Some(tag) => tag > before,
-        None => false,
-    }
-}
-
-/// Where the tags in front of the bytes end, read a byte at a time.
-fn second_reading(bytes: &[u8]) -> Result<usize, ReadError> {
-    let count = at(bytes, 0)?;
-    if count > 8 {
-        return Err(ReadError::BadTags);
-    }
-    let mut end = 1;
-    let mut before: &[u8] = &[];
-    for _ in 0..count {
-        let start = end;
-        end = end_of_tag(bytes, start)?;
-        if !are_above(bytes, start.saturating_add(1), end, before) {
-            return Err(ReadError::BadTags);
-        }
-        before = bytes.get(start.saturating_add(1)..end).unwrap_or(&[]);
-    }
-    Ok(end)
-}
-
 /// Whether bytes are read as the second reader reads them.
 fn agrees(bytes: &[u8]) -> bool {
-    match (Tags::read(bytes), second_reading(bytes)) {
+    match (Tags::read(bytes), end_of_tags(bytes, 0)) {
         (Ok((tags, length)), Ok(end)) => length == end && bytes.get(..end) == Some(tags.as_bytes()),
         (Err(error), Err(other)) => error == other,
         _ => false,
@@ -189,7 +171,7 @@ const GOOD: [u8; 18] = *b"\x04\x02db\x03dba\x01e\x04webs\x01!\xff";
 
 #[test]
 fn each_change_of_a_byte_is_read_alike(rt: HostRuntime) {
-    assert!(rt; second_reading(&GOOD) == Ok(15) && agrees(&GOOD));
+    assert!(rt; end_of_tags(&GOOD, 0) == Ok(15) && agrees(&GOOD));
     for place in 0..GOOD.len() {
         for byte in 0..=255 {
             let mut bytes = GOOD;
@@ -231,7 +213,7 @@ const FAULTS: [(&[u8], ReadError); 14] = [
 fn other_bytes_are_refused_by_what_is_met_first(rt: HostRuntime) {
     for (bytes, error) in &FAULTS {
         assert!(rt; Tags::read(bytes) == Err(*error), "at {bytes:?}");
-        assert!(rt; second_reading(bytes) == Err(*error), "at {bytes:?}");
+        assert!(rt; end_of_tags(bytes, 0) == Err(*error), "at {bytes:?}");
     }
 }
 

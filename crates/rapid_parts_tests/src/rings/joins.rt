@@ -1,8 +1,8 @@
 // Each case of the tables of a join, and the first one if two hold at once.
 
-use crate::numbered::{Name, THREE, at, founded, process};
+use crate::numbered::{Name, THREE, at, founded, process, tagged};
 use crate::rings::rings::{FIVE, TWO};
-use rapid_config::{ConfigError, ConfigId, Configuration};
+use rapid_config::{ConfigError, ConfigId, Configuration, Params};
 use rapid_endpoint::{Endpoint, Process};
 use rapid_join::{Host, HostAnswer, JoinRequest, Joiner, JoinerAnswer, Reply, RingObservers};
 use std::alloc::{AllocError, Global};
@@ -324,6 +324,80 @@ fn those_who_waited_are_answered_once(rt: HostRuntime) -> Result<(), Fail> {
     runs(rt.alloc(), &ONE, (1, 1), &WAITING)
 }
 
+/// The configuration of one founder.
+fn founded_by(alloc: Global, founder: Process) -> Result<Configuration, ConfigError> {
+    Configuration::seed(alloc, Params::new(3, 3, 1)?, &[founder])
+}
+
+/// Whether the host that is this process, alone in its configuration, confirms it to itself, and
+/// refuses another process with its identifier and its endpoint, whatever that asks.
+fn refuses_other(alloc: Global, me: Process, joiner: Process) -> Result<bool, ConfigError> {
+    let configuration = founded_by(alloc, me)?;
+    let mut host = Host::new(alloc, &configuration, &me)?;
+    let (own, other) = (configuration.id(), ConfigId::zero());
+    Ok(
+        number(&host.pre_join(&me)?) == 5
+            && number(&host.pre_join(&joiner)?) == 2
+            && number(&host.join_request(&joiner, other, 0)?) == 3
+            && number(&host.join_request(&joiner, own, 0)?) == 2
+            && number(&host.join_request(&joiner, own, 3)?) == 2,
+    )
+}
+
+#[test]
+fn a_member_with_other_tags_finds_its_endpoint_in_use(rt: HostRuntime) -> Result<(), Fail> {
+    let (bare, one, two) = (
+        process(1),
+        tagged(1, &[b"db"])?,
+        tagged(1, &[b"db", b"web"])?,
+    );
+    for (member, joiner) in [(bare, one), (one, bare), (one, two), (two, one)] {
+        assert!(rt;
+            refuses_other(rt.alloc(), member, joiner)?,
+            "at {member:?} and {joiner:?}"
+        );
+    }
+    Ok(())
+}
+
+/// Whether these are answers to two processes, with these numbers.
+fn are_two(answers: &[(Process, HostAnswer)], expected: &[(Process, u8)]) -> bool {
+    for ((to, answer), (process, code)) in answers.iter().zip(expected) {
+        if to != process || number(answer) != *code {
+            return false;
+        }
+    }
+    answers.len() == 2 && expected.len() == 2
+}
+
+/// Whether two joiners of the host that is process 1 make it raise, and get these answers at a
+/// change.
+fn wait(
+    alloc: Global,
+    expected: &[(Process, u8)],
+    next: &Configuration,
+) -> Result<bool, ConfigError> {
+    let configuration = founded_by(alloc, process(1))?;
+    let mut host = Host::new(alloc, &configuration, &process(1))?;
+    for (joiner, _) in expected {
+        if number(&host.join_request(joiner, configuration.id(), 0)?) != 6 {
+            return Ok(false);
+        }
+    }
+    Ok(are_two(host.confirms(next)?.as_slice(), expected))
+}
+
+#[test]
+fn joiners_that_differ_in_tags_alone_are_two(rt: HostRuntime) -> Result<(), Fail> {
+    let (bare, other) = (process(2), tagged(2, &[b"db"])?);
+    let params = Params::new(3, 3, 1)?;
+    let next = Configuration::seed(rt.alloc(), params, &[process(1), other])?;
+    assert!(rt; wait(rt.alloc(), &[(bare, 3), (other, 5)], &next)?);
+    let next = Configuration::seed(rt.alloc(), params, &[process(1), bare])?;
+    assert!(rt; wait(rt.alloc(), &[(bare, 5), (other, 3)], &next)?);
+    Ok(())
+}
+
 // The observers were computed by Python's hashlib, from the rule that none is between.
 
 const OBSERVERS: [Call; 1] = [Call::Observers([4, 1, 3])];
@@ -394,6 +468,14 @@ fn all_begin_anew(alloc: Global, replies: &[(u16, u16, Reply, bool)]) -> Result<
 #[test]
 fn other_replies(rt: HostRuntime) -> Result<(), Fail> {
     all_begin_anew(rt.alloc(), &REPLIES)
+}
+
+#[test]
+fn a_reply_to_other_tags_is_for_another(rt: HostRuntime) -> Result<(), Fail> {
+    let reply = Reply::ConfigurationChanged;
+    assert!(rt; begins_anew(rt.alloc(), &tagged(6, &[])?, &reply)?);
+    assert!(rt; !begins_anew(rt.alloc(), &tagged(6, &[b"db"])?, &reply)?);
+    Ok(())
 }
 
 /// Whether a copy of observers has the same, and makes a reply with the number of `Safe`.

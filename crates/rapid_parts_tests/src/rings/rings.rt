@@ -1,8 +1,8 @@
 // The rings of configurations.
 
-use crate::numbered::{Marks, Name, THREE, founded, is_numbered, process};
-use rapid_config::{ConfigError, Configuration};
-use rapid_endpoint::Process;
+use crate::numbered::{Marks, Name, THREE, founded, is_numbered, process, tagged};
+use rapid_config::{ConfigError, Configuration, Params};
+use rapid_endpoint::{ParseError, Process};
 use rapid_rings::{ObserverTable, Rings};
 use std::alloc::{AllocError, Global};
 use std::test::Fail;
@@ -239,6 +239,96 @@ const OF_FIVE: [Edge; 24] = [
 #[test]
 fn five_members_and_joiners_have_their_observers(rt: HostRuntime) -> Result<(), Fail> {
     runs(rt.alloc(), THREE, &FIVE, &[Call::Edges(&OF_FIVE)])
+}
+
+/// The five members, of whom two have tags.
+fn five_with_tags() -> Result<[Process; 5], ParseError> {
+    Ok([
+        process(1),
+        tagged(2, &[b"db", b"web"])?,
+        process(3),
+        tagged(4, &[b"db"])?,
+        process(5),
+    ])
+}
+
+/// The one of these members with this number, or the process without tags if there is none.
+fn numbered_among(members: &[Process], number: u16) -> Process {
+    match members
+        .iter()
+        .find(|it| it.has_same_identifier(&process(number)))
+    {
+        Some(member) => *member,
+        None => process(number),
+    }
+}
+
+/// Whether each one observes the other on the ring, with the tags that they have among these.
+fn are_edges_among(rings: &Rings, members: &[Process], edges: &[Edge]) -> bool {
+    for (ring, observer, subject) in edges {
+        let found = rings.observer(*ring, &numbered_among(members, *subject));
+        if found != Some(numbered_among(members, *observer)) {
+            return false;
+        }
+    }
+    true
+}
+
+/// The keys are hashed of identifier and endpoint alone.
+#[test]
+fn tags_do_not_change_who_observes_whom(rt: HostRuntime) -> Result<(), Fail> {
+    let members = five_with_tags()?;
+    let configuration = Configuration::seed(rt.alloc(), Params::new(3, 3, 1)?, &members)?;
+    let rings = Rings::new(rt.alloc(), &configuration)?;
+    assert!(rt; are_edges_among(&rings, &members, &OF_FIVE));
+    Ok(())
+}
+
+/// Whether processes have the same observer on each of three rings.
+fn share_observers(rings: &Rings, one: &Process, other: &Process) -> bool {
+    for ring in 0..3 {
+        if rings.observer(ring, one) != rings.observer(ring, other) {
+            return false;
+        }
+    }
+    true
+}
+
+#[test]
+fn a_joiner_has_the_same_observers_whatever_its_tags(rt: HostRuntime) -> Result<(), Fail> {
+    let rings = rings_of(rt.alloc(), THREE, &FIVE)?;
+    for tags in [
+        &[b"db".as_slice()].as_slice(),
+        &[b"db".as_slice(), b"web"].as_slice(),
+    ] {
+        assert!(rt; share_observers(&rings, &process(6), &tagged(6, tags)?));
+    }
+    Ok(())
+}
+
+/// Whether a process observes another on each of three rings.
+fn is_observed_by(rings: &Rings, subject: &Process, observer: &Process) -> bool {
+    for ring in 0..3 {
+        if rings.observer(ring, subject) != Some(*observer) {
+            return false;
+        }
+    }
+    true
+}
+
+/// A process with the key of a member stands next to it: before it, and so below the member's own
+/// observer, or behind it.
+#[test]
+fn equal_keys_go_by_tags(rt: HostRuntime) -> Result<(), Fail> {
+    let members = five_with_tags()?;
+    let configuration = Configuration::seed(rt.alloc(), Params::new(3, 3, 1)?, &members)?;
+    let rings = Rings::new(rt.alloc(), &configuration)?;
+    let member = tagged(4, &[b"db"])?;
+    assert!(rt; share_observers(&rings, &member, &tagged(4, &[])?));
+    assert!(rt; share_observers(&rings, &member, &tagged(4, &[b"aa"])?));
+    assert!(rt; is_observed_by(&rings, &tagged(4, &[b"web"])?, &member));
+    assert!(rt; is_observed_by(&rings, &tagged(4, &[b"a", b"b"])?, &member));
+    Ok(())
 }
 
 const SUBJECTS: [Call; 2] = [

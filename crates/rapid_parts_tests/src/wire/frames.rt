@@ -1,6 +1,6 @@
 // Worked frames, and what is refused.
 
-use crate::numbered::process;
+use crate::numbered::{process, tagged};
 use rapid_config::{ConfigId, Configuration};
 use rapid_join::Reply;
 use rapid_message::{Body, Message};
@@ -9,28 +9,53 @@ use std::alloc::{AllocError, Global};
 use std::test::Fail;
 
 /// The frame in which the process with the number 2 asks to join.
-const PRE_JOIN: [u8; 28] = [
+const PRE_JOIN: [u8; 29] = [
+    0, 0, 0, 0x19, 2, 8, 0, 0, 0, 0, 0, 0, 0, 0, 0, 0, 0, 0, 0, 0, 0, 2, 0x7f, 0, 0, 1, 0, 2, 0,
+];
+
+/// The frame in which the process with the number 2 and the tag `db` asks to join.
+const PRE_JOIN_TAGGED: [u8; 32] = [
+    0, 0, 0, 0x1c, 2, 8, 0, 0, 0, 0, 0, 0, 0, 0, 0, 0, 0, 0, 0, 0, 0, 2, 0x7f, 0, 0, 1, 0, 2, 1, 2,
+    0x64, 0x62,
+];
+
+/// The frame of the first version in which the process with the number 2 asks to join.
+const OLD_PRE_JOIN: [u8; 28] = [
     0, 0, 0, 0x18, 1, 8, 0, 0, 0, 0, 0, 0, 0, 0, 0, 0, 0, 0, 0, 0, 0, 2, 0x7f, 0, 0, 1, 0, 2,
 ];
 
 /// The processes with the numbers 1, 2 and 3: the identifier n, and the endpoint 127.0.0.1:n.
-const ONE: [u8; 22] = [
-    0, 0, 0, 0, 0, 0, 0, 0, 0, 0, 0, 0, 0, 0, 0, 1, 0x7f, 0, 0, 1, 0, 1,
+const ONE: [u8; 23] = [
+    0, 0, 0, 0, 0, 0, 0, 0, 0, 0, 0, 0, 0, 0, 0, 1, 0x7f, 0, 0, 1, 0, 1, 0,
 ];
 
-const TWO: [u8; 22] = [
+const TWO: [u8; 23] = [
+    0, 0, 0, 0, 0, 0, 0, 0, 0, 0, 0, 0, 0, 0, 0, 2, 0x7f, 0, 0, 1, 0, 2, 0,
+];
+
+const THREE: [u8; 23] = [
+    0, 0, 0, 0, 0, 0, 0, 0, 0, 0, 0, 0, 0, 0, 0, 3, 0x7f, 0, 0, 1, 0, 3, 0,
+];
+
+/// The process with the number 2 without its tags, with the tag `db`, and with `db` and `web`.
+const KEY: [u8; 22] = [
     0, 0, 0, 0, 0, 0, 0, 0, 0, 0, 0, 0, 0, 0, 0, 2, 0x7f, 0, 0, 1, 0, 2,
 ];
 
-const THREE: [u8; 22] = [
-    0, 0, 0, 0, 0, 0, 0, 0, 0, 0, 0, 0, 0, 0, 0, 3, 0x7f, 0, 0, 1, 0, 3,
+const DB: [u8; 26] = [
+    0, 0, 0, 0, 0, 0, 0, 0, 0, 0, 0, 0, 0, 0, 0, 2, 0x7f, 0, 0, 1, 0, 2, 1, 2, b'd', b'b',
+];
+
+const DB_WEB: [u8; 30] = [
+    0, 0, 0, 0, 0, 0, 0, 0, 0, 0, 0, 0, 0, 0, 0, 2, 0x7f, 0, 0, 1, 0, 2, 2, 2, b'd', b'b', 3, b'w',
+    b'e', b'b',
 ];
 
 /// The frame in which the process with the number 1 tells the process with the number 2 that its
 /// endpoint is in use.
-const IN_USE: [u8; 51] = [
-    0, 0, 0, 0x2f, 1, 9, 0, 0, 0, 0, 0, 0, 0, 0, 0, 0, 0, 0, 0, 0, 0, 1, 0x7f, 0, 0, 1, 0, 1, 0, 0,
-    0, 0, 0, 0, 0, 0, 0, 0, 0, 0, 0, 0, 0, 2, 0x7f, 0, 0, 1, 0, 2, 2,
+const IN_USE: [u8; 53] = [
+    0, 0, 0, 0x31, 2, 9, 0, 0, 0, 0, 0, 0, 0, 0, 0, 0, 0, 0, 0, 0, 0, 1, 0x7f, 0, 0, 1, 0, 1, 0, 0,
+    0, 0, 0, 0, 0, 0, 0, 0, 0, 0, 0, 0, 0, 0, 2, 0x7f, 0, 0, 1, 0, 2, 0, 2,
 ];
 
 /// The identifier of a configuration.
@@ -39,7 +64,7 @@ const ID: [u8; 32] = [7; 32];
 /// The bytes of a configuration in front of its members, with the parameters 3, 3 and 1, at height
 /// 0.
 const HEAD: [u8; 47] = [
-    0x52, 0x50, 0x43, 0x31, 0, 0, 0, 0, 0, 0, 0, 0, 0, 0, 0, 0, 0, 0, 0, 0, 0, 0, 0, 0, 0, 0, 0, 0,
+    0x52, 0x50, 0x43, 0x32, 0, 0, 0, 0, 0, 0, 0, 0, 0, 0, 0, 0, 0, 0, 0, 0, 0, 0, 0, 0, 0, 0, 0, 0,
     0, 0, 0, 0, 0, 0, 0, 0, 0, 0, 0, 0, 0, 0, 0, 0, 3, 3, 1,
 ];
 
@@ -52,12 +77,12 @@ fn append(bytes: &mut Vec<u8>, pieces: &[&[u8]]) -> Result<(), AllocError> {
 }
 
 /// A kind, and the parts of a body.
-type Parts<'a> = (u8, &'a [&'a [u8]]);
+pub type Parts<'a> = (u8, &'a [&'a [u8]]);
 
-/// The frame of a body from the process with the number 1.
-fn frame(alloc: Global, (kind, parts): &Parts) -> Result<Vec<u8>, Fail> {
+/// The frame of a body from a sender.
+pub fn frame_from(alloc: Global, sender: &[u8], (kind, parts): &Parts) -> Result<Vec<u8>, Fail> {
     let mut payload = Vec::new(alloc);
-    append(&mut payload, &[&[1, *kind], &ONE])?;
+    append(&mut payload, &[&[2, *kind], sender])?;
     append(&mut payload, parts)?;
     let length = u32::try_from(payload.len())?.to_be_bytes();
     let mut frame = Vec::new(alloc);
@@ -65,9 +90,14 @@ fn frame(alloc: Global, (kind, parts): &Parts) -> Result<Vec<u8>, Fail> {
     Ok(frame)
 }
 
+/// The frame of a body from the process with the number 1.
+fn frame(alloc: Global, body: &Parts) -> Result<Vec<u8>, Fail> {
+    frame_from(alloc, &ONE, body)
+}
+
 /// Whether the process with the number 2 asks to join.
 fn asks_to_join(message: &Message) -> bool {
-    message.sender() == process(2) && matches!(message.body(), Body::PreJoin)
+    *message.sender() == process(2) && matches!(message.body(), Body::PreJoin)
 }
 
 /// Whether the process with the number 1 tells the process with the number 2 that its endpoint is
@@ -75,20 +105,20 @@ fn asks_to_join(message: &Message) -> bool {
 fn tells_in_use(message: &Message) -> bool {
     match message.body() {
         Body::Reply(joiner, Reply::EndpointInUse) => {
-            message.sender() == process(1) && *joiner == process(2)
+            *message.sender() == process(1) && *joiner == process(2)
         }
         _ => false,
     }
 }
 
 /// The next message of a stream after a piece.
-fn fed(feed: &mut Feed, piece: &[u8]) -> Result<Option<Message>, WireFault> {
+pub fn fed(feed: &mut Feed, piece: &[u8]) -> Result<Option<Message>, WireFault> {
     feed.feed(piece)?;
     feed.next()
 }
 
 /// Whether a message is written as this frame.
-fn writes(alloc: Global, message: &Message, frame: &[u8]) -> Result<bool, AllocError> {
+pub fn writes(alloc: Global, message: &Message, frame: &[u8]) -> Result<bool, AllocError> {
     let written = encode(alloc, message)?;
     Ok(written.as_slice() == frame)
 }
@@ -140,7 +170,7 @@ fn goes_out_and_back(alloc: Global, body: &Parts) -> Result<bool, Fail> {
 
 const BALLOT: &[u8] = &[2, 0, 5];
 
-const GOOD: [Parts; 21] = [
+const GOOD: [Parts; 28] = [
     (1, &[&ID, &[0, 1], &[3, 1], &TWO]),
     (1, &[&ID, &[0, 2], &[255, 2], &TWO, &[0, 1], &TWO]),
     (2, &[&ID, &[0, 2], &TWO, &THREE]),
@@ -162,6 +192,14 @@ const GOOD: [Parts; 21] = [
     (12, &[&ID]),
     (13, &[&ID]),
     (14, &[&ID, &[255]]),
+    // tags
+    (1, &[&ID, &[0, 2], &[3, 1], &DB_WEB, &[3, 1], &DB]),
+    (2, &[&ID, &[0, 3], &TWO, &DB, &DB_WEB]),
+    (4, &[&ID, BALLOT, &[1, 1, 0, 0], &[0, 2], &DB_WEB, &THREE]),
+    (7, &[&ID, &[0, 1], &KEY, b"\x02\x02aa\x01b"]),
+    (9, &[&DB, &[2]]),
+    (9, &[&DB_WEB, &[1], &ID, &[2], &DB, &ONE]),
+    (11, &[&HEAD, &[0, 3], &ONE, &DB, &THREE]),
 ];
 
 #[test]
@@ -204,7 +242,7 @@ fn is_bad(alloc: Global, body: &Parts) -> Result<bool, Fail> {
     Ok(fault(alloc, &bytes) == Some(WireFault::BadBody))
 }
 
-const BAD: [Parts; 22] = [
+const BAD: [Parts; 35] = [
     (1, &[&ID, &[0, 0]]),
     (1, &[&ID, &[0, 1], &[3, 3], &TWO]),
     (1, &[&ID, &[0, 2], &[3, 1], &TWO]),
@@ -227,6 +265,22 @@ const BAD: [Parts; 22] = [
     (13, &[]),
     (14, &[&ID]),
     (14, &[&ID, &[0, 0]]),
+    // a process of the first version
+    (2, &[&ID, &[0, 1], &KEY]),
+    (9, &[&KEY, &[2]]),
+    // wrong tags, wherever a process stands
+    (1, &[&ID, &[0, 1], &[3, 1], &KEY, &[9]]),
+    (2, &[&ID, &[0, 1], &KEY, &[1, 0]]),
+    (4, &[&ID, BALLOT, &[1, 1, 0, 0], &[0, 1], &KEY, &[1, 65]]),
+    (5, &[&ID, BALLOT, &[0, 1], &KEY, b"\x01\x03a,b"]),
+    (6, &[&ID, BALLOT, &[0, 1], &KEY, b"\x01\x03a b"]),
+    (7, &[&ID, &[0, 1], &KEY, b"\x02\x03web\x02db"]),
+    (7, &[&ID, &[0, 1], &KEY, b"\x02\x01b\x02aa"]),
+    (9, &[&KEY, b"\x02\x02db\x02db", &[2]]),
+    (9, &[&TWO, &[1], &ID, &[1], &KEY, b"\x01\x01["]),
+    (11, &[&HEAD, &[0, 1], &KEY, b"\x01\x01]"]),
+    // a cut with two processes that differ in tags alone, in the other order
+    (2, &[&ID, &[0, 2], &DB, &TWO]),
 ];
 
 #[test]
@@ -250,22 +304,49 @@ fn is_fault_at_end(alloc: Global, bytes: &[u8], fault: WireFault) -> bool {
     false
 }
 
-const FAULTS: [(&[u8], WireFault); 9] = [
+const FAULTS: [(&[u8], WireFault); 15] = [
     (&[0, 0, 0, 0], WireFault::BadBody),
-    (&[0, 0, 0, 1, 1], WireFault::BadBody),
-    (&[0, 0, 0, 2, 2, 8], WireFault::BadVersion),
-    (&[0, 0, 0, 2, 1, 0xff], WireFault::BadKind),
-    (&[0, 0, 0, 2, 1, 0], WireFault::BadKind),
-    (&[0, 0, 0, 2, 1, 15], WireFault::BadKind),
-    (&[0, 0, 0, 2, 1, 8], WireFault::BadBody),
+    (&[0, 0, 0, 1, 2], WireFault::BadBody),
+    (&[0, 0, 0, 2, 1, 8], WireFault::BadVersion),
+    (&[0, 0, 0, 2, 3, 8], WireFault::BadVersion),
+    (&[0, 0, 0, 2, 1, 0xff], WireFault::BadVersion),
+    (&[0, 0, 0, 2, 2, 0xff], WireFault::BadKind),
+    (&[0, 0, 0, 2, 2, 0], WireFault::BadKind),
+    (&[0, 0, 0, 2, 2, 15], WireFault::BadKind),
+    (&[0, 0, 0, 2, 2, 8], WireFault::BadBody),
+    // a byte more than a question to join, and one less: a process of the first version
     (
         &[
-            0, 0, 0, 0x19, 1, 8, 0, 0, 0, 0, 0, 0, 0, 0, 0, 0, 0, 0, 0, 0, 0, 2, 0x7f, 0, 0, 1, 0,
-            2, 0,
+            0, 0, 0, 0x1a, 2, 8, 0, 0, 0, 0, 0, 0, 0, 0, 0, 0, 0, 0, 0, 0, 0, 2, 0x7f, 0, 0, 1, 0,
+            2, 0, 0,
         ],
         WireFault::BadBody,
     ),
-    (&[0, 1, 0, 1], WireFault::TooLong),
+    (
+        &[
+            0, 0, 0, 0x18, 2, 8, 0, 0, 0, 0, 0, 0, 0, 0, 0, 0, 0, 0, 0, 0, 0, 2, 0x7f, 0, 0, 1, 0,
+            2,
+        ],
+        WireFault::BadBody,
+    ),
+    // nine tags of the sender, and a tag that is a comma
+    (
+        &[
+            0, 0, 0, 0x19, 2, 8, 0, 0, 0, 0, 0, 0, 0, 0, 0, 0, 0, 0, 0, 0, 0, 2, 0x7f, 0, 0, 1, 0,
+            2, 9,
+        ],
+        WireFault::BadBody,
+    ),
+    (
+        &[
+            0, 0, 0, 0x1b, 2, 8, 0, 0, 0, 0, 0, 0, 0, 0, 0, 0, 0, 0, 0, 0, 0, 2, 0x7f, 0, 0, 1, 0,
+            2, 1, 1, b',',
+        ],
+        WireFault::BadBody,
+    ),
+    // the first version
+    (&OLD_PRE_JOIN, WireFault::BadVersion),
+    (&[0, 0x20, 0, 1], WireFault::TooLong),
 ];
 
 #[test]
@@ -318,6 +399,8 @@ fn worked_messages_are_written(rt: HostRuntime) -> Result<(), Fail> {
     assert!(rt; writes(rt.alloc(), &question, &PRE_JOIN)?);
     let answer = Message::new(process(1), Body::Reply(process(2), Reply::EndpointInUse))?;
     assert!(rt; writes(rt.alloc(), &answer, &IN_USE)?);
+    let tagged = Message::new(tagged(2, &[b"db"])?, Body::PreJoin)?;
+    assert!(rt; writes(rt.alloc(), &tagged, &PRE_JOIN_TAGGED)?);
     let leave = Message::new(process(1), Body::Leave(ConfigId::new(ID), 5))?;
     let frame = frame(rt.alloc(), &(14, &[&ID, &[5]]))?;
     assert!(rt; writes(rt.alloc(), &leave, &frame)?);
@@ -329,6 +412,22 @@ fn a_message_of_what_a_sender_can_say_is_written_too(rt: HostRuntime) -> Result<
     let answer = Message::of(process(1), Body::Reply(process(2), Reply::EndpointInUse));
     assert!(rt; tells_in_use(&answer));
     assert!(rt; writes(rt.alloc(), &answer, &IN_USE)?);
+    Ok(())
+}
+
+/// Whether the process with the number 2 and the tag `db` asks to join in this frame.
+fn asks_with_its_tag(feed: &mut Feed, frame: &[u8]) -> Result<bool, Fail> {
+    match fed(feed, frame)? {
+        Some(message) => Ok(
+            *message.sender() == tagged(2, &[b"db"])? && matches!(message.body(), Body::PreJoin),
+        ),
+        None => Ok(false),
+    }
+}
+
+#[test]
+fn a_question_to_join_comes_with_its_tags(rt: HostRuntime) -> Result<(), Fail> {
+    assert!(rt; asks_with_its_tag(&mut Feed::new(rt.alloc()), &PRE_JOIN_TAGGED)?);
     Ok(())
 }
 

@@ -5,7 +5,8 @@ use rapid_wire::{Feed, WireFault, encode};
 use std::alloc::{AllocError, Global};
 use std::test::Fail;
 
-/// The bytes of the process with this number: its identifier in 16 bytes, and its port of 127.0.0.1.
+/// The bytes of the process with this number, without its tags: its identifier in 16 bytes, and its
+/// port of 127.0.0.1.
 fn bytes_of(number: u16) -> [u8; 22] {
     let [high, low] = number.to_be_bytes();
     [
@@ -13,9 +14,22 @@ fn bytes_of(number: u16) -> [u8; 22] {
     ]
 }
 
+/// The bytes of no tags.
+const NONE: &[u8] = &[0];
+
+/// The bytes of the longest tags that a process may have: eight of 64 bytes each.
+fn longest_tags(alloc: Global) -> Result<Vec<u8>, AllocError> {
+    let mut bytes = Vec::from_slice(alloc, &[8])?;
+    for letter in [b'1', b'2', b'3', b'4', b'5', b'6', b'7', b'8'] {
+        bytes.push(64)?;
+        bytes.extend_from_slice(&[letter; 64])?;
+    }
+    Ok(bytes)
+}
+
 /// The process with the number 2.
-const TWO: [u8; 22] = [
-    0, 0, 0, 0, 0, 0, 0, 0, 0, 0, 0, 0, 0, 0, 0, 2, 0x7f, 0, 0, 1, 0, 2,
+const TWO: [u8; 23] = [
+    0, 0, 0, 0, 0, 0, 0, 0, 0, 0, 0, 0, 0, 0, 0, 2, 0x7f, 0, 0, 1, 0, 2, 0,
 ];
 
 /// The identifier of a configuration.
@@ -24,7 +38,7 @@ const ID: [u8; 32] = [7; 32];
 /// The bytes of a configuration in front of its members, with the parameters 3, 3 and 1, at height
 /// 0.
 const HEAD: [u8; 47] = [
-    0x52, 0x50, 0x43, 0x31, 0, 0, 0, 0, 0, 0, 0, 0, 0, 0, 0, 0, 0, 0, 0, 0, 0, 0, 0, 0, 0, 0, 0, 0,
+    0x52, 0x50, 0x43, 0x32, 0, 0, 0, 0, 0, 0, 0, 0, 0, 0, 0, 0, 0, 0, 0, 0, 0, 0, 0, 0, 0, 0, 0, 0,
     0, 0, 0, 0, 0, 0, 0, 0, 0, 0, 0, 0, 0, 0, 0, 0, 3, 3, 1,
 ];
 
@@ -73,30 +87,42 @@ const ROWS: [Row; 18] = [
     (11, &[&HEAD, &[0, 1]], &[], 0, false),
 ];
 
-/// The list of a body: this many processes from number 1 on, with what stands in front of each.
-fn append_list(bytes: &mut Vec<u8>, before: &[u8], many: u16) -> Result<(), AllocError> {
+/// The list of a body: this many processes from number 1 on, with these tags, and with what stands
+/// in front of each.
+fn append_list(
+    bytes: &mut Vec<u8>,
+    before: &[u8],
+    many: u16,
+    tags: &[u8],
+) -> Result<(), AllocError> {
     for number in 0..many {
         bytes.extend_from_slice(before)?;
         bytes.extend_from_slice(&bytes_of(number.wrapping_add(1)))?;
+        bytes.extend_from_slice(tags)?;
     }
     Ok(())
 }
 
-/// The frame of a body from the process with the number 1, without its length.
-fn unmeasured(alloc: Global, (kind, head, before, many, _): &Row) -> Result<Vec<u8>, AllocError> {
+/// The frame of a body from the process with the number 1, without its length. All processes have
+/// these tags, but for one that is no part of a list.
+fn unmeasured(
+    alloc: Global,
+    (kind, head, before, many, _): &Row,
+    tags: &[u8],
+) -> Result<Vec<u8>, AllocError> {
     let mut bytes = Vec::new(alloc);
-    bytes.extend_from_slice(&[1, *kind])?;
-    bytes.extend_from_slice(&bytes_of(1))?;
+    bytes.extend_from_slice(&[2, *kind])?;
+    append_list(&mut bytes, &[], 1, tags)?;
     for part in *head {
         bytes.extend_from_slice(part)?;
     }
-    append_list(&mut bytes, before, *many)?;
+    append_list(&mut bytes, before, *many, tags)?;
     Ok(bytes)
 }
 
-/// The frame of a body from the process with the number 1.
-fn frame(alloc: Global, row: &Row) -> Result<Vec<u8>, Fail> {
-    let rest = unmeasured(alloc, row)?;
+/// The frame of a body from the process with the number 1, with these tags.
+fn frame(alloc: Global, row: &Row, tags: &[u8]) -> Result<Vec<u8>, Fail> {
+    let rest = unmeasured(alloc, row, tags)?;
     let mut frame = Vec::new(alloc);
     frame.extend_from_slice(&u32::try_from(rest.len())?.to_be_bytes())?;
     frame.extend_from_slice(rest.as_slice())?;
@@ -119,10 +145,45 @@ fn is_answered(alloc: Global, frame: &[u8], is_read: bool) -> Result<bool, Alloc
     }
 }
 
+/// Sees that each row is read, or is a fault, as it has to be, if all processes have these tags.
+fn all_are_answered(alloc: Global, tags: &[u8]) -> Result<(), Fail> {
+    for row in &ROWS {
+        let frame = frame(alloc, row, tags)?;
+        if !is_answered(alloc, frame.as_slice(), row.4)? {
+            return Err(Fail::new(format_args!("answered otherwise: {row:?}")));
+        }
+    }
+    Ok(())
+}
+
 #[test]
 fn lists_are_read_up_to_their_limits(rt: HostRuntime) -> Result<(), Fail> {
-    for row in &ROWS {
-        let frame = frame(rt.alloc(), row)?;
+    all_are_answered(rt.alloc(), NONE)
+}
+
+#[test]
+fn lists_of_processes_with_the_longest_tags_are_read_up_to_their_limits(
+    rt: HostRuntime,
+) -> Result<(), Fail> {
+    let tags = longest_tags(rt.alloc())?;
+    assert!(rt; tags.len() == 521);
+    all_are_answered(rt.alloc(), tags.as_slice())
+}
+
+/// Votes whose cut announces more processes than a cut may have. None of them stands there, or as
+/// many as a cut may have, or all.
+const TOO_MANY: [Row; 5] = [
+    (2, &[&ID, &[6, 1]], &[], 0, false),
+    (2, &[&ID, &[6, 1]], &[], 1536, false),
+    (2, &[&ID, &[6, 1]], &[], 1537, false),
+    (2, &[&ID, &[255, 255]], &[], 0, false),
+    (2, &[&ID, &[255, 255]], &[], 65535, false),
+];
+
+#[test]
+fn a_vote_that_announces_more_than_a_cut_has_is_a_bad_body(rt: HostRuntime) -> Result<(), Fail> {
+    for row in &TOO_MANY {
+        let frame = frame(rt.alloc(), row, NONE)?;
         assert!(rt;
             is_answered(rt.alloc(), frame.as_slice(), row.4)?,
             "at {row:?}"
@@ -131,22 +192,39 @@ fn lists_are_read_up_to_their_limits(rt: HostRuntime) -> Result<(), Fail> {
     Ok(())
 }
 
+/// A batch of 2,048 alerts, of processes with the longest tags: 579 bytes, and 545 for each alert.
+#[test]
+fn the_longest_message_has_1116739_bytes(rt: HostRuntime) -> Result<(), Fail> {
+    let [longest, ..] = &ROWS;
+    let tags = longest_tags(rt.alloc())?;
+    let frame = unmeasured(rt.alloc(), longest, tags.as_slice())?;
+    assert!(rt; frame.len() == 1_116_739);
+    Ok(())
+}
+
 /// Whether nothing is answered after a piece.
 fn waits(feed: &mut Feed, piece: &[u8]) -> bool {
     matches!(fed(feed, piece), Ok(None))
 }
 
-/// A length of 65,536 bytes is waited for, to the last of them; one more is a fault by itself.
+/// A length of 2,097,152 bytes is waited for, to the last of them; one more is a fault by itself.
 #[test]
 fn the_longest_frame_is_waited_for(rt: HostRuntime) -> Result<(), Fail> {
     let mut feed = Feed::new(rt.alloc());
-    let rest = vec![in rt.alloc(); 0u8; 65_533]?;
-    assert!(rt; waits(&mut feed, &[0, 1, 0, 0]));
-    assert!(rt; waits(&mut feed, &[1, 8]));
+    let rest = vec![in rt.alloc(); 0u8; 2_097_149]?;
+    assert!(rt; waits(&mut feed, &[0, 0x20, 0, 0]));
+    assert!(rt; waits(&mut feed, &[2, 8]));
     assert!(rt; waits(&mut feed, rest.as_slice()));
     assert!(rt; fed(&mut feed, &[0]).err() == Some(WireFault::BadBody));
     let mut feed = Feed::new(rt.alloc());
-    assert!(rt; waits(&mut feed, &[0, 1, 0]));
+    assert!(rt; waits(&mut feed, &[0, 0x20, 0]));
     assert!(rt; fed(&mut feed, &[1]).err() == Some(WireFault::TooLong));
     Ok(())
+}
+
+/// A frame above the limit of the first version, 65,536 bytes, is waited for.
+#[test]
+fn a_frame_may_be_longer_than_in_the_first_version(rt: HostRuntime) {
+    let mut feed = Feed::new(rt.alloc());
+    assert!(rt; waits(&mut feed, &[0, 1, 0, 1]));
 }

@@ -2,7 +2,7 @@
 
 use rapid_agent::{Agent, Changes, Next, Subscriber};
 use rapid_config::Params;
-use rapid_endpoint::{Endpoint, Process};
+use rapid_endpoint::{Endpoint, Process, Tags};
 use rapid_node::Phase;
 use rapid_options::NodeOptions;
 use std::net::{Net, TcpListener, TcpStream};
@@ -83,6 +83,7 @@ where
     let mut seen = founder.subscribe(4)?;
     let mut own = joiner.subscribe(4)?;
     let (first, second) = (founder.process(), joiner.process());
+    assert!(rt; first.tags().is_empty() && second.tags().get(1) == Some(b"web"));
     assert_next(rt, &mut seen, 1, &[second], &[])?;
     // the joiner knew no view before, so all have joined for it
     assert_next(rt, &mut own, 1, &in_order(first, second), &[])?;
@@ -95,7 +96,7 @@ where
     assert!(rt; joiner.phase() == Phase::Removed);
     assert!(rt; joiner.rejoin(first.endpoint(), rt)?);
     let again = joiner.process();
-    assert!(rt; again.id() != second.id());
+    assert!(rt; again.id() != second.id() && again.tags() == second.tags());
     assert!(rt; matches!(own.next(Duration::ZERO)?, Next::Closed));
     assert_next(rt, &mut seen, 3, &[again], &[])
 }
@@ -121,6 +122,7 @@ fn a_member_is_told_who_joined_and_who_left(rt: HostRuntime) -> Result<(), Fail>
         .params(Params::new(3, 3, 1)?)
         .tick_ms(TICK_MS);
     let joins = NodeOptions::at(at(JOINER))?
+        .tagged(Tags::new(&[b"db", b"web"])?)
         .tick_ms(TICK_MS)
         .join(at(FOUNDER))?;
     let founder = Agent::open(&rt, alloc, &founds, &rt)?;

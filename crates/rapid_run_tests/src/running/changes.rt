@@ -36,6 +36,21 @@ fn assert_changes<R: Abort>(
     Ok(())
 }
 
+/// The view of these processes.
+fn view_of(alloc: Global, members: &[Process; 2]) -> Result<View, Fail> {
+    let configuration = Configuration::seed(alloc, Params::new(3, 3, 1)?, members)?;
+    Ok(View::new(configuration))
+}
+
+#[test]
+fn who_comes_with_other_tags_is_another(rt: HostRuntime) -> Result<(), Fail> {
+    let bare = process(2);
+    let tagged = Process::tagged(bare.id(), bare.endpoint(), &[b"db"])?;
+    let before = view_of(rt.alloc(), &[process(1), bare])?;
+    let after = view_of(rt.alloc(), &[process(1), tagged])?;
+    assert_changes(&rt, rt.alloc(), [&before, &after], &[tagged], &[bare])
+}
+
 #[test]
 fn changes_are_who_joined_and_who_left(rt: HostRuntime) -> Result<(), Fail> {
     let alloc = rt.alloc();

@@ -2,7 +2,7 @@
 
 use crate::running::devices::{Screen, Silence, Wires, cut};
 use rapid_config::Params;
-use rapid_endpoint::{Endpoint, ProcessId};
+use rapid_endpoint::{Endpoint, ProcessId, Tags};
 use rapid_options::NodeOptions;
 use rapid_run::{Streams, run_node};
 use std::alloc::{AllocError, Global};
@@ -27,12 +27,13 @@ const TICK: u16 = 50;
 /// How long is waited after connections were cut: 15 ticks, in milliseconds.
 const AFTER_A_CUT: u64 = 750;
 
-/// A node's place: its port and that of the founder, what it printed, the connections that it
-/// opened, and whether its input is over.
+/// A node's place: its port and that of the founder, its tags, what it printed, the connections that
+/// it opened, and whether its input is over.
 #[derive(Drop)]
 struct Place {
     port: u16,
     seed: u16,
+    tags: Tags,
     params: Params,
     printed: Mutex<Vec<u8>>,
     opened: Mutex<Vec<TcpStream>>,
@@ -46,6 +47,7 @@ fn places(alloc: Global, params: Params, seed: u16, count: u16) -> Result<Vec<Pl
         places.push(Place {
             port: seed.saturating_add(number),
             seed,
+            tags: Tags::none(),
             params,
             printed: Mutex::new(Vec::new(alloc)),
             opened: Mutex::new(Vec::new(alloc)),
@@ -56,12 +58,13 @@ fn places(alloc: Global, params: Params, seed: u16, count: u16) -> Result<Vec<Pl
 }
 
 /// What a node at this port is asked for: it founds a cluster if it is the seed.
-fn options(port: u16, seed: u16, params: Params) -> NodeOptions {
+fn options(port: u16, seed: u16, tags: Tags, params: Params) -> NodeOptions {
     let [high, low] = port.to_be_bytes();
     let id = [0, 0, 0, 0, 0, 0, 0, 0, 0, 0, 0, 0, 0, 0, high, low];
     NodeOptions {
         listen: Endpoint::new([127, 0, 0, 1], port),
         id: Some(ProcessId::new(id)),
+        tags,
         join: if port == seed {
             None
         } else {
@@ -96,7 +99,7 @@ where
         rt,
         opened: &place.opened,
     };
-    let asked = options(place.port, place.seed, place.params);
+    let asked = options(place.port, place.seed, place.tags, place.params);
     let mut told = Vec::new(alloc);
     let streams = Streams {
         reader: &mut reader,
@@ -287,6 +290,21 @@ fn two_nodes_come_to_one_view(rt: HostRuntime) -> Result<(), Fail> {
     let places = places(rt.alloc(), Params::new(3, 3, 1)?, 7_411, 2)?;
     let places = places.as_slice().split_at(2.min(places.len()));
     cluster(&rt, rt.alloc(), places, (BOTH, BOTH), false)?;
+    Ok(())
+}
+
+/// What two nodes print that are both in, and have tags.
+const BOTH_TAGGED: &[u8] = b"height 1 members 127.0.0.1:7417[!] 127.0.0.1:7418[db,web]\n";
+
+#[test]
+fn two_nodes_show_their_tags_to_each_other(rt: HostRuntime) -> Result<(), Fail> {
+    let mut places = places(rt.alloc(), Params::new(3, 3, 1)?, 7_417, 2)?;
+    let tags = [Tags::new(&[b"!"])?, Tags::new(&[b"db", b"web"])?];
+    for (place, tags) in places.iter_mut().zip(&tags) {
+        place.tags = *tags;
+    }
+    let places = places.as_slice().split_at(2.min(places.len()));
+    cluster(&rt, rt.alloc(), places, (BOTH_TAGGED, BOTH_TAGGED), false)?;
     Ok(())
 }
 

@@ -2,7 +2,7 @@
 
 use crate::running::devices::{Cue, Screen};
 use rapid_config::Params;
-use rapid_endpoint::{Endpoint, ProcessId};
+use rapid_endpoint::{Endpoint, ProcessId, Tags};
 use rapid_options::NodeOptions;
 use rapid_run::{Streams, run_node};
 use std::alloc::Global;
@@ -50,6 +50,7 @@ fn options(port: u16, params: Params) -> NodeOptions {
     NodeOptions {
         listen: Endpoint::new([127, 0, 0, 1], port),
         id: Some(ProcessId::new(id)),
+        tags: Tags::none(),
         join: if port == STAYS {
             None
         } else {

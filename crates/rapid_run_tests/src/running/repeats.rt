@@ -124,6 +124,24 @@ fn requests_are_taken_once_and_questions_each_tenth_tick(rt: HostRuntime) -> Res
     Ok(())
 }
 
+#[test]
+fn joiners_that_differ_in_tags_are_no_repeats(rt: HostRuntime) -> Result<(), Fail> {
+    let configuration = three(rt.alloc())?;
+    let here = configuration.id();
+    let mut repeats = Repeats::new(rt.alloc(), &configuration)?;
+    let bare = process(7);
+    let tagged = Process::tagged(bare.id(), bare.endpoint(), &[b"db"])?;
+    for joiner in [bare, tagged] {
+        for is_taken in [true, false] {
+            let question = Message::new(joiner, Body::PreJoin)?;
+            assert_eq!(rt; repeats.admits(&question), is_taken, "at {joiner:?}");
+            let request = Message::new(joiner, Body::JoinRequest(here, 0))?;
+            assert_eq!(rt; repeats.admits(&request), is_taken, "at {joiner:?}");
+        }
+    }
+    Ok(())
+}
+
 /// The question of the joiner of this number.
 fn question_of(number: u16) -> Result<Message, Fail> {
     let [high, low] = number.to_be_bytes();

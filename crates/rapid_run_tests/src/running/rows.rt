@@ -2,7 +2,7 @@
 
 use crate::running::devices::{Broken, Murmur, Screen};
 use rapid_config::Params;
-use rapid_endpoint::{Endpoint, ProcessId};
+use rapid_endpoint::{Endpoint, ProcessId, Tags};
 use rapid_options::NodeOptions;
 use rapid_run::{Streams, run_node};
 use rapid_service::RunningFault;
@@ -44,6 +44,30 @@ where
     O: Write + Send,
     E: Write + Send,
 {
+    ran_with(rt, alloc, at, Tags::none(), reader, writer, err)
+}
+
+/// Runs a node with these tags: it founds a cluster, or joins one by its seed.
+fn ran_with<R, I, O, E>(
+    rt: &R,
+    alloc: Global,
+    at: At,
+    tags: Tags,
+    reader: &mut I,
+    writer: &mut O,
+    err: &mut E,
+) -> Result<(), RunningFault>
+where
+    R: Net<Listener = TcpListener, Stream = TcpStream>
+        + Threads
+        + Wait
+        + Clock
+        + RandomSource
+        + Sync,
+    I: Read + Send,
+    O: Write + Send,
+    E: Write + Send,
+{
     let Ok(params) = Params::new(10, 9, 3) else {
         return Err(RunningFault::Halted);
     };
@@ -51,6 +75,7 @@ where
     let asked = NodeOptions {
         listen: Endpoint::new([127, 0, 0, 1], at.port),
         id: Some(ProcessId::new(id)),
+        tags,
         join: at.seed.map(|port| Endpoint::new([127, 0, 0, 1], port)),
         params,
         tick_ms: 0,
@@ -83,6 +108,31 @@ fn a_founder_prints_its_view(rt: HostRuntime) -> Result<(), Fail> {
     assert_eq!(rt;
         printed.as_slice(),
         b"height 0 members 127.0.0.1:7401\nheight 0 members 127.0.0.1:7401\n".as_slice()
+    );
+    assert!(rt; err.is_empty());
+    Ok(())
+}
+
+#[test]
+fn a_founder_prints_its_tags(rt: HostRuntime) -> Result<(), Fail> {
+    let mut input = b"view\nquit\n".as_slice();
+    let mut printed = Vec::new(rt.alloc());
+    let mut err = Vec::new(rt.alloc());
+    ran_with(
+        &rt,
+        rt.alloc(),
+        At {
+            port: 7_416,
+            seed: None,
+        },
+        Tags::new(&[b"db", b"web"])?,
+        &mut input,
+        &mut printed,
+        &mut err,
+    )?;
+    assert_eq!(rt;
+        printed.as_slice(),
+        b"height 0 members 127.0.0.1:7416[db,web]\nheight 0 members 127.0.0.1:7416[db,web]\n".as_slice()
     );
     assert!(rt; err.is_empty());
     Ok(())

@@ -91,6 +91,81 @@ fn prints_the_worked_outputs(rt: HostRuntime) -> Result<(), Fail> {
     Ok(())
 }
 
+/// Tags stand where a member is printed, and not where a node is.
+#[test]
+fn prints_tags_with_members(rt: HostRuntime) -> Result<(), Fail> {
+    let rows = [
+        (
+            "params 3 3 1 / found 1 / start 2 2 1 web db / start 2 2 1 db web / tick 2 / flow / \
+             tick 1 / flow",
+            "node 1 height 0 members 1 / refused TagsNotSorted / \
+             node 1 height 1 members 1 2[db,web] / node 2 height 1 members 1 2[db,web]",
+        ),
+        (
+            "params 3 3 1 / found 1 / start 2 2 1  db  / tick 2 / flow / tick 1 / flow / \
+             packets / leave 2 / flow / tick 1 / flow",
+            "node 1 height 0 members 1 / node 1 height 1 members 1 2[db] / \
+             node 2 height 1 members 1 2[db] / packets 6 / node 2 removed at height 2 / \
+             node 1 height 2 members 1",
+        ),
+        (
+            // a member is lost by its number, whatever its tags: one batch, and one vote
+            "params 3 3 1 / found 1 / start 2 2 1 db / tick 2 / flow / tick 1 / flow / crash 2 / \
+             lose 2 / tick 1 / packets",
+            "node 1 height 0 members 1 / node 1 height 1 members 1 2[db] / \
+             node 2 height 1 members 1 2[db] / packets 8",
+        ),
+    ];
+    for (lines, wanted) in rows {
+        assert!(rt; prints(rt.alloc(), lines, wanted)?, "at {lines}");
+    }
+    Ok(())
+}
+
+/// A line that is none comes first, then that nothing was founded, then the tags, and then what the
+/// world refuses.
+#[test]
+fn refuses_tags_by_their_rules(rt: HostRuntime) -> Result<(), Fail> {
+    let rows = [
+        (
+            "start 2 2 1 web db / params 3 3 1 / start 2 2 1 web db / start 2 2 x web db / found 1",
+            "refused NoParams / refused NoParams / refused BadLine / node 1 height 0 members 1",
+        ),
+        (
+            // the number and the endpoint are in use
+            "params 3 3 1 / found 1 / start 1 1 1 web db / start 1 1 1 db web / \
+             start 2 1 1 a,b / start 2 1 1 ab",
+            "node 1 height 0 members 1 / refused TagsNotSorted / refused IdentifierUsed / \
+             refused BadTag / refused EndpointBusy",
+        ),
+        (
+            "params 3 3 1 / found 1 / start 2 2 / start 0 2 1 web db / start 2 65536 1 web db / \
+             start 2 2 01 web db",
+            "node 1 height 0 members 1 / refused BadLine / refused BadLine / refused BadLine / \
+             refused BadLine",
+        ),
+        (
+            // nine are too many, whatever they are; a wrong one is told before their order
+            "params 3 3 1 / found 1 / start 2 2 1 1 2 3 4 5 6 7 8 9 / start 2 2 1 9 , 7 6 5 4 3 2 1 / \
+             start 2 2 1 b a [ / start 2 2 1 b a a] / start 2 2 1 a a / start 2 2 1 aa a",
+            "node 1 height 0 members 1 / refused TooManyTags / refused TooManyTags / \
+             refused BadTag / refused BadTag / refused TagsNotSorted / refused TagsNotSorted",
+        ),
+        (
+            // eight are taken, in the order of words; a tag has at most 64 bytes
+            "params 3 3 1 / found 1 / \
+             start 2 2 1 xxxxxxxxxxxxxxxxxxxxxxxxxxxxxxxxxxxxxxxxxxxxxxxxxxxxxxxxxxxxxxxxx / \
+             start 2 2 1 xxxxxxxxxxxxxxxxxxxxxxxxxxxxxxxxxxxxxxxxxxxxxxxxxxxxxxxxxxxxxxxx / \
+             start 3 3 1 ! 1 10 2 A aa b ~ / start 3 3 1",
+            "node 1 height 0 members 1 / refused BadTag / refused IdentifierUsed",
+        ),
+    ];
+    for (lines, wanted) in rows {
+        assert!(rt; prints(rt.alloc(), lines, wanted)?, "at {lines}");
+    }
+    Ok(())
+}
+
 #[test]
 fn refuses_lines_by_their_rules(rt: HostRuntime) -> Result<(), Fail> {
     let rows = [

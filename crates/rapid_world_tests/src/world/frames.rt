@@ -1,6 +1,6 @@
 // The frames of a world's packets.
 
-use crate::numbered::{endpoint, id, process};
+use crate::numbered::{endpoint, id, process, tagged};
 use crate::world::worlds::{alone, founded};
 use rapid_endpoint::Endpoint;
 use rapid_world::World;
@@ -8,8 +8,14 @@ use rapid_world::WorldEvent::{Deliver, Probe, Start, Tick};
 use std::test::Fail;
 
 /// The frame by which the process 2 asks to join.
-const PRE_JOIN: [u8; 28] = [
-    0, 0, 0, 0x18, 1, 8, 0, 0, 0, 0, 0, 0, 0, 0, 0, 0, 0, 0, 0, 0, 0, 2, 0x7f, 0, 0, 1, 0, 2,
+const PRE_JOIN: [u8; 29] = [
+    0, 0, 0, 0x19, 2, 8, 0, 0, 0, 0, 0, 0, 0, 0, 0, 0, 0, 0, 0, 0, 0, 2, 0x7f, 0, 0, 1, 0, 2, 0,
+];
+
+/// The frame by which it asks to join if it has the tag `db`.
+const PRE_JOIN_TAGGED: [u8; 32] = [
+    0, 0, 0, 0x1c, 2, 8, 0, 0, 0, 0, 0, 0, 0, 0, 0, 0, 0, 0, 0, 0, 0, 2, 0x7f, 0, 0, 1, 0, 2, 1, 2,
+    0x64, 0x62,
 ];
 
 /// Whether this packet goes to this endpoint with these bytes.
@@ -40,6 +46,15 @@ fn a_packet_is_the_frame_of_its_message(rt: HostRuntime) -> Result<(), Fail> {
     assert_eq!(&rt; delivered, 1);
     assert!(&rt; is_packet(&world, 1, endpoint(1), &PRE_JOIN));
     assert!(&rt; world.frame(2).is_some() && world.frame(3).is_none());
+    Ok(())
+}
+
+#[test]
+fn a_packet_has_the_tags_of_its_sender(rt: HostRuntime) -> Result<(), Fail> {
+    let mut world = alone(rt.alloc())?;
+    let accepted = world.run(&[Start(tagged(2, &[b"db"])?, endpoint(1)), Tick(id(2))]);
+    assert_eq!(&rt; accepted, 2);
+    assert!(&rt; is_packet(&world, 1, endpoint(1), &PRE_JOIN_TAGGED));
     Ok(())
 }
 

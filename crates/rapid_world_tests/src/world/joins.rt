@@ -1,7 +1,8 @@
 // A join in a world.
 
-use crate::numbered::{endpoint, id, process};
+use crate::numbered::{endpoint, id, process, tagged};
 use crate::world::worlds::alone;
+use rapid_endpoint::Process;
 use rapid_node::Phase;
 use rapid_world::WorldEvent::{Crash, Deliver, Leave, Probe, Start, Tick};
 use rapid_world::{World, WorldError, WorldEvent};
@@ -10,8 +11,13 @@ use std::test::Fail;
 
 /// The events by which the process 2 joins the process 1.
 fn join() -> [WorldEvent; 9] {
+    join_of(process(2))
+}
+
+/// The events by which a process with the identifier 2 joins the process 1.
+fn join_of(guest: Process) -> [WorldEvent; 9] {
     [
-        Start(process(2), endpoint(1)),
+        Start(guest, endpoint(1)),
         Tick(id(2)),
         Deliver(1),
         Deliver(2),
@@ -38,6 +44,27 @@ fn a_guest_is_let_in(rt: HostRuntime) -> Result<(), Fail> {
     assert_eq!(&rt; (ran.accepted, ran.wanted), (9, 0));
     assert_member(&rt, &world, 2, 1);
     assert_member(&rt, &world, 1, 1);
+    Ok(())
+}
+
+/// Checks that the node of a process shows these two members.
+fn assert_two(rt: &impl Abort, world: &World, number: u16, members: &[Process; 2]) {
+    let node = world.node(&id(number)).expect(rt, "a node");
+    let configuration = node.configuration().expect(rt, "a view");
+    assert!(rt; configuration.members() == members.as_slice());
+}
+
+#[test]
+fn a_guest_with_tags_is_let_in(rt: HostRuntime) -> Result<(), Fail> {
+    let guest = tagged(2, &[b"db", b"web"])?;
+    let mut world = alone(rt.alloc())?;
+    let ran = world.run_counted(&join_of(guest));
+    assert_eq!(&rt; (ran.accepted, ran.wanted), (9, 0));
+    assert_member(&rt, &world, 2, 1);
+    assert_two(&rt, &world, 1, &[process(1), guest]);
+    assert_two(&rt, &world, 2, &[process(1), guest]);
+    assert!(&rt; is_stored(&world, 0, &Start(guest, endpoint(1))));
+    assert!(&rt; !is_stored(&world, 0, &Start(process(2), endpoint(1))));
     Ok(())
 }
 

@@ -1,6 +1,6 @@
 // Events that a world refuses, and crashes.
 
-use crate::numbered::{endpoint, id, process};
+use crate::numbered::{endpoint, id, process, tagged};
 use crate::world::worlds::alone;
 use rapid_endpoint::Process;
 use rapid_world::WorldEvent::{Crash, Deliver, Leave, Probe, Start, Tick};
@@ -21,6 +21,10 @@ fn refuses_by_the_rules(rt: HostRuntime) -> Result<(), Fail> {
     let mut world = alone(rt.alloc())?;
     let cases = [
         (Start(process(1), endpoint(1)), WorldError::IdentifierUsed),
+        (
+            Start(tagged(1, &[b"db"])?, endpoint(1)),
+            WorldError::IdentifierUsed,
+        ),
         (
             Start(Process::new(id(2), endpoint(1)), endpoint(1)),
             WorldError::EndpointBusy,

@@ -42,8 +42,11 @@ returns-clause-listen c = sym (first_value-rows (found_of c.args.words.now) (cod
 pub returns-clause-id : goal.returns-clause-id
 returns-clause-id c = sym (first_value-rows (found_of c.args.words.now) (codes "id")) ∙ sym c.get_str-2.ensures
 
+pub returns-clause-tags : goal.returns-clause-tags
+returns-clause-tags c = sym (first_value-rows (found_of c.args.words.now) (codes "tags")) ∙ sym c.get_str-3.ensures
+
 pub returns-clause-join : goal.returns-clause-join
-returns-clause-join c = sym (first_value-rows (found_of c.args.words.now) (codes "join")) ∙ sym c.get_str-3.ensures
+returns-clause-join c = sym (first_value-rows (found_of c.args.words.now) (codes "join")) ∙ sym c.get_str-4.ensures
 
 pub returns-clause-k : goal.returns-clause-k
 returns-clause-k c =

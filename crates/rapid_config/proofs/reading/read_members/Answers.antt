@@ -1,12 +1,18 @@
-use Rattle.std.proofs.Common.{List, [], ◌∷◌, ◌++◌, sym, ap, ◌∙◌}
-use Rattle.rapid_model.specs.Process.{Process}
-use Rattle.rapid_model.specs.Reading.{processes_in}
-use Rattle.rapid_config.proofs.Announced.{members_more}
+use Rattle.std.proofs.Common.{◌≤◌, sym, ap, arith}
+use Rattle.rapid_model.specs.Reading.{read_in}
+use Rattle.rapid_endpoint.specs.ReadErrors.{fault_of}
+use Rattle.rapid_config.proofs.Walking.{step, not_stopped, ended}
 use Rattle.rapid_config.proofs.reading.read_members.Goals as goal
 
-pub loop-i-preserved : goal.loop-i-preserved
-loop-i-preserved c =
-    c.in_ok-push.ensures.items
-    ∙ ap (λ (ps : List Process). ps ++ c.member_at.result ∷ []) c.loop-i.invariant
-    ∙ ap (λ (p : Process). processes_in c.loop-i.i c.args.bytes.now ++ p ∷ []) c.member_at.ensures
-    ∙ sym (members_more c.loop-i.i c.args.bytes.now)
+pub unreachable-requires : goal.unreachable-requires
+unreachable-requires c =
+    not_stopped c.args.count 49 c.loop.counter c.loop.at c.args.bytes.now c.loop.members.items (fault_of c.in_default.field-0) c.loop.invariant c.loop-test.true c.in_default.ensures.read c.requires.all
+
+pub loop-preserved : goal.loop-preserved
+loop-preserved c =
+    rw c.in_ok-push.ensures.items (step c.args.count 49 c.loop.counter c.loop.at _ c.args.bytes.now c.loop.members.items _ c.loop.invariant c.loop-test.true c.in-Ok.ensures.read c.in-Ok.ensures.within)
+
+pub returns : goal.returns
+returns c =
+    let done : c.args.count ≤ c.loop.counter = omega (arith, c.loop-test.false) in
+    sym (ap read_in (ended c.args.count 49 c.loop.counter c.loop.at c.args.bytes.now c.loop.members.items c.loop.invariant done))

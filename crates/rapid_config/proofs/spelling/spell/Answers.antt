@@ -8,7 +8,7 @@ loop-member-preserved c =
     let i = c.loop-member.member-index in
     let head = head_bytes c.args.params c.args.height c.args.previous (length ps) in
     let l : i < length ps = omega arith in
-    c.in_ok-extend_from_slice-6.ensures.items
-    ∙ ap (λ (x : List ℕ). c.loop-member.bytes.items ++ x) (c.to_bytes.ensures.value ∙ c.member-item.is)
+    c.in_ok-append_to.ensures.value
+    ∙ ap (λ (x : List ℕ). c.loop-member.bytes.items ++ x) c.member-item.is
     ∙ ap (λ (x : List ℕ). x ++ get_or ps i c.member-item.result) c.loop-member.invariant
     ∙ concat_more head ps i c.member-item.result l

@@ -1,6 +1,6 @@
 use Rattle.std.proofs.Common.{arith}
 use Rattle.rapid_lines.specs.EdgeText.{edge_text}
-use Rattle.rapid_lines.proofs.Written.{written_more}
+use Rattle.rapid_text.proofs.Texts.{written_more}
 use Rattle.rapid_lines.proofs.edge_text.write_all.Goals as goal
 
 pub loop-edge-preserved : goal.loop-edge-preserved

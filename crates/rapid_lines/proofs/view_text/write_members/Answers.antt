@@ -1,6 +1,6 @@
 use Rattle.std.proofs.Common.{arith}
 use Rattle.rapid_lines.specs.ViewText.{member_text}
-use Rattle.rapid_lines.proofs.Written.{written_more}
+use Rattle.rapid_text.proofs.Texts.{written_more}
 use Rattle.rapid_lines.proofs.view_text.write_members.Goals as goal
 
 pub loop-member-preserved : goal.loop-member-preserved

@@ -1,20 +1,20 @@
-use Rattle.std.proofs.Common.{◌≡◌, List, ◌-◌, ◌+◌, ℕ, Some, sym, ap, subst, ◌∙◌}
+use Rattle.std.proofs.Common.{List, Some, sym, ap, ◌∙◌}
 use Rattle.std.proofs.lemmas.Result.{err_from_is_err_and}
 use Rattle.rapid_model.specs.Message.{AlertItem}
-use Rattle.rapid_alerts.specs.Alerts.{ListedAlerts, kind_of}
-use Rattle.rapid_wire.specs.Reading.{many, item_at}
+use Rattle.rapid_alerts.specs.Alerts.{ListedAlerts}
+use Rattle.rapid_wire.specs.Reading.{item_at}
 use Rattle.rapid_wire.proofs.Batches.{listed_items, listed_from}
-use Rattle.rapid_wire.proofs.Loops.{with_front, goes_on, ends, is_done}
+use Rattle.rapid_wire.proofs.Loops.{goes_on, ends, is_done}
 use Rattle.rapid_wire.proofs.reading.read_alerts.Goals as goal
 
 pub returns-in_err-ring-clause-value : goal.returns-in_err-ring-clause-value
 returns-in_err-ring-clause-value c =
     let p = err_from_is_err_and c.from_residual.result c.from_residual.ensures.1 in
-    rw (p.1, p.2) (ends c.in_err-ring.field-0.0 item_at c.loop.alerts.items c.args.count c.loop.counter c.loop.rest.now (many c.args.count item_at c.args.bytes.now) c.loop-test.true c.in_err-ring.ensures.value c.loop.invariant.0)
+    rw (p.1, p.2) (ends c.in_err-ring.field-0.0 item_at _ _ _ _ _ c.loop-test.true c.in_err-ring.ensures.value c.loop.invariant.0)
 
 pub returns-clause-value : goal.returns-clause-value
 returns-clause-value c =
-    is_done item_at c.loop.alerts.items c.args.count c.loop.counter c.loop.rest.now (many c.args.count item_at c.args.bytes.now) c.loop-test.false c.loop.invariant.0
+    is_done item_at _ _ _ _ _ c.loop-test.false c.loop.invariant.0
     ∙ ap (λ (xs : List AlertItem). Some (xs, c.loop.rest.now)) (sym (listed_items c.loop.alerts))
 
 pub returns-clause-from : goal.returns-clause-from
@@ -22,13 +22,9 @@ returns-clause-from c = listed_from c.loop.alerts c.args.observer c.args.config 
 
 pub loop-preserved : goal.loop-preserved
 loop-preserved c =
-    let more = c.in_ok-push.ensures.pushed in
-    let item : List ℕ → AlertItem = λ s. record { ring = c.in_ok-ring.ring; kind = kind_of c.in_ok-ring.kind; subject = s } in
-    let read = c.in_ok-ring.ensures.value ∙ ap (λ s. Some (item s, c.in_ok-ring.after.now)) (sym c.process_in.ensures) in
-    let total = many c.args.count item_at c.args.bytes.now in
-    let rest = many (c.args.count - (c.loop.counter + 1)) item_at c.in_ok-ring.after.now in (
-      subst (λ ys. with_front ys rest ≡ total) (sym (ap (λ (l : ListedAlerts). l.items) more))
-          (goes_on item_at c.loop.alerts.items c.args.count c.loop.counter c.loop.rest.now (item c.process_in.result) c.in_ok-ring.after.now total c.loop-test.true read c.loop.invariant.0),
+    let more = c.in_ok-push.ensures.pushed in (
+      goes_on item_at _ _ _ _ _ _ _ _ _ c.loop-test.true c.in_ok-ring.ensures.value c.split_at.ensures.back
+          (ap (λ (l : ListedAlerts). l.items) more) c.loop.invariant.0,
       ap (λ (l : ListedAlerts). l.observer) more ∙ c.loop.invariant.1,
       ap (λ (l : ListedAlerts). l.config) more ∙ c.loop.invariant.2,
     )

@@ -7,7 +7,7 @@ loop-process-preserved c =
     let ps = c.args.processes.now in
     let i = c.loop-process.process-index in
     let l : i < length ps = omega arith in
-    c.in_ok-extend_from_slice.ensures.items
-    ∙ ap (λ (x : List ℕ). c.loop-process.out.items ++ x) (c.to_bytes.ensures.value ∙ c.process-item.is)
+    c.in_ok-append_to.ensures.value
+    ∙ ap (λ (x : List ℕ). c.loop-process.out.items ++ x) c.process-item.is
     ∙ ap (λ (x : List ℕ). x ++ get_or ps i c.process-item.result) c.loop-process.invariant
     ∙ concat_more c.args.out.now.items ps i c.process-item.result l

@@ -1,6 +1,6 @@
-use Rattle.std.proofs.Common.{sym}
-use Rattle.rapid_endpoint.specs.Joined.{first_part}
+use Rattle.std.proofs.Common.{sym, ◌∙◌}
+use Rattle.rapid_endpoint.proofs.Keys.{identifier_is}
 use Rattle.rapid_endpoint.proofs.process.Process.id.Goals as goal
 
 pub returns : goal.returns
-returns c = rw (← c.self.view_is) (sym (first_part 16 c.self.inside.id c.self.inside.endpoint c.self.invariant.0))
+returns c = rw (← c.self.view_is) (c.id.ensures ∙ sym (identifier_is c.self.inside.key c.self.inside.tags c.self.invariant.0))

@@ -1,21 +1,8 @@
-use Rattle.std.proofs.Common.{List, ℕ, [], ◌∷◌, ◌++◌, take, drop, refl, sym, ap, ◌∙◌, ◌≡◌, arith}
-use Rattle.std.proofs.lemmas.List.{take_all}
-use Rattle.rapid_endpoint.specs.Joined.{written_over}
+use Rattle.std.proofs.Common.{sym, ◌∙◌}
+use Rattle.rapid_endpoint.specs.Joined.{first_part}
 use Rattle.rapid_endpoint.proofs.process.Process.key_bytes.Goals as goal
-
-pub returns-clause-whole : goal.returns-clause-whole
-returns-clause-whole c =
-    let zeros : List ℕ = 0 ∷ 0 ∷ 0 ∷ 0 ∷ 0 ∷ 0 ∷ [] in
-    let id : c.copy_from_slice.new.self ≡ c.self.inside.id = c.copy_from_slice.ensures.after ∙ c.bytes.ensures.value in
-    let endpoint : c.copy_from_slice-2.new.self ≡ c.self.inside.endpoint =
-    c.copy_from_slice-2.ensures.after ∙ c.to_bytes.ensures.value in
-    (λ i. take 16 (id i ++ zeros) ++ (endpoint i ++ drop 6 (drop 16 (id i ++ zeros))))
-    ∙ written_over c.self.inside.id c.self.inside.endpoint zeros c.bytes.ensures.length c.to_bytes.ensures.length refl
-    ∙ c.self.view_is
 
 pub returns-clause-value : goal.returns-clause-value
 returns-clause-value c =
-    returns-clause-whole c
-    ∙ sym c.self.view_is
-    ∙ sym (take_all 22 (c.self.inside.id ++ c.self.inside.endpoint) (omega (arith, c.self.invariant.1.length)))
-    ∙ ap (take 22) c.self.view_is
+    rw (← c.self.view_is)
+    (c.bytes.ensures.value ∙ sym (first_part 22 c.self.inside.key c.self.inside.tags c.self.invariant.0))

@@ -1,22 +1,21 @@
-use Rattle.std.proofs.Common.{◌≡◌, ℕ, List, take, drop, refl, sym, ◌∙◌, ap, ◌++◌, ◌<◌, arith, slice_index_or}
-use Rattle.std.specs.Int.{w16, to_be_bytes}
-use Rattle.std.proofs.lemmas.List.{take-append-drop}
-use Rattle.rapid_endpoint.proofs.Fronts.{front_of_bytes}
+use Rattle.std.proofs.Common.{◌≤◌, length, refl}
+use Rattle.rapid_endpoint.specs.ReadErrors.{fault_of}
+use Rattle.rapid_endpoint.proofs.Keys.{not_below, too_short, stands, read_of, refused_of}
 use Rattle.rapid_endpoint.proofs.process.Process.read.Goals as goal
 
-front : (c : goal.After-tell) → c.new-process.result ≡ take 22 c.args.bytes.now
-front c =
-    let id = c.in_ok-id.ensures.cases in let address = c.in_ok-address.ensures.cases in let port = c.in_ok-port.ensures.cases in
-    let whole : c.new-endpoint.result ≡ c.in_ok-address.address.now ++ to_be_bytes w16 c.from_be_bytes.result = c.new-endpoint.ensures in
-    c.new-process.ensures
-    ∙ (λ i. c.new.ensures i ++ (whole ∙ ap (λ (n : ℕ). c.in_ok-address.address.now ++ to_be_bytes w16 n) c.from_be_bytes.ensures) i)
-    ∙ front_of_bytes c.args.bytes.now c.in_ok-id.id.now c.in_ok-address.address.now c.in_ok-port.port.now c.in_ok-id.rest.now c.in_ok-address.rest.now
-    (λ i. let h : slice_index_or c.args.bytes.now i 0 < 256 = omega (arith, c.type_inv.bytes i) in h)
-    (omega (arith, id.2, address.2, port.2)) id.0 id.1 address.0 address.1 port.0
+pub returns-in_default-clause-read : goal.returns-in_default-clause-read
+returns-in_default-clause-read c = too_short c.args.bytes.now (c.in_default.ensures.short.0 refl)
 
-pub returns-clause-front : goal.returns-clause-front
-returns-clause-front c = (front c, refl)
+pub returns-in-Ok-clause-read : goal.returns-in-Ok-clause-read
+returns-in-Ok-clause-read c =
+    let long : 22 ≤ length c.args.bytes.now = not_below (length c.args.bytes.now) 22 c.in-Some.ensures.short.1 in
+    read_of c.args.bytes.now c.in-Some.key _ c.joined.result _ long c.in-Some.ensures.front c.joined.ensures.whole c.in-Ok.ensures.taken c.in-Ok.ensures.read
 
-pub returns-clause-taken : goal.returns-clause-taken
-returns-clause-taken c =
-    sym (ap (λ (l : List ℕ). l ++ drop 22 c.args.bytes.now) (front c) ∙ take-append-drop 22 c.args.bytes.now)
+pub returns-in-Ok-clause-taken : goal.returns-in-Ok-clause-taken
+returns-in-Ok-clause-taken c =
+    stands c.args.bytes.now c.in-Some.key _ c.joined.result _ c.in-Some.ensures.front c.joined.ensures.whole c.in-Ok.ensures.taken
+
+pub returns-in-Err-clause-read : goal.returns-in-Err-clause-read
+returns-in-Err-clause-read c =
+    let long : 22 ≤ length c.args.bytes.now = not_below (length c.args.bytes.now) 22 c.in-Some.ensures.short.1 in
+    refused_of c.args.bytes.now (fault_of c.in-Err.error) long c.in-Err.ensures.read

@@ -7,12 +7,12 @@ pub returns-then-ne : goal.returns-then-ne
 returns-then-ne c =
     rw (← c.self.view_is, ← c.other.view_is)
     (c.cmp.ensures
-    ∙ first_decides c.self.inside.id c.other.inside.id c.self.inside.endpoint c.other.inside.endpoint
+    ∙ first_decides c.self.inside.key c.other.inside.key c.self.inside.tags c.other.inside.tags
     (c.self.invariant.0 ∙ sym c.other.invariant.0) (not-true _ (sym c.ne.ensures ∙ c.if-ne.true)))
 
 pub returns : goal.returns
 returns c =
     rw (← c.self.view_is, ← c.other.view_is)
     (c.cmp-2.ensures
-    ∙ second_decides c.self.inside.id c.other.inside.id c.self.inside.endpoint c.other.inside.endpoint
+    ∙ second_decides c.self.inside.key c.other.inside.key c.self.inside.tags c.other.inside.tags
     (c.self.invariant.0 ∙ sym c.other.invariant.0) (not-false _ (sym c.ne.ensures ∙ c.if-ne.false)))

@@ -7,7 +7,7 @@ returns-then-eq c =
     rw (← c.self.view_is, ← c.other.view_is)
     (c.eq-then-eq.ensures ∙ and_then_second c.eq.result _ _ c.eq.ensures c.if-eq.true
     ∙ sym
-    (same_joined c.self.inside.id c.other.inside.id c.self.inside.endpoint c.other.inside.endpoint
+    (same_joined c.self.inside.key c.other.inside.key c.self.inside.tags c.other.inside.tags
     (c.self.invariant.0 ∙ sym c.other.invariant.0)))
 
 pub returns-else-eq : goal.returns-else-eq
@@ -15,5 +15,5 @@ returns-else-eq c =
     rw (← c.self.view_is, ← c.other.view_is)
     (and_else_first c.eq.result _ _ c.eq.ensures c.if-eq.false
     ∙ sym
-    (same_joined c.self.inside.id c.other.inside.id c.self.inside.endpoint c.other.inside.endpoint
+    (same_joined c.self.inside.key c.other.inside.key c.self.inside.tags c.other.inside.tags
     (c.self.invariant.0 ∙ sym c.other.invariant.0)))
