@@ -1,7 +1,7 @@
 #!/bin/bash
-# Starts five nodes on loopback, prints their views, kills one of them, prints the view
-# without it, lets another leave, and stops the others. It ends within half a minute, and leaves
-# nothing behind.
+# Starts five nodes on loopback, one of them with tags, prints their views, kills one of them, prints
+# the view without it, lets another leave, and stops the others. It ends within half a minute, and
+# leaves nothing behind.
 # Run it once the program is built: ./check program
 set -u
 top=$(cd "$(dirname "${BASH_SOURCE[0]}")/.." && pwd)
@@ -50,7 +50,8 @@ show() {
 }
 
 start 0
-for number in 1 2 3 4; do start "$number" --join "127.0.0.1:$first"; done
+start 1 --join "127.0.0.1:$first" --tags db,zone-a
+for number in 2 3 4; do start "$number" --join "127.0.0.1:$first"; done
 wait_for 5 0 1 2 3 4 || { echo "the five nodes have not come together:"; show 0 1 2 3 4; exit 1; }
 echo "Five nodes, each of which prints every view that it enters:"
 show 0 1 2 3 4

@@ -35,11 +35,11 @@ told=
 trap 'rm -rf "$room"' EXIT
 trap 'told=yes; echo quit >&3' TERM INT HUP
 
-# passes the views on; a view without this node's endpoint says that it is out
+# passes the views on; a view without this node's endpoint, which tags may follow, says that it is out
 watch_views() {
     while IFS= read -r line; do
         echo "$line"
-        [[ $line == height* && " $line " != *" $endpoint "* ]] || continue
+        [[ $line == height* && " $line " != *" $endpoint"[\ \[]* ]] || continue
         touch "$room/out"
         echo quit >&3
     done
