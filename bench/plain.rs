@@ -1,7 +1,9 @@
 //! The same work in plain Rust, as something to measure against: each figure is printed as
 //! `NAME NUMBER`, in nanoseconds for one unit of work or in bytes.
+use std::cmp::Ordering;
 use std::hint::black_box;
 use std::time::Instant;
+use tags::Tags;
 use view::{Configuration, Params};
 use voting::FastRound;
 
@@ -25,6 +27,8 @@ mod node;
 mod sim;
 #[path = "plain/steps.rs"]
 mod steps;
+#[path = "plain/tags.rs"]
+mod tags;
 #[path = "plain/view.rs"]
 mod view;
 #[path = "plain/views.rs"]
@@ -96,21 +100,63 @@ fn sha256(bytes: &[u8]) -> [u8; 32] {
     hash
 }
 
-type Process = [u8; 22];
+/// Who a process is. The key is its identifier, its address and its port.
+#[derive(Clone, Copy, PartialEq, Eq, Hash)]
+struct Process {
+    key: [u8; 22],
+    tags: Tags,
+}
 
-/// The process with a number: the number is its identifier and its port.
+impl Process {
+    fn id(&self) -> u128 {
+        u128::from_be_bytes(*self.key.first_chunk().unwrap())
+    }
+}
+
+/// Processes are in the order of their bytes.
+impl Ord for Process {
+    fn cmp(&self, other: &Process) -> Ordering {
+        // cuts that are compared are mostly equal, other processes mostly differ in the identifier
+        if self == other {
+            return Ordering::Equal;
+        }
+        let keys = self.id().cmp(&other.id()).then_with(|| self.key[16..].cmp(&other.key[16..]));
+        keys.then_with(|| self.tags.cmp(&other.tags))
+    }
+}
+
+impl PartialOrd for Process {
+    fn partial_cmp(&self, other: &Process) -> Option<Ordering> {
+        Some(self.cmp(other))
+    }
+}
+
+/// The process in front of the bytes, and what follows.
+fn read_process(bytes: &[u8]) -> Option<(Process, &[u8])> {
+    let (key, rest) = bytes.split_first_chunk()?;
+    let (tags, rest) = Tags::read(rest)?;
+    Some((Process { key: *key, tags }, rest))
+}
+
+#[inline]
+fn put_process(out: &mut Vec<u8>, p: &Process) {
+    out.extend_from_slice(&p.key);
+    p.tags.put(out);
+}
+
+/// The process with a number, which is its identifier and its port. It has no tags.
 fn process(n: u16) -> Process {
-    let mut bytes = [0; 22];
-    bytes[14..16].copy_from_slice(&n.to_be_bytes());
-    bytes[16..20].copy_from_slice(&[127, 0, 0, 1]);
-    bytes[20..].copy_from_slice(&n.to_be_bytes());
-    bytes
+    let mut key = [0; 22];
+    key[14..16].copy_from_slice(&n.to_be_bytes());
+    key[16..20].copy_from_slice(&[127, 0, 0, 1]);
+    key[20..].copy_from_slice(&n.to_be_bytes());
+    Process { key, tags: Tags::NONE }
 }
 
 fn key(ring: u8, p: &Process) -> [u8; 32] {
     let mut bytes = [0; 23];
     bytes[0] = ring;
-    bytes[1..].copy_from_slice(p);
+    bytes[1..].copy_from_slice(&p.key);
     sha256(&bytes)
 }
 
@@ -142,7 +188,7 @@ fn next_rings(old: &[Ring], gone: &Process, new: &Process) -> Vec<Ring> {
 
 /// Reads a configuration, with its identifier; none if it is refused.
 fn from_bytes(bytes: &[u8]) -> Option<Configuration> {
-    if bytes.len() < 49 || &bytes[..4] != b"RPC1" {
+    if bytes.len() < 49 || &bytes[..4] != b"RPC2" {
         return None;
     }
     let [k, h, l] = [bytes[44], bytes[45], bytes[46]];
@@ -150,15 +196,20 @@ fn from_bytes(bytes: &[u8]) -> Option<Configuration> {
         return None;
     }
     let count = u16::from_be_bytes([bytes[47], bytes[48]]) as usize;
-    if count > 1024 || bytes.len() != 49 + 22 * count {
+    if count > 1024 {
         return None;
     }
-    let members = bytes[49..].chunks_exact(22);
-    let members: Vec<Process> = members.map(|p| p.try_into().unwrap()).collect();
-    if !members.windows(2).all(|w| w[0][..16] < w[1][..16]) {
+    let mut members: Vec<Process> = Vec::with_capacity(count);
+    let mut rest = &bytes[49..];
+    for _ in 0..count {
+        let (member, after) = read_process(rest)?;
+        members.push(member);
+        rest = after;
+    }
+    if !rest.is_empty() || !members.windows(2).all(|w| w[0].id() < w[1].id()) {
         return None;
     }
-    let mut endpoints: Vec<&[u8]> = members.iter().map(|p| &p[16..]).collect();
+    let mut endpoints: Vec<&[u8]> = members.iter().map(|p| &p.key[16..]).collect();
     endpoints.sort_unstable();
     if endpoints.windows(2).any(|w| w[0] == w[1]) {
         return None;

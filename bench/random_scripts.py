@@ -2,8 +2,9 @@
 """Compares what two programs print of random scripts of sim: random_scripts.py PROVED PLAIN [COUNT [SEED]].
 
 Each script founds 1 to 12 nodes with some K, H and L, and then starts, crashes, ticks, probes, delivers
-and drops by chance, with some lines that have to be refused. The last line says how many of the scripts
-were printed alike; the status is 1 if one was not, and its script stands before it."""
+and drops by chance, with some lines that have to be refused. Every third process or so has tags. The last
+line says how many of the scripts were printed alike; the status is 1 if one was not, and its script stands
+before it."""
 import random
 import subprocess
 import sys
@@ -11,6 +12,8 @@ import sys
 STRANGE = ["# a remark", "", "tick", "foo 1", "tick 0", "deliver 0", "probe 1 300 ok", "found 1", "params 3 3 1",
            "start 5 5", "lose 0", "crash 70000", "tick 1 1001"]
 FIRST_JOINER = 30
+TAGS = ["a", "aa", "b", "db", "web", "zone-a", "Z", "!", "~", "7", "key=value", "x" * 64]
+WRONG_TAGS = ["a,b", "[a]", "]", "x" * 65]
 
 
 class Script:
@@ -27,15 +30,29 @@ class Script:
             self.add()
         self.lines.append("packets")
 
+    def tags(self):
+        """Mostly none; of the others some are in no order, too many, twice there, or wrong."""
+        if self.chance.random() < 0.65:
+            return []
+        tags = sorted(self.chance.sample(TAGS, self.chance.choice([1, 1, 2, 2, 3, 5, 8, 9])))
+        if self.chance.random() < 0.1:
+            tags.insert(self.chance.randint(0, len(tags)), self.chance.choice(TAGS + WRONG_TAGS))
+        if self.chance.random() < 0.1:
+            self.chance.shuffle(tags)
+        return tags
+
     def start(self):
-        """A process starts; seldom under a number or at a port that is taken."""
+        """A process starts; seldom under a number or at a port that is taken. At times all tick, to let it in."""
         number = self.chance.choice([*self.ports]) if self.chance.random() < 0.1 else self.next
         self.next += number == self.next
         port = self.chance.choice([*self.ports.values()]) if self.chance.random() < 0.15 else number
-        self.lines.append(f"start {number} {port} {self.chance.choice([*self.ports.values()])}")
+        words = [number, port, self.chance.choice([*self.ports.values()]), *self.tags()]
+        self.lines.append(f"start {' '.join(map(str, words))}")
         self.ports.setdefault(number, port)
         self.lines += [f"tick {number} {self.chance.choice([1, 2, 11])}"] if self.chance.random() < 0.7 else []
         self.lines += ["flow"] if self.chance.random() < 0.6 else []
+        if self.chance.random() < 0.3:
+            self.lines += [f"tick {it}" for it in self.ports] + ["flow"]
 
     def crash(self):
         """One or two processes crash, and the others go on until they may have decided."""

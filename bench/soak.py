@@ -29,7 +29,7 @@ from soak_cluster import (BATCH, GREATEST, JOIN, PRE_JOIN, PREPARE, VOTE, Cluste
 TOP = Path(__file__).resolve().parent.parent
 FLOOD = 3_000  # frames of a flood of the mixed run
 HELD = 10  # seconds for which connections are held open, and output is left unread
-HALF = GREATEST.to_bytes(4, "big") + bytes([1, BATCH]) + bytes(30_000)  # of a frame
+BEGUN = GREATEST.to_bytes(4, "big") + bytes([2, BATCH]) + bytes(30_000)  # of the longest frame
 
 
 class Mixed:
@@ -188,8 +188,8 @@ class Mixed:
         return self.hold(b"", 256)
 
     def half(self):
-        """32 connections that say half a frame."""
-        return self.hold(HALF, 32)
+        """32 connections that say a beginning of the longest frame."""
+        return self.hold(BEGUN, 32)
 
     def hold(self, first, count):
         node = self.member()
@@ -252,12 +252,12 @@ class Mixed:
         return before
 
     def warm_up(self, node):
-        """Twice each flood, and half frames, to one node: it uses what they take once, and no more by their repeats."""
+        """Twice each flood, and begun frames, to one node: it uses what they take once, no more by their repeats."""
         for _ in range(2):
             for kind in (self.of_others, self.fresh_joiners, self.garbage):
                 self.send(node, kind(), kind.__name__)
                 self.it.rest(1)
-            self.it.hold(node, HALF, 32)
+            self.it.hold(node, BEGUN, 32)
             self.it.rest(7)  # they are closed after five seconds
             self.release()
         self.done.clear()

@@ -18,7 +18,7 @@ HOST = "127.0.0.1"
 PAGE = os.sysconf("SC_PAGE_SIZE")
 BATCH, VOTE, PREPARE, PRE_JOIN, REPLY, JOIN_REQUEST = 1, 2, 3, 8, 9, 10
 REMOVE, JOIN = 1, 2
-GREATEST = 65_536  # the greatest length of a frame, after its length field
+GREATEST = 2_097_152  # the greatest length of a frame, after its length field
 RINGS, L = 10, 3  # of the nodes started here, which take the program's defaults
 PIDFD_GETFD = 438  # the number of this system call, on all machines
 
@@ -30,12 +30,20 @@ class Failed(Exception):
 # Frames, as docs/FORMATS.md has them.
 
 def process(identifier, port, host=HOST):
-    """The 22 bytes of a process."""
-    return identifier + socket.inet_aton(host) + struct.pack(">H", port)
+    """The 23 bytes of a process without tags."""
+    return identifier + socket.inet_aton(host) + struct.pack(">H", port) + b"\0"
+
+
+def split_process(data):
+    """The process in front of the bytes, with its tags, and what follows."""
+    end = 23
+    for _ in range(data[22]):
+        end += 1 + data[end]
+    return data[:end], data[end:]
 
 
 def frame(kind, sender, body=b""):
-    return struct.pack(">IBB", 2 + len(sender) + len(body), 1, kind) + sender + body
+    return struct.pack(">IBB", 2 + len(sender) + len(body), 2, kind) + sender + body
 
 
 def batch(observer, config, alerts):
@@ -47,7 +55,7 @@ def batch(observer, config, alerts):
 def observer_of(members, ring, subject):
     """The member that comes next before the subject on the ring, going round."""
     def key(member):
-        return hashlib.sha256(bytes([ring]) + member).digest(), member
+        return hashlib.sha256(bytes([ring]) + member[:22]).digest(), member
     others = sorted((it for it in members if it != subject), key=key)
     return ([it for it in others if key(it) < key(subject)] or others)[-1]
 
@@ -56,11 +64,11 @@ def check_frames():
     """Frames that are known byte by byte are spelt so here."""
     one, two = (process(bytes(15) + bytes([n]), n) for n in (1, 2))
     known = [
-        (frame(PRE_JOIN, two), "00000018 0108" + two.hex()),
-        (two, "00000000000000000000000000000002 7f0000010002"),
-        (frame(REPLY, one, two + b"\x02"), "0000002f 0109" + one.hex() + two.hex() + "02"),
+        (frame(PRE_JOIN, two), "00000019 0208" + two.hex()),
+        (two, "00000000000000000000000000000002 7f0000010002 00"),
+        (frame(REPLY, one, two + b"\x02"), "00000031 0209" + one.hex() + two.hex() + "02"),
         (batch(one, bytes(32), [(3, JOIN, two)]),
-         "00000052 0101" + one.hex() + "00" * 32 + "0001 03 02" + two.hex()),
+         "00000054 0201" + one.hex() + "00" * 32 + "0001 03 02" + two.hex()),
     ]
     if any(made != bytes.fromhex(spelt) for made, spelt in known):
         raise Failed("this script spells frames wrongly")
@@ -98,7 +106,7 @@ class Fake:
         while len(held) >= 4 and len(held) >= 4 + (size := int.from_bytes(held[:4], "big")):
             rest = bytes(held[4:4 + size])
             del held[:4 + size]
-            self.frames.append((rest[1], rest[2:24], rest[24:]))
+            self.frames.append((rest[1], *split_process(rest[2:])))
         return bool(got) or stream.close()
 
     def close(self):
@@ -411,9 +419,16 @@ class Cluster:
 def read_safe(fake):
     """The joiner, the configuration and the observers by ring of the answer to a PreJoin, if it is Safe."""
     kind, _, body = fake.frames[0] if fake.frames else (0, b"", b"")
-    if kind != REPLY or body[22] != 1:
+    if kind != REPLY:
         return None
-    return body[:22], body[23:55], [body[56 + 22 * ring:78 + 22 * ring] for ring in range(body[55])]
+    joiner, answer = split_process(body)
+    if answer[0] != 1:
+        return None
+    observers, rest = [], answer[34:]
+    for _ in range(answer[33]):
+        observer, rest = split_process(rest)
+        observers.append(observer)
+    return joiner, answer[1:33], observers
 
 
 def is_closed(stream):

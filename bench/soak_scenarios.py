@@ -134,11 +134,11 @@ def idle_256(it):
 
 
 def half_frame(it):
-    """100 connections say the first half of the longest frame, and no more."""
+    """100 connections say a beginning of the longest frame, and no more."""
     nodes = it.form(3)
     before = nodes[1].figures()
-    half = GREATEST.to_bytes(4, "big") + bytes([1, BATCH]) + bytes(GREATEST // 2)
-    held = it.hold(nodes[1], half, 100)
+    begun = GREATEST.to_bytes(4, "big") + bytes([2, BATCH]) + bytes(32_768)
+    held = it.hold(nodes[1], begun, 100)
     it.rest(12)
     open_yet, after = sum(not is_closed(stream) for stream in held), nodes[1].figures()
     if open_yet:

@@ -1,7 +1,7 @@
 //! Frames: messages as bytes, and a stream of bytes as messages.
 use crate::view::{ConfigId, Configuration, Cut};
 use crate::voting::{Ballot, Vote};
-use crate::{from_bytes, measure, process, Process};
+use crate::{from_bytes, measure, process, put_process, read_process, Process};
 use std::hint::black_box;
 use std::sync::Arc;
 
@@ -52,7 +52,7 @@ pub struct Message {
 fn put_cut(out: &mut Vec<u8>, cut: &[Process]) {
     out.extend_from_slice(&(cut.len() as u16).to_be_bytes());
     for p in cut {
-        out.extend_from_slice(p);
+        put_process(out, p);
     }
 }
 
@@ -66,7 +66,7 @@ fn put_batch(out: &mut Vec<u8>, alerts: &[Alert]) {
     for alert in alerts {
         out.push(alert.ring);
         out.push(alert.kind as u8);
-        out.extend_from_slice(&alert.subject);
+        put_process(out, &alert.subject);
     }
 }
 
@@ -77,7 +77,7 @@ fn put_answer(out: &mut Vec<u8>, answer: &Answer) {
             out.extend_from_slice(id);
             out.push(observers.len() as u8);
             for p in observers {
-                out.extend_from_slice(p);
+                put_process(out, p);
             }
         }
         Answer::EndpointInUse => out.push(2),
@@ -108,8 +108,8 @@ fn kind_of(body: &Body) -> u8 {
 /// The frame of a message.
 pub fn encode(message: &Message) -> Vec<u8> {
     let mut out = vec![0; 4];
-    out.extend_from_slice(&[1, kind_of(&message.body)]);
-    out.extend_from_slice(&message.sender);
+    out.extend_from_slice(&[2, kind_of(&message.body)]);
+    put_process(&mut out, &message.sender);
     match &message.body {
         Body::Batch(id, alerts) => {
             out.extend_from_slice(id);
@@ -139,7 +139,7 @@ pub fn encode(message: &Message) -> Vec<u8> {
         }
         Body::PreJoin => {}
         Body::Reply(joiner, answer) => {
-            out.extend_from_slice(joiner);
+            put_process(&mut out, joiner);
             put_answer(&mut out, answer);
         }
         Body::JoinRequest(id, ring) | Body::Leave(id, ring) => {
@@ -172,8 +172,14 @@ impl Reader<'_> {
         Some(u16::from_be_bytes(self.array()?))
     }
 
+    fn process(&mut self) -> Option<Process> {
+        let (process, rest) = read_process(self.0)?;
+        self.0 = rest;
+        Some(process)
+    }
+
     fn processes(&mut self, count: usize) -> Option<Vec<Process>> {
-        (0..count).map(|_| self.array()).collect()
+        (0..count).map(|_| self.process()).collect()
     }
 
     fn cut(&mut self) -> Option<Cut> {
@@ -216,7 +222,7 @@ impl Reader<'_> {
                 2 => Kind::Join,
                 _ => return None,
             };
-            alerts.push(Alert { observer, subject: self.array()?, ring, kind, config });
+            alerts.push(Alert { observer, subject: self.process()?, ring, kind, config });
         }
         Some(alerts)
     }
@@ -249,7 +255,7 @@ impl Reader<'_> {
             6 => Body::Accepted(self.array()?, self.classic()?, self.cut()?),
             7 => Body::Decision(self.array()?, self.cut()?),
             8 => Body::PreJoin,
-            9 => Body::Reply(self.array()?, self.answer()?),
+            9 => Body::Reply(self.process()?, self.answer()?),
             10 => Body::JoinRequest(self.array()?, self.byte()?),
             11 => Body::Confirm(Arc::new(from_bytes(std::mem::take(&mut self.0))?)),
             12 => Body::Probe(self.array()?),
@@ -271,14 +277,14 @@ fn decode(frame: &[u8]) -> Result<Message, Fault> {
     let [version, kind, rest @ ..] = frame else {
         return Err(Fault::BadBody);
     };
-    if *version != 1 {
+    if *version != 2 {
         return Err(Fault::BadVersion);
     }
     if !(1..=14).contains(kind) {
         return Err(Fault::BadKind);
     }
     let mut reader = Reader(rest);
-    let sender = reader.array().ok_or(Fault::BadBody)?;
+    let sender = reader.process().ok_or(Fault::BadBody)?;
     let body = reader.body(*kind, sender).ok_or(Fault::BadBody)?;
     if !reader.0.is_empty() {
         return Err(Fault::BadBody);
@@ -315,7 +321,7 @@ impl Feed {
             return Ok(None);
         };
         let length = u32::from_be_bytes(*length) as usize;
-        let read = if length > 65_536 {
+        let read = if length > 2_097_152 {
             Err(Fault::TooLong)
         } else if let Some(frame) = rest.get(..length) {
             decode(frame)

@@ -1,8 +1,9 @@
 //! A simulated cluster that lines drive.
 use crate::lines::{self, Line, Words};
 use crate::process;
+use crate::tags::{TagFault, Tags};
 use crate::view::{Endpoint, Params};
-use crate::world::{Installed, ProcessId, World, WorldEvent};
+use crate::world::{id_of, Installed, ProcessId, World, WorldEvent};
 use crate::Process;
 use std::collections::BTreeSet;
 use std::io::Write;
@@ -14,6 +15,8 @@ enum Command {
     Params(Params),
     Found(Vec<Process>),
     Events(WorldEvent, u64),
+    /// A start whose tags are refused.
+    BadTags(TagFault),
     Lose(ProcessId),
     Deliver(u64),
     Drop(u64),
@@ -63,11 +66,15 @@ fn found(words: &mut Words) -> Option<Command> {
 }
 
 fn start(words: &mut Words) -> Option<Command> {
-    let mut me = [0; 22];
-    me[..16].copy_from_slice(&id(named(words)?));
-    me[16..].copy_from_slice(&local(words.number(65535)?));
+    let mut key = [0; 22];
+    key[..16].copy_from_slice(&id(named(words)?));
+    key[16..].copy_from_slice(&local(words.number(65535)?));
     let seed = local(words.number(65535)?);
-    Some(Command::Events(WorldEvent::Start(me, seed), 1))
+    let tags: Vec<&[u8]> = words.collect();
+    Some(match Tags::new(&tags) {
+        Ok(tags) => Command::Events(WorldEvent::Start(Process { key, tags }, seed), 1),
+        Err(fault) => Command::BadTags(fault),
+    })
 }
 
 fn probe(words: &mut Words) -> Option<Command> {
@@ -135,7 +142,7 @@ fn refuse(out: &mut Vec<u8>, name: &str) {
 fn report(out: &mut Vec<u8>, installed: &Installed) {
     let Installed(id, config) = installed;
     write!(out, "node {}", u128::from_be_bytes(*id)).unwrap();
-    if !config.members.iter().any(|p| p[..16] == *id) {
+    if !config.members.iter().any(|p| id_of(p) == *id) {
         return writeln!(out, " removed at height {}", config.height).unwrap();
     }
     write!(out, " height {} members", config.height).unwrap();
@@ -143,10 +150,11 @@ fn report(out: &mut Vec<u8>, installed: &Installed) {
     out.push(b'\n');
 }
 
-/// The numbers of processes, each after a space.
+/// The numbers and the tags of processes, each number after a space.
 pub fn write_members(out: &mut Vec<u8>, members: &[Process]) {
     for member in members {
-        write!(out, " {}", u128::from_be_bytes(member[..16].try_into().unwrap())).unwrap();
+        write!(out, " {}", member.id()).unwrap();
+        member.tags.print(out);
     }
 }
 
@@ -169,7 +177,7 @@ fn losing(world: &World, k: u8, lost: &ProcessId) -> Vec<WorldEvent> {
     let mut events = Vec::new();
     for observer in world.running() {
         for ring in 0..k {
-            if world.observed(observer, ring).is_some_and(|p| p[..16] == *lost) {
+            if world.observed(observer, ring).is_some_and(|p| id_of(&p) == *lost) {
                 events.extend([WorldEvent::Probe(*observer, ring, false); 4]);
             }
         }
@@ -226,6 +234,7 @@ impl Simulator {
         };
         match command {
             Command::Params(_) | Command::Found(_) => refuse(out, "BadLine"),
+            Command::BadTags(fault) => refuse(out, &format!("{fault:?}")),
             Command::Events(event, count) => {
                 let _ = (0..count).all(|_| step(world, &event, out));
             }

@@ -1,5 +1,5 @@
 //! Configurations, and who observes whom in them.
-use crate::{key, sha256, Process, Ring};
+use crate::{key, put_process, sha256, Process, Ring};
 use std::collections::HashMap;
 use std::sync::{Arc, Mutex};
 
@@ -33,14 +33,14 @@ pub struct Configuration {
     pub id: ConfigId,
 }
 
-/// The last bytes of a process.
+/// The last bytes of its key.
 pub fn endpoint(p: &Process) -> Endpoint {
-    p[16..].try_into().unwrap()
+    p.key[16..].try_into().unwrap()
 }
 
 /// Whether the process has the identifier or the endpoint of one of these.
 pub fn collides(members: &[Process], p: &Process) -> bool {
-    members.iter().any(|m| m[..16] == p[..16] || m[16..] == p[16..])
+    members.iter().any(|m| m.key[..16] == p.key[..16] || m.key[16..] == p.key[16..])
 }
 
 impl Configuration {
@@ -61,19 +61,21 @@ impl Configuration {
     }
 
     pub fn bytes(&self) -> Vec<u8> {
-        let mut bytes = b"RPC1".to_vec();
+        let mut bytes = b"RPC2".to_vec();
         bytes.extend(self.previous);
         bytes.extend(self.height.to_be_bytes());
         bytes.extend([self.params.k, self.params.h, self.params.l]);
         bytes.extend((self.members.len() as u16).to_be_bytes());
         for p in &self.members {
-            bytes.extend(p);
+            put_process(&mut bytes, p);
         }
         bytes
     }
 
+    /// No two members have one identifier.
     pub fn position(&self, p: &Process) -> Option<usize> {
-        self.members.binary_search(p).ok()
+        let place = self.members.binary_search_by_key(&p.id(), Process::id).ok()?;
+        (self.members[place] == *p).then_some(place)
     }
 
     /// The configuration after a cut.

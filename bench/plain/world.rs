@@ -69,7 +69,7 @@ pub struct World {
 }
 
 pub fn id_of(p: &Process) -> ProcessId {
-    p[..16].try_into().unwrap()
+    p.key[..16].try_into().unwrap()
 }
 
 /// Puts what a node sends behind the other packets.
