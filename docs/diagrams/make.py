@@ -218,7 +218,7 @@ class Drawing:
 
     def text(self, x, y, words, size=11, **more):
         told = "".join(f' {key.replace("_", "-")}="{value}"' for key, value in more.items())
-        self.out.append(f'<text x="{x}" y="{y}" font-size="{size}"{told}>{words}</text>')
+        self.out.append(f'<text x="{x}" y="{y}" font-size="{size}"{told}>{escape(words)}</text>')
 
     def line(self, x1, y1, x2, y2, colour, width=1.0, more=""):
         ends = f'x1="{x1}" y1="{y1}" x2="{x2}" y2="{y2}"'
@@ -316,9 +316,9 @@ class Drawing:
         font = 'font-family="Helvetica, Arial, sans-serif"'
         self.out.append(f'<svg xmlns="http://www.w3.org/2000/svg" {size} {box} {font}>')
         self.out.append('<rect width="100%" height="100%" fill="#fff"/>')
-        self.text(8, 20, escape(self.title), 16, font_weight="bold")
+        self.text(8, 20, self.title, 16, font_weight="bold")
         source = f"{self.source}; drawn from runs of sim by make.py"
-        self.text(8, 37, escape(source), 10, fill="#555")
+        self.text(8, 37, source, 10, fill="#555")
         self.heads()
         self.lives()
         self.packets()

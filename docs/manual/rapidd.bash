@@ -5,7 +5,7 @@ _rapidd() {
         detect) words="--help" ;;
         sim) words="--help" ;;
         cluster) words="--nodes --workers --turns --k --h --l --help" ;;
-        node) words="--listen --id --join --k --h --l --tick-ms --probers --help" ;;
+        node) words="--listen --id --tags --join --k --h --l --tick-ms --probers --help" ;;
     esac
     ((COMP_CWORD > 1)) || words="detect sim cluster node --help --version"
     mapfile -t COMPREPLY < <(compgen -W "$words" -- "${COMP_WORDS[COMP_CWORD]}")
