@@ -1,11 +1,8 @@
 -- Words of `node` that are refused.
-use Rattle.std.proofs.Common.{◌≡◌, ℕ, true, false, List, codes, sym, ap, subst, ◌∙◌, Option, Some, None, IsSome, IfNone, inl, inr}
+use Rattle.std.proofs.Common.{◌≡◌, true, false, List, codes, sym, ap, subst, ◌∙◌, Option, Some, None, IsSome, IfNone, inl, inr}
 use Rattle.std.specs.Prelude.{option_map}
 use Rattle.clap.specs.Words.{Row, Text, HasKind, first_of, one_of, fault_of, kind_of, subcommand_of}
 use Rattle.clap.specs.declared.error.Error.{Error}
-use Rattle.rapid_options.specs.Options.{IsRefusal}
-use Rattle.rapid_options.specs.declared.options.OptionsError.{OptionsError}
-use Rattle.rapid_words.specs.Asked.{number_in}
 use Rattle.rapid_words.specs.Grammar.{grammar}
 use Rattle.rapid_words.specs.Refused.{IsFault, IsNumber}
 use Rattle.rapid_commands.specs.NodeWords.{HasOptions, CannotBe, IsNoNode, AreRefusedForNode}
@@ -34,26 +31,6 @@ no_tick_ms rows lacks has = lacks has.tick_ms
 
 pub no_probers : (rows : List Row) → ¬ IsNumber 8 (one_of (codes "probers") rows) → ¬ HasOptions rows
 no_probers rows lacks has = lacks has.probers
-
--- ---- options that are refused
-
--- What the options say is refused, so no node can be so.
-pub unfit : (rows : List Row) (k h l : ℕ) (listen : Text) (join id : Option Text) → number_in rows (codes "k") ≡ Some k → number_in rows (codes "h") ≡ Some h → number_in rows (codes "l") ≡ Some l
-    → first_of (codes "listen") rows ≡ Some listen → first_of (codes "join") rows ≡ join → first_of (codes "id") rows ≡ id
-    → ((e : OptionsError) × IsRefusal (record { k = k; h = h; l = l }) listen join id e) → CannotBe rows
-unfit rows k h l listen join id is_k is_h is_l listens joins goes_by refused =
-    inr (record {
-      params = record { k = k; h = h; l = l };
-      listen = listen;
-      error = refused.0;
-      k = is_k;
-      h = is_h;
-      l = is_l;
-      listens = listens;
-      refused =
-          subst (λ j. IsRefusal (record { k = k; h = h; l = l }) listen j (first_of (codes "id") rows) refused.0) (sym joins)
-          (subst (λ i. IsRefusal (record { k = k; h = h; l = l }) listen join i refused.0) (sym goes_by) refused.1);
-    })
 
 -- ---- the command
 
