@@ -2,13 +2,23 @@
 use crate::members::{process, processes};
 use anyhow::{Result, bail};
 use rapid_config::{Configuration, Params};
-use rapid_endpoint::ProcessId;
+use rapid_endpoint::{Process, ProcessId};
 use rapid_world::World;
 use std::alloc::Global;
 
-/// The world of this many founders.
-pub fn found(alloc: Global, count: u16) -> Result<World> {
-    let founders = processes(alloc, 1, count)?;
+/// These processes, each with these tags.
+fn with_tags(alloc: Global, bare: &[Process], tags: &[&[u8]]) -> Result<Vec<Process>> {
+    let mut all = Vec::new(alloc);
+    for process in bare {
+        all.push(Process::tagged(process.id(), process.endpoint(), tags)?)?;
+    }
+    Ok(all)
+}
+
+/// The world of this many founders, each with these tags.
+pub fn found(alloc: Global, count: u16, tags: &[&[u8]]) -> Result<World> {
+    let bare = processes(alloc, 1, count)?;
+    let founders = with_tags(alloc, bare.as_slice(), tags)?;
     if founders.is_empty() {
         bail!("there are no founders");
     }

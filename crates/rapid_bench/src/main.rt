@@ -33,6 +33,7 @@ use std::fs::Files;
 use std::sync::Wait;
 use std::thread::Threads;
 use std::time::Clock;
+use worlds::Plan;
 
 /// What is printed if no word names a figure.
 const USAGE: &str = "rapid_bench WORD.. prints figures, a line each: NAME, a space, a number.
@@ -45,11 +46,33 @@ const USAGE: &str = "rapid_bench WORD.. prints figures, a line each: NAME, a spa
   step_bytes    bytes that are held after a step or a copy and were not before
   world_200, world_1000    this many founders of which two or ten crash, until all others have installed the next view:
             nanoseconds an event, how many events, nanoseconds of the founding, and the most bytes that the process held
+  world_200_tagged    the same of 200 founders with eight tags of 64 bytes each
   views     nanoseconds of a hundred reads of a stamp, of a copy of the view of 1,000 processes, and of this view where a
             seat keeps it, by 1 and by 4 threads at a time; and of the first two under a lock
   edges     nanoseconds of a hundred results of a probe, each by the seat of its edge, and of a hundred looks at sixteen
             edges, by 1 and by 4 threads at a time; and of the same under a lock of all windows
   desks     nanoseconds of a vote and a tick among 1,000 processes, at a node and at a desk";
+
+/// Eight tags of 64 bytes, as many and as long as there may be.
+const FULL_TAGS: [&[u8]; 8] = [
+    b"a_______________________________________________________________",
+    b"b_______________________________________________________________",
+    b"c_______________________________________________________________",
+    b"d_______________________________________________________________",
+    b"e_______________________________________________________________",
+    b"f_______________________________________________________________",
+    b"g_______________________________________________________________",
+    b"h_______________________________________________________________",
+];
+
+/// A world of this many founders, of which that many crash.
+fn plan<'a>(founders: u16, crashes: u16, tags: &'a [&'a [u8]]) -> Plan<'a> {
+    Plan {
+        founders,
+        crashes,
+        tags,
+    }
+}
 
 /// Prints the figures of a word.
 fn print_figures<R: Print + Clock + Files + Alloc + Threads + Wait + Sync>(
@@ -76,8 +99,9 @@ fn print_more<R: Print + Clock + Files + Alloc>(rt: &R, alloc: Global, word: &st
         "frames" => frames::print(rt, alloc),
         "steps" => steps::print(rt, alloc),
         "step_bytes" => steps::print_bytes(rt, alloc),
-        "world_200" => worlds::print(rt, alloc, word, 200, 2),
-        "world_1000" => worlds::print(rt, alloc, word, 1000, 10),
+        "world_200" => worlds::print(rt, alloc, word, &plan(200, 2, &[])),
+        "world_1000" => worlds::print(rt, alloc, word, &plan(1000, 10, &[])),
+        "world_200_tagged" => worlds::print(rt, alloc, word, &plan(200, 2, &FULL_TAGS)),
         other => bail!("no figure is called {other}"),
     }
 }

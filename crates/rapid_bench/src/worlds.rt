@@ -132,6 +132,14 @@ fn run(world: &mut World, events: &[WorldEvent], nodes: usize) -> Result<()> {
     deliver_all(world, nodes.saturating_sub(installed))
 }
 
+/// What is measured: a world with this many founders, each with these tags, of which that many crash.
+#[derive(Clone, Copy)]
+pub struct Plan<'a> {
+    pub founders: u16,
+    pub crashes: u16,
+    pub tags: &'a [&'a [u8]],
+}
+
 /// What one run took.
 #[derive(Clone, Copy)]
 struct Taken {
@@ -141,13 +149,13 @@ struct Taken {
 }
 
 /// Takes the figures once.
-fn take<R: Clock>(rt: &R, alloc: Global, founders: u16, crashes: u16) -> Result<Taken> {
-    let crashed = crashed(alloc, founders, crashes)?;
+fn take<R: Clock>(rt: &R, alloc: Global, plan: &Plan<'_>) -> Result<Taken> {
+    let crashed = crashed(alloc, plan.founders, plan.crashes)?;
     let start = Instant::now(rt)?;
-    let mut world = found(alloc, founders)?;
+    let mut world = found(alloc, plan.founders, plan.tags)?;
     let founding = nanoseconds_since(rt, start)?;
     let events = script(alloc, &world, crashed.as_slice())?;
-    let nodes = usize::from(founders.saturating_sub(crashes));
+    let nodes = usize::from(plan.founders.saturating_sub(plan.crashes));
     let start = Instant::now(rt)?;
     run(&mut world, events.as_slice(), nodes)?;
     Ok(Taken {
@@ -157,17 +165,16 @@ fn take<R: Clock>(rt: &R, alloc: Global, founders: u16, crashes: u16) -> Result<
     })
 }
 
-/// Prints the figures of a world with this many founders, of which that many crash.
+/// Prints the figures of a world.
 pub fn print<R: Print + Clock + Files + Alloc>(
     rt: &R,
     alloc: Global,
     name: &str,
-    founders: u16,
-    crashes: u16,
+    plan: &Plan<'_>,
 ) -> Result<()> {
-    let mut least = take(rt, alloc, founders, crashes)?;
+    let mut least = take(rt, alloc, plan)?;
     for _ in 1..RUNS {
-        let taken = take(rt, alloc, founders, crashes)?;
+        let taken = take(rt, alloc, plan)?;
         least.founding = least.founding.min(taken.founding);
         least.running = least.running.min(taken.running);
     }
