@@ -8,13 +8,13 @@ use Rattle.rapid_model.specs.Configuration.{Configuration}
 use Rattle.rapid_model.specs.EndpointText.{endpoint_text}
 use Rattle.rapid_model.specs.Lines.{line_feed, space}
 
--- The endpoint of a member and its tags, with a space before them.
+-- The endpoint of a member, and its tags behind it.
 abbrev pub member_text : Process → Text
-member_text p = space ∷ (endpoint_text (endpoint p) ++ tags_text (tags_of (tags_bytes_of p)))
+member_text p = endpoint_text (endpoint p) ++ tags_text (tags_of (tags_bytes_of p))
 
--- The endpoints of members, and their tags.
+-- Members, with a space before each.
 abbrev pub members_text : List Process → Text
-members_text members = flat_map member_text members
+members_text members = flat_map (λ p. space ∷ member_text p) members
 
 -- The line of a view: its height, and the endpoints and tags of its members in order of identifier.
 abbrev pub view_text : Configuration → Text

@@ -3,7 +3,7 @@
 ghost use Rattle.std.specs.Prelude.{◌≡◌, ◌++◌, ◌∷◌, [], decimal, codes, OnOk};
 ghost use Rattle.rapid_lines.specs.EdgeText.{edge_text, all_edges_text, edges_text, state_text};
 
-use crate::view_text::{write_endpoint, write_number};
+use crate::view_text::{write_member, write_number};
 use rapid_rounds::EdgeState;
 use std::alloc::AllocError;
 
@@ -17,7 +17,7 @@ fn write_edge(edge: &EdgeState, output: &mut Vec<u8>) -> Result<(), AllocError>
     output.extend_from_slice(b"edge ")?;
     write_number(u64::from(edge.ring), output)?;
     output.push(b' ')?;
-    write_endpoint(edge.endpoint, output)?;
+    write_member(&edge.member, output)?;
     output.extend_from_slice(state_word(edge.is_down))
 }
 

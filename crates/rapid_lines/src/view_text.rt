@@ -2,6 +2,7 @@
 
 ghost use Rattle.std.specs.Prelude.{◌≡◌, ◌++◌, ◌∷◌, [], decimal, codes, OnOk};
 ghost use Rattle.rapid_model.specs.EndpointText.{endpoint_text};
+ghost use Rattle.rapid_model.specs.Lines.{space};
 ghost use Rattle.rapid_lines.specs.ViewText.{member_text, members_text, view_text};
 
 use rapid_config::Configuration;
@@ -25,7 +26,7 @@ pub(crate) fn write_number(number: u64, output: &mut Vec<u8>) -> Result<(), Allo
 }
 
 /// Appends an endpoint.
-pub(crate) fn write_endpoint(endpoint: Endpoint, output: &mut Vec<u8>) -> Result<(), AllocError>
+fn write_endpoint(endpoint: Endpoint, output: &mut Vec<u8>) -> Result<(), AllocError>
     ensures { OnOk result (output.new.items ≡ output.old.items ++ endpoint_text endpoint) }
 {
     let alloc = *output.allocator();
@@ -33,21 +34,28 @@ pub(crate) fn write_endpoint(endpoint: Endpoint, output: &mut Vec<u8>) -> Result
     output.extend_from_slice(text.as_bytes())
 }
 
-/// Appends the endpoint of a member and its tags, with a space before them.
-fn write_member(member: &Process, output: &mut Vec<u8>) -> Result<(), AllocError>
+/// Appends the endpoint of a member, and its tags behind it.
+pub(crate) fn write_member(member: &Process, output: &mut Vec<u8>) -> Result<(), AllocError>
     ensures { OnOk result (output.new.items ≡ output.old.items ++ member_text member.now) }
 {
-    output.push(b' ')?;
     write_endpoint(member.endpoint(), output)?;
     write_tags(member.tags(), output)
 }
 
-/// Appends the endpoints of members, and their tags.
+/// Appends a space and a member.
+fn write_one_more(member: &Process, output: &mut Vec<u8>) -> Result<(), AllocError>
+    ensures { OnOk result (output.new.items ≡ output.old.items ++ space ∷ member_text member.now) }
+{
+    output.push(b' ')?;
+    write_member(member, output)
+}
+
+/// Appends members, with a space before each.
 fn write_members(members: &[Process], output: &mut Vec<u8>) -> Result<(), AllocError>
     ensures { OnOk result (output.new.items ≡ output.old.items ++ members_text members.now) }
 {
     for member in members {
-        write_member(member, output)?;
+        write_one_more(member, output)?;
     }
     Ok(())
 }

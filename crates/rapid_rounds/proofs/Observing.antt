@@ -25,17 +25,17 @@ pub one_behind : {X A : Type 0} (f : X → A) (xs : List X) (x : X) → map f (x
 one_behind f [] x = refl
 one_behind f (y ∷ xs) x = ap (λ ys. f y ∷ ys) (one_behind f xs x)
 
-one_more : {X A : Type 0} (f : X → A) (i : ℕ) (xs : List X) (x : X) → i < length xs → x ≡ get_or xs i x → map f (take i xs) ++ f x ∷ [] ≡ map f (take (suc i) xs)
-one_more f i [] x l is = absurd (omega arith)
-one_more f zero (y ∷ xs) x l is = ap (λ z. f z ∷ []) is
-one_more f (suc i) (y ∷ xs) x l is = ap (λ ys. f y ∷ ys) (one_more f i xs x (omega arith) is)
+one_more : {X : Type 0} (i : ℕ) (xs : List X) (x : X) → i < length xs → x ≡ get_or xs i x → take i xs ++ x ∷ [] ≡ take (suc i) xs
+one_more i [] x l is = absurd (omega arith)
+one_more zero (y ∷ xs) x l is = ap (λ z. z ∷ []) is
+one_more (suc i) (y ∷ xs) x l is = ap (λ ys. y ∷ ys) (one_more i xs x (omega arith) is)
 
 -- One more is said, of the next edge.
-pub said_next : {X Y A : Type 0} (f : X → A) (g : Y → A) (i : ℕ) (xs : List X) (x : X) (ys after : List Y) (y : Y) → i < length xs → x ≡ get_or xs i x →
-    map g ys ≡ map f (take i xs) → after ≡ ys ++ y ∷ [] → g y ≡ f x → map g after ≡ map f (take (i + 1) xs)
-said_next f g i xs x ys after y l is so_far behind same =
+pub said_next : {X Y : Type 0} (g : Y → X) (i : ℕ) (xs : List X) (x : X) (ys after : List Y) (y : Y) → i < length xs → x ≡ get_or xs i x →
+    map g ys ≡ take i xs → after ≡ ys ++ y ∷ [] → g y ≡ x → map g after ≡ take (i + 1) xs
+said_next g i xs x ys after y l is so_far behind same =
     ap (map g) behind ∙ one_behind g ys y ∙ ap₂ (λ zs z. zs ++ z ∷ []) so_far same
-    ∙ subst (λ n. map f (take i xs) ++ f x ∷ [] ≡ map f (take n xs)) (sym (add-one i)) (one_more f i xs x l is)
+    ∙ subst (λ n. take i xs ++ x ∷ [] ≡ take n xs) (sym (add-one i)) (one_more i xs x l is)
 
 whole : {X : Type 0} (n : ℕ) (xs : List X) → length xs ≤ n → take n xs ≡ xs
 whole zero [] l = refl
@@ -44,8 +44,8 @@ whole zero (x ∷ xs) l = absurd (omega arith)
 whole (suc n) (x ∷ xs) l = ap (λ ys. x ∷ ys) (whole n xs (omega arith))
 
 -- It is said of all edges.
-pub said_all : {X Y A : Type 0} (f : X → A) (g : Y → A) (n : ℕ) (xs : List X) (ys : List Y) → length xs ≤ n → map g ys ≡ map f (take n xs) → map g ys ≡ map f xs
-said_all f g n xs ys l is = is ∙ ap (map f) (whole n xs l)
+pub said_all : {X Y : Type 0} (g : Y → X) (n : ℕ) (xs : List X) (ys : List Y) → length xs ≤ n → map g ys ≡ take n xs → map g ys ≡ xs
+said_all g n xs ys l is = is ∙ whole n xs l
 
 -- Without a watcher no edge is down.
 pub unwatched : (edge : ℕ) → Answered None None edge false

@@ -2,9 +2,9 @@
 -- The edges that a node observes in a view, their board, and the parts into which their probes are cut.
 use Rattle.std.specs.Prelude.{◌≡◌, ◌≢◌, ℕ, ◌<◌, ◌%◌, ◌==◌, Bool, true, false, if◌then◌else◌, List, [], map, zip, flat_map, length, get_or, Option, Some, None, option_to_list}
 use Rattle.std.specs.List.{range_with_len}
-use Rattle.rapid_model.specs.Bytes.{Endpoint, ConfigurationId}
+use Rattle.rapid_model.specs.Bytes.{ConfigurationId}
 use Rattle.rapid_model.specs.Configuration.{Configuration, configuration_id}
-use Rattle.rapid_model.specs.Process.{Process, endpoint}
+use Rattle.rapid_model.specs.Process.{Process}
 use Rattle.rapid_monitor.specs.BoardRule.{IsIn}
 use Rattle.rapid_monitor.specs.Boards.{Watching, Owned, IsSize, fresh_watcher, fresh_seat}
 use Rattle.rapid_monitor.specs.Probes.{BookValue, book_when, part_of}
@@ -70,13 +70,9 @@ dealt_seats edges seats parts part = flat_map (dealt_seat parts part) (zip edges
 abbrev pub all_dealt : List (ℕ × Process) → List (Option Owned) → ℕ → ℕ → List (List Owned)
 all_dealt edges seats parts count = map (dealt_seats edges seats parts) (range_with_len 0 count)
 
--- The ring of an edge, and the endpoint of who is observed on it.
-abbrev pub edge_of : ℕ × Process → ℕ × Endpoint
-edge_of e = (e.0, endpoint e.1)
-
--- The same of what is said of an edge.
-abbrev pub place_of : EdgeState → ℕ × Endpoint
-place_of s = (s.ring, s.endpoint)
+-- The ring of an edge of which something is said, and who is observed on it.
+abbrev pub place_of : EdgeState → ℕ × Process
+place_of s = (s.ring, s.member)
 
 -- Whether an edge is down.
 abbrev pub down_of : EdgeState → Bool

@@ -3,7 +3,7 @@
 ghost use Rattle.std.specs.Prelude.{◌≡◌, ◌≢◌, ◌⊎◌, ◌<◌, ◌%◌, ◌==◌, ◌++◌, ℕ, List, map, vec_len, Some, None, true, false, if◌then◌else◌, option_to_list, IfSome, IfNone, IfOk, OnOk, OnErr};
 ghost use Rattle.rapid_model.specs.Ring.{subjects_of};
 ghost use Rattle.rapid_monitor.specs.Boards.{Owned};
-ghost use Rattle.rapid_rounds.specs.Edges.{IsBoard, SameBoard, Answered, AllAnswered, down_of, all_blank, blank_part, told_of, seats_of, dealt_seats, all_dealt, edge_of, place_of};
+ghost use Rattle.rapid_rounds.specs.Edges.{IsBoard, SameBoard, Answered, AllAnswered, down_of, all_blank, blank_part, told_of, seats_of, dealt_seats, all_dealt, place_of};
 
 use crate::edge_state::EdgeState;
 use crate::part::Part;
@@ -156,7 +156,7 @@ impl ObservedEdges {
 
     /// Each edge by ring, and whether it is down now: once it was, it always is.
     pub fn states(&mut self) -> Result<Vec<EdgeState>, AllocError>
-        ensures edges { IfOk result (λ states. map place_of states.items ≡ map edge_of self.old.edges.items) }
+        ensures edges { IfOk result (λ states. map place_of states.items ≡ self.old.edges.items) }
         ensures same { (self.new.rings ≡ self.old.rings) × (self.new.me ≡ self.old.me) × (self.new.edges.items ≡ self.old.edges.items) × (self.new.parted ≡ self.old.parted) }
         ensures seats { self.new.seats.items ≡ self.old.seats.items }
         ensures board { SameBoard self.old.board self.new.board }
@@ -220,7 +220,7 @@ fn states_of(
     edges: &[(u8, Process)],
     board: &mut Option<EdgeBoard>,
 ) -> Result<Vec<EdgeState>, AllocError>
-    ensures edges { IfOk result (λ states. map place_of states.items ≡ map edge_of edges.now) }
+    ensures edges { IfOk result (λ states. map place_of states.items ≡ edges.now) }
     ensures board { SameBoard board.old board.new }
     ensures down { IfOk result (λ states. AllAnswered board.old board.new (map down_of states.items)) }
 {
@@ -233,12 +233,12 @@ fn states_of(
 
 /// An edge that is up or down.
 fn state_of(edge: &(u8, Process), is_down: bool) -> EdgeState
-    ensures edge { place_of result ≡ edge_of edge.now }
+    ensures edge { place_of result ≡ edge.now }
     ensures down { result.is_down ≡ is_down }
 {
     EdgeState {
         ring: edge.0,
-        endpoint: edge.1.endpoint(),
+        member: edge.1,
         is_down,
     }
 }

@@ -1,16 +1,15 @@
 -- Clauses of public calls cite this file.
 -- The present view of a service.
-use Rattle.std.specs.Prelude.{◌≡◌, ℕ, Bool, List, [], map, Option, Some, None}
-use Rattle.rapid_model.specs.Bytes.{Endpoint}
+use Rattle.std.specs.Prelude.{◌≡◌, ℕ, Bool, List, [], Option, Some, None}
 use Rattle.rapid_model.specs.Process.{Process}
 use Rattle.rapid_model.specs.Ring.{subjects_of}
-use Rattle.rapid_rounds.specs.Edges.{edge_of, AllAnswered}
+use Rattle.rapid_rounds.specs.Edges.{AllAnswered}
 use Rattle.rapid_service.specs.declared.present.Present.{Present}
 
--- The rings and endpoints of those whom a process observes in its present view; nobody before the first.
-abbrev pub edges_in : Process → Option Present → List (ℕ × Endpoint)
+-- Whom a process observes in its present view, each with the ring; nobody before the first.
+abbrev pub edges_in : Process → Option Present → List (ℕ × Process)
 edges_in me None = []
-edges_in me (Some present) = map edge_of (subjects_of present.view me)
+edges_in me (Some present) = subjects_of present.view me
 
 -- Whether each of these edges is down is what the watcher of the present view answers: yes exactly if it knows so
 -- afterwards. Before the first view there is none.

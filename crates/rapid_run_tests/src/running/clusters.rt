@@ -1,6 +1,6 @@
 // Nodes that find each other over loopback TCP.
 
-use crate::running::devices::{Screen, Silence, Wires, cut};
+use crate::running::devices::{Cue, Screen, Wires, cut};
 use rapid_config::Params;
 use rapid_endpoint::{Endpoint, ProcessId, Tags};
 use rapid_options::NodeOptions;
@@ -28,7 +28,7 @@ const TICK: u16 = 50;
 const AFTER_A_CUT: u64 = 750;
 
 /// A node's place: its port and that of the founder, its tags, what it printed, the connections that
-/// it opened, and whether its input is over.
+/// it opened, whether it is asked for its edges, and whether its input is over.
 #[derive(Drop)]
 struct Place {
     port: u16,
@@ -37,6 +37,7 @@ struct Place {
     params: Params,
     printed: Mutex<Vec<u8>>,
     opened: Mutex<Vec<TcpStream>>,
+    asked: AtomicBool,
     over: AtomicBool,
 }
 
@@ -51,6 +52,7 @@ fn places(alloc: Global, params: Params, seed: u16, count: u16) -> Result<Vec<Pl
             params,
             printed: Mutex::new(Vec::new(alloc)),
             opened: Mutex::new(Vec::new(alloc)),
+            asked: AtomicBool::new(false),
             over: AtomicBool::new(false),
         })?;
     }
@@ -87,8 +89,10 @@ where
         + RandomSource
         + Sync,
 {
-    let mut reader = Silence {
+    let mut reader = Cue {
         rt,
+        line: b"edges\n",
+        now: &place.asked,
         over: &place.over,
     };
     let mut writer = Screen {
@@ -296,6 +300,27 @@ fn two_nodes_come_to_one_view(rt: HostRuntime) -> Result<(), Fail> {
 /// What two nodes print that are both in, and have tags.
 const BOTH_TAGGED: &[u8] = b"height 1 members 127.0.0.1:7417[!] 127.0.0.1:7418[db,web]\n";
 
+/// What each of them prints of its edges: it observes the other on each ring.
+const EDGES_TAGGED: [&[u8]; 2] = [
+    b"edge 0 127.0.0.1:7418[db,web] up\nedge 1 127.0.0.1:7418[db,web] up\nedge 2 127.0.0.1:7418[db,web] up\n",
+    b"edge 0 127.0.0.1:7417[!] up\nedge 1 127.0.0.1:7417[!] up\nedge 2 127.0.0.1:7417[!] up\n",
+];
+
+/// Two nodes come to one view, and print their edges once they are asked for them.
+fn show_edges<R: Wait + Clock>(rt: &R, places: &[Place]) -> Result<(), &'static str> {
+    if !come_to(rt, places, BOTH_TAGGED) {
+        return Err("not both came to the view");
+    }
+    for place in places {
+        place.asked.store(true, Ordering::SeqCst);
+    }
+    let (one, other) = places.split_at(1.min(places.len()));
+    if !come_to(rt, one, EDGES_TAGGED[0]) || !come_to(rt, other, EDGES_TAGGED[1]) {
+        return Err("not both printed their edges to each other");
+    }
+    Ok(())
+}
+
 #[test]
 fn two_nodes_show_their_tags_to_each_other(rt: HostRuntime) -> Result<(), Fail> {
     let mut places = places(rt.alloc(), Params::new(3, 3, 1)?, 7_417, 2)?;
@@ -303,8 +328,15 @@ fn two_nodes_show_their_tags_to_each_other(rt: HostRuntime) -> Result<(), Fail> 
     for (place, tags) in places.iter_mut().zip(&tags) {
         place.tags = *tags;
     }
-    let places = places.as_slice().split_at(2.min(places.len()));
-    cluster(&rt, rt.alloc(), places, (BOTH_TAGGED, BOTH_TAGGED), false)?;
+    let (rt, alloc, places) = (&rt, rt.alloc(), places.as_slice());
+    thread::scope(thread::scope_env(), rt, |scope| {
+        for place in places {
+            let _ = scope.spawn(move || run(rt, alloc, place));
+        }
+        let shown = show_edges(rt, places);
+        end(places);
+        shown
+    })?;
     Ok(())
 }
 

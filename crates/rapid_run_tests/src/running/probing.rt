@@ -1,7 +1,8 @@
-// The parts of a node's probes, and what its watcher answers.
+// The parts of a node's probes, what its watcher answers, and how that is printed.
 
 use rapid_config::{Configuration, Params};
-use rapid_endpoint::{Endpoint, Process, ProcessId};
+use rapid_endpoint::{Endpoint, Process, ProcessId, Tags};
+use rapid_lines::write_edges;
 use rapid_rounds::{EdgeState, ObservedEdges, Part, PartRound};
 use std::alloc::{AllocError, Global};
 use std::process::Abort;
@@ -58,7 +59,7 @@ fn edges_of(states: &[EdgeState]) -> (u32, u32) {
     let mut silent = 0u32;
     for state in states {
         all = all.wrapping_add(1);
-        if state.endpoint != process(2).endpoint() {
+        if state.member != process(2) {
             silent = silent.wrapping_add(1);
         }
     }
@@ -68,7 +69,7 @@ fn edges_of(states: &[EdgeState]) -> (u32, u32) {
 /// Whether the edges to all but process 2 are down, or none is.
 fn are_down(states: &[EdgeState], silent: bool) -> bool {
     for state in states {
-        if state.is_down != (silent && state.endpoint != process(2).endpoint()) {
+        if state.is_down != (silent && state.member != process(2)) {
             return false;
         }
     }
@@ -99,5 +100,30 @@ fn parts_of_probes(rt: HostRuntime) -> Result<(), Fail> {
     for count in [1u8, 2, 4, 16] {
         probe_in(&rt, rt.alloc(), count)?;
     }
+    Ok(())
+}
+
+/// An edge on this ring to process 2 with these tags.
+fn edge(ring: u8, tags: &[&[u8]], is_down: bool) -> Result<EdgeState, Fail> {
+    Ok(EdgeState {
+        ring,
+        member: Process::of(process(2).id(), process(2).endpoint(), Tags::new(tags)?),
+        is_down,
+    })
+}
+
+#[test]
+fn edges_are_printed_with_tags(rt: HostRuntime) -> Result<(), Fail> {
+    let edges = [
+        edge(0, &[b"db", b"zone-a"], false)?,
+        edge(3, &[], true)?,
+        edge(15, &[b"!"], true)?,
+    ];
+    let mut printed = Vec::new(rt.alloc());
+    write_edges(&edges, &mut printed)?;
+    assert_eq!(rt;
+        printed.as_slice(),
+        b"edge 0 127.0.0.1:7652[db,zone-a] up\nedge 3 127.0.0.1:7652 down\nedge 15 127.0.0.1:7652[!] down\n".as_slice()
+    );
     Ok(())
 }
