@@ -1,5 +1,5 @@
 -- Batches: what their alerts have in common, and which stretches of an outbox are batches.
-use Rattle.std.proofs.Common.{◌≡◌, ℕ, zero, suc, ◌+◌, ◌-◌, ◌<◌, ◌≤◌, min, ◌⊎◌, inl, inr, Bool, true, false, cond, not, ◌&&◌, List, [], ◌∷◌, length, map, take, drop, refl, sym, ap, subst, ◌∙◌, arith, nat_lt, Option, Some, None}
+use Rattle.std.proofs.Common.{◌≡◌, ℕ, zero, suc, ◌+◌, ◌-◌, ◌≤◌, min, inl, inr, Bool, true, false, cond, not, ◌&&◌, List, [], ◌∷◌, length, map, take, drop, refl, sym, ap, ◌∙◌, arith, nat_lt, Option, Some, None}
 use Rattle.std.specs.Prelude.{All}
 use Rattle.std.specs.List.{list_all, slice_index_or}
 use Rattle.std.proofs.lemmas.Bool.{cases_lt, and_parts, and_from}
@@ -9,7 +9,7 @@ use Rattle.rapid_model.specs.Process.{Process, same_bytes}
 use Rattle.rapid_model.specs.Ring.{Observers}
 use Rattle.rapid_model.specs.Alert as model
 use Rattle.rapid_model.specs.Outbox.{Outbox, unflushed, flush}
-use Rattle.rapid_model.specs.Batch.{Batch, BatchFault, MixedAlerts, TooManyAlerts, is_alike, batch_fault, batch_of}
+use Rattle.rapid_model.specs.Batch.{BatchFault, MixedAlerts, TooManyAlerts, is_alike, batch_fault, batch_of}
 use Rattle.rapid_model.proofs.Orders.{same_bytes_decides}
 use Rattle.rapid_model.specs.Message.{AlertItem, batch_alerts, alert_of as read_as}
 use Rattle.rapid_alerts.specs.Alerts.{ListedAlerts, alert_of, alerts_in}

@@ -1,6 +1,7 @@
 -- Lists of alerts whose subjects stand at places.
-use Rattle.std.proofs.Common.{◌≡◌, ℕ, suc, zero, ◌+◌, ◌<◌, ◌≤◌, Bool, true, false, cond, not, ◌&&◌, List, [], ◌∷◌, ◌++◌, length, map, take, drop, get_or, refl, sym, ap, subst, ◌∙◌, arith, nat_eq, Some}
+use Rattle.std.proofs.Common.{◌≡◌, ℕ, suc, zero, ◌+◌, ◌<◌, ◌≤◌, Bool, true, false, ◌&&◌, List, [], ◌∷◌, ◌++◌, length, map, take, drop, refl, sym, ap, subst, ◌∙◌, append-nil, arith, nat_eq, Some}
 use Rattle.std.specs.Prelude.{All, slice_get, Result, Ok, Err, OnErr}
+use Rattle.std.specs.Bool.{Decides}
 use Rattle.std.proofs.lemmas.Bool.{and_parts, eqb-true, and_from}
 use Rattle.std.proofs.lemmas.Cmp.{nat_eq_equiv}
 use Rattle.std.proofs.lemmas.Option.{slice_get_within, get_or_from_slice_get}
@@ -10,9 +11,9 @@ use Rattle.rapid_model.specs.Process.{Process, same_bytes}
 use Rattle.rapid_model.specs.Alert as model
 use Rattle.rapid_model.specs.Message.{AlertItem, item_of, batch_alerts, alert_of as read_as}
 use Rattle.rapid_model.proofs.Orders.{same_bytes_decides}
-use Rattle.rapid_alerts.specs.Alerts.{ListedAlerts, ArePlaced, alert_of, alerts_in, item_in, kind_of}
+use Rattle.rapid_alerts.specs.Alerts.{ListedAlerts, ArePlaced, alert_of_ref, alerts_in, item_in, kind_of}
 use Rattle.rapid_alerts.specs.Listing.{Grows}
-use Rattle.rapid_alerts.specs.declared.alert.Alert.{Alert}
+use Rattle.rapid_alerts.specs.declared.alert.AlertRef.{AlertRef}
 use Rattle.rapid_alerts.specs.declared.alert.Kind.{Kind}
 use Rattle.rapid_alerts.specs.declared.alert.Kind.TheVariants.{Remove, Join}
 use Rattle.rapid_alerts.specs.declared.list.Item.{Item}
@@ -60,6 +61,10 @@ more_placed ss new xs x s g h at =
     All-append (λ y. y.place < length new) xs (x ∷ []) (still_placed ss new xs g h)
     (All-from_recursion (λ y. y.place < length new) (x ∷ []) (slice_get_within new x.place s at, tt))
 
+-- no subject more
+pub as_they_were : (ss : List Process) → Grows ss ss
+as_they_were ss = ([], sym (append-nil ss))
+
 -- a list is its observer, its configuration and what its alerts say
 pub listed_is : (observer config : List ℕ) {xs ys : List AlertItem} → xs ≡ ys → ◌≡◌ {A = ListedAlerts} (record { observer = observer; config = config; items = xs }) (record { observer = observer; config = config; items = ys })
 listed_is observer config e = ap (λ (xs : List AlertItem). let l : ListedAlerts = record { observer = observer; config = config; items = xs } in l) e
@@ -94,6 +99,18 @@ item_at_place ss xs i x s at there =
 pub alert_at_place : (l : ListedAlerts) (i : ℕ) (x : AlertItem) → slice_get l.items i ≡ Some x → slice_get (alerts_in l) i ≡ Some (read_as l.observer l.config x)
 alert_at_place l i x h = slice_get_map (read_as l.observer l.config) l.items i x h
 
+items_back : (from : Process) (id : List ℕ) (xs : List AlertItem) → map item_of (batch_alerts from id xs) ≡ xs
+items_back from id [] = refl
+items_back from id (x ∷ xs) = ap (λ ys. x ∷ ys) (items_back from id xs)
+
+-- what the alerts of a list say is what the list has
+pub listed_items : (l : ListedAlerts) → map item_of (alerts_in l) ≡ l.items
+listed_items l = items_back l.observer l.config l.items
+
+-- what an alert says is the item at its place
+pub item_of_alert : (l : ListedAlerts) (i : ℕ) (a : model.Alert) → slice_get (alerts_in l) i ≡ Some a → slice_get l.items i ≡ Some (item_of a)
+item_of_alert l i a h = ap (λ xs. slice_get xs i) (sym (listed_items l)) ∙ slice_get_map item_of (alerts_in l) i a h
+
 -- ---- lists of the same alerts
 
 front_more : {A : Type 0} (xs : List A) (i : ℕ) (a : A) → slice_get xs i ≡ Some a → take (i + 1) xs ≡ take i xs ++ a ∷ []
@@ -118,29 +135,56 @@ kind_back E a b Remove Join e = cc
 kind_back E a b Join Remove e = cc
 kind_back E a b Join Join e = b
 
--- alerts of which all parts are the same
-pub same_parts : (E : Kind → Kind → Bool) → E Remove Join ≡ false → E Join Remove ≡ false → (a b : Alert)
-    → (same_bytes a.observer b.observer && (same_bytes a.subject b.subject && (nat_eq a.ring b.ring && (E a.kind b.kind && same_bytes a.config b.config)))) ≡ true → alert_of a ≡ alert_of b
-same_parts E m n a b h =
-    let p = and_parts _ _ h in
-    let q = and_parts _ _ p.1 in
-    let r = and_parts _ _ q.1 in
-    let s = and_parts _ _ r.1 in
-    let observer : a.observer ≡ b.observer = (same_bytes_decides a.observer b.observer).0 p.0 in
-    let subject : a.subject ≡ b.subject = (same_bytes_decides a.subject b.subject).0 q.0 in
-    let ring : a.ring ≡ b.ring = eqb-true a.ring b.ring r.0 in
-    let kind : kind_of a.kind ≡ kind_of b.kind = same_kind E m n a.kind b.kind s.0 in
-    let config : a.config ≡ b.config = (same_bytes_decides a.config b.config).0 s.1 in
-    λ i. record { observer = observer i; subject = subject i; ring = ring i; kind = kind i; config = config i }
-
 bytes_back : (a b : List ℕ) → a ≡ b → same_bytes a b ≡ true
 bytes_back a b e = (same_bytes_decides a b).1 e
 
 number_back : (a b : ℕ) → a ≡ b → nat_eq a b ≡ true
 number_back a b e = subst (λ n. nat_eq a n ≡ true) e (nat_eq_equiv.refl a)
 
-pub parts_back : (E : Kind → Kind → Bool) → E Remove Remove ≡ true → E Join Join ≡ true → (a b : Alert) → alert_of a ≡ alert_of b
-    → (same_bytes a.observer b.observer && (same_bytes a.subject b.subject && (nat_eq a.ring b.ring && (E a.kind b.kind && same_bytes a.config b.config)))) ≡ true
+-- two items are one if their parts are
+pub items_decide : (E : Kind → Kind → Bool) → ((k l : Kind) → Decides (E k l) (k ≡ l)) → (x y : Item)
+    → Decides (nat_eq x.place y.place && (nat_eq x.ring y.ring && E x.kind y.kind)) (x ≡ y)
+items_decide E h x y = (one, other)
+  where
+    one : (nat_eq x.place y.place && (nat_eq x.ring y.ring && E x.kind y.kind)) ≡ true → x ≡ y
+    one e =
+        let p = and_parts _ _ e in
+        let q = and_parts _ _ p.1 in
+        let place : x.place ≡ y.place = eqb-true x.place y.place p.0 in
+        let ring : x.ring ≡ y.ring = eqb-true x.ring y.ring q.0 in
+        let kind : x.kind ≡ y.kind = (h x.kind y.kind).0 q.1 in
+        λ i. record { place = place i; ring = ring i; kind = kind i }
+
+    other : x ≡ y → (nat_eq x.place y.place && (nat_eq x.ring y.ring && E x.kind y.kind)) ≡ true
+    other e =
+        and_from _ _ (number_back _ _ (ap (λ (z : Item). z.place) e))
+        (and_from _ _ (number_back _ _ (ap (λ (z : Item). z.ring) e)) ((h x.kind y.kind).1 (ap (λ (z : Item). z.kind) e)))
+
+-- kinds are told from each other
+pub kinds_decide : (E : Kind → Kind → Bool) → E Remove Remove ≡ true → E Join Join ≡ true → E Remove Join ≡ false → E Join Remove ≡ false → (k l : Kind) → Decides (E k l) (k ≡ l)
+kinds_decide E a b m n Remove Remove = (λ e. refl, λ e. a)
+kinds_decide E a b m n Remove Join = (λ e. let f : false ≡ true = sym m ∙ e in cc, λ e. cc)
+kinds_decide E a b m n Join Remove = (λ e. let f : false ≡ true = sym n ∙ e in cc, λ e. cc)
+kinds_decide E a b m n Join Join = (λ e. refl, λ e. b)
+
+-- alerts of which all parts are the same
+pub same_parts : (E : Kind → Kind → Bool) → E Remove Join ≡ false → E Join Remove ≡ false → (a b : AlertRef)
+    → (same_bytes a.observer.now b.observer.now && (same_bytes a.subject.now b.subject.now && (nat_eq a.ring b.ring && (E a.kind b.kind && same_bytes a.config.now b.config.now)))) ≡ true
+    → alert_of_ref a ≡ alert_of_ref b
+same_parts E m n a b h =
+    let p = and_parts _ _ h in
+    let q = and_parts _ _ p.1 in
+    let r = and_parts _ _ q.1 in
+    let s = and_parts _ _ r.1 in
+    let observer : a.observer.now ≡ b.observer.now = (same_bytes_decides a.observer.now b.observer.now).0 p.0 in
+    let subject : a.subject.now ≡ b.subject.now = (same_bytes_decides a.subject.now b.subject.now).0 q.0 in
+    let ring : a.ring ≡ b.ring = eqb-true a.ring b.ring r.0 in
+    let kind : kind_of a.kind ≡ kind_of b.kind = same_kind E m n a.kind b.kind s.0 in
+    let config : a.config.now ≡ b.config.now = (same_bytes_decides a.config.now b.config.now).0 s.1 in
+    λ i. record { observer = observer i; subject = subject i; ring = ring i; kind = kind i; config = config i }
+
+pub parts_back : (E : Kind → Kind → Bool) → E Remove Remove ≡ true → E Join Join ≡ true → (a b : AlertRef) → alert_of_ref a ≡ alert_of_ref b
+    → (same_bytes a.observer.now b.observer.now && (same_bytes a.subject.now b.subject.now && (nat_eq a.ring b.ring && (E a.kind b.kind && same_bytes a.config.now b.config.now)))) ≡ true
 parts_back E p q a b e =
     and_from _ _ (bytes_back _ _ (ap (λ x. x.observer) e))
     (and_from _ _ (bytes_back _ _ (ap (λ x. x.subject) e))

@@ -9,7 +9,7 @@ use Rattle.std.proofs.lemmas.Bool.{cases_eq, and_from, or_cases, or_left, or_rig
 use Rattle.std.proofs.lemmas.Nat.Bits.{bit_at_or, bit_at-lt, bit_at_set_same, bit_at_set_other, bit_at-zero, same_from_bits}
 use Rattle.rapid_model.specs.Process.{Process, process_cmp, is_in, same_bytes}
 use Rattle.rapid_model.specs.Reports.{Report, report_cmp}
-use Rattle.rapid_model.proofs.Orders.{reports_total, reports_exact, tie_decides, same_bytes_decides}
+use Rattle.rapid_model.proofs.Orders.{same_bytes_decides}
 use Rattle.rapid_alerts.specs.RingMasks.{has_ring, with_rings}
 use Rattle.rapid_model.proofs.Among.{own_report}
 

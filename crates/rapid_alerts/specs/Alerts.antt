@@ -1,6 +1,6 @@
 -- Clauses of public calls cite this file.
 -- Alerts as the definitions see them.
-use Rattle.std.specs.Prelude.{◌≡◌, ◌<◌, ℕ, List, [], All, get_or, length, map, refl}
+use Rattle.std.specs.Prelude.{◌<◌, ℕ, List, [], All, get_or, length, refl}
 use Rattle.std.specs.Coded.{Coded, code_by, coded×, coded_ℕ, coded_list}
 use Rattle.rapid_model.specs.Bytes.{ConfigurationId}
 use Rattle.rapid_model.specs.Process.{Process}

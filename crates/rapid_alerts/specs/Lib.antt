@@ -5,3 +5,4 @@ pub mod Marks
 pub mod Outboxes
 pub mod Refusals
 pub mod RingMasks
+pub mod Spelt

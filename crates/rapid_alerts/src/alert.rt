@@ -28,7 +28,7 @@ pub struct Alert {
 }
 
 /// An alert whose processes and whose identifier of the configuration stand elsewhere.
-#[derive(Clone, Copy, Debug)]
+#[derive(Clone, Copy, Debug, PartialEq, Eq)]
 pub struct AlertRef<'a> {
     /// Who raises it.
     pub observer: &'a Process,

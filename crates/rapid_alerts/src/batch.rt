@@ -151,8 +151,8 @@ impl Batch {
     }
 
     /// The observer of all alerts.
-    pub fn observer(&self) -> Process
-        ensures { All (λ a. a.observer ≡ result) self.now }
+    pub fn observer(&self) -> &Process
+        ensures { All (λ a. a.observer ≡ result.now) self.now }
     {
         self.alerts().observer()
     }

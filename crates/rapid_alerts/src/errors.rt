@@ -1,10 +1,11 @@
-// Why alerts are no batch, and why an alert is not raised.
+// Why alerts are no batch, why an alert is not raised, and why one is not added that is spelt.
 
 ghost use Rattle.std.specs.Prelude.{◌≡◌};
 ghost use Rattle.rapid_alerts.specs.Refusals.{batch_code, raise_code};
 ghost use Rattle.rapid_alerts.specs.declared.errors.BatchError.TheVariants.{OutOfMemory as BatchMemory};
 ghost use Rattle.rapid_alerts.specs.declared.errors.RaiseError.TheVariants.{OutOfMemory as RaiseMemory};
 
+use rapid_endpoint::ReadError;
 use std::alloc::{AllocError, AllocFailed};
 use thiserror::Error;
 
@@ -88,4 +89,15 @@ impl From<AllocError> for RaiseError {
     fn from(_error: AllocError) -> RaiseError {
         RaiseError::OutOfMemory
     }
+}
+
+/// Why an alert is not added on the process in front of some bytes.
+#[derive(Clone, Copy, Debug, PartialEq, Eq, Error)]
+pub enum SpeltError {
+    /// No process is there. What is met first says why.
+    #[error("no process stands in front of the bytes: {0}")]
+    NoProcess(ReadError),
+    /// There was no memory, or no place for a subject more.
+    #[error("out of memory")]
+    OutOfMemory,
 }

@@ -11,10 +11,11 @@ mod list;
 mod mark;
 mod outbox;
 mod ring_mask;
+mod spelling;
 
 pub use alert::{Alert, AlertRef, Kind};
 pub use batch::Batch;
-pub use errors::{BatchError, RaiseError};
+pub use errors::{BatchError, RaiseError, SpeltError};
 pub use list::AlertList;
 pub use outbox::{Outbox, Raising};
 pub use ring_mask::{bit, has_bit};

@@ -1,12 +1,14 @@
 // Lists of alerts in which each names its subject by a place.
 
-ghost use Rattle.std.specs.Prelude.{◌≡◌, ◌<◌, ◌≤◌, ◌+◌, ◌++◌, ◌∷◌, true, [], Some, List, slice_get, length, take, drop, nat_lt, IfOk, IfSome, OnOk, OnErr};
+ghost use Rattle.std.specs.Prelude.{◌≡◌, ◌<◌, ◌≤◌, ◌+◌, ◌++◌, ◌∷◌, true, [], Some, List, slice_get, length, take, drop, nat_lt, IfOk, IfErr, IfSome, OnOk, OnErr};
 ghost use Rattle.std.specs.List.{list_all};
 ghost use Rattle.rapid_model.specs.Message.{AlertItem, item_of};
 ghost use Rattle.rapid_alerts.specs.Alerts.{ArePlaced, alert_of, alert_of_ref, alerts_in, kind_of};
-ghost use Rattle.rapid_alerts.specs.Listing.{Grows};
+ghost use Rattle.rapid_alerts.specs.Listing.{Grows, IsSpeltIn};
+ghost use Rattle.rapid_alerts.specs.Spelt.{Adds, Says};
 
-use crate::{Alert, AlertRef, Kind};
+use crate::spelling::is_spelt_at;
+use crate::{Alert, AlertRef, Kind, SpeltError};
 use rapid_config::ConfigId;
 use rapid_endpoint::Process;
 use std::alloc::{AllocError, Global};
@@ -58,17 +60,52 @@ fn is_at(subjects: &[Process], place: usize, subject: &Process) -> bool
     }
 }
 
+/// The place behind this one; behind the last one stands the first.
+fn next_place(subjects: &[Process], near: u16) -> u16 {
+    if usize::from(near) + 1 < subjects.len() {
+        near.saturating_add(1)
+    } else {
+        0
+    }
+}
+
 /// The place of a subject, if it is this place or the next one.
 fn place_near(subjects: &[Process], near: u16, subject: &Process) -> Option<usize>
     ensures { IfSome result (λ place. slice_get subjects.now place ≡ Some subject.now) }
 {
+    let next = usize::from(next_place(subjects, near));
     let near = usize::from(near);
     if is_at(subjects, near, subject) {
         Some(near)
-    } else if is_at(subjects, near + 1, subject) {
-        Some(near + 1)
+    } else if is_at(subjects, next, subject) {
+        Some(next)
     } else {
         None
+    }
+}
+
+/// How many bytes the process at this place takes, if it is the one in front of the bytes.
+fn length_spelt(subjects: &[Process], place: u16, bytes: &[u8]) -> Option<usize>
+    ensures { IfSome result (IsSpeltIn subjects.now place bytes.now) }
+{
+    match subjects.get(usize::from(place)) {
+        Some(subject) if is_spelt_at(subject, bytes) => Some(subject.length()),
+        _ => None,
+    }
+}
+
+/// The place of the process in front of the bytes and how many of them it takes, if that is this
+/// place or the next one.
+fn place_spelt(subjects: &[Process], near: u16, bytes: &[u8]) -> Option<(u16, usize)>
+    ensures { IfSome result (λ r. IsSpeltIn subjects.now r.0 bytes.now r.1) }
+{
+    if let Some(length) = length_spelt(subjects, near, bytes) {
+        return Some((near, length));
+    }
+    let next = next_place(subjects, near);
+    match length_spelt(subjects, next, bytes) {
+        Some(length) => Some((next, length)),
+        None => None,
     }
 }
 
@@ -170,6 +207,45 @@ impl AlertList {
         }
     }
 
+    /// Adds an alert at the end on the process in front of the bytes, and says how many bytes that
+    /// process takes. If it is the subject at the place of the last alert's or at the next one, it
+    /// is only compared, and no process is made of the bytes. `NoProcess` if no process is there,
+    /// with what is met first. `OutOfMemory` comes only if one is: if there is no memory, or no
+    /// place for a 65,537th subject. On an error the list is as it was.
+    pub fn push_spelt(&mut self, ring: u8, kind: Kind, bytes: &[u8]) -> Result<usize, SpeltError>
+        ensures added { IfOk result (Adds self.old self.new ring (kind_of kind) bytes.now) }
+        ensures within { IfOk result (λ n. n ≤ length bytes.now) }
+        ensures refused { IfErr result (Says bytes.now) }
+        ensures unchanged { OnErr result (self.new ≡ self.old) }
+    {
+        let Some((place, length)) = place_spelt(&self.subjects, self.last_place(), bytes) else {
+            return self.push_read(ring, kind, bytes);
+        };
+        let item = Item { place, ring, kind };
+        let Ok(()) = self.items.push(item) else {
+            return Err(SpeltError::OutOfMemory);
+        };
+        Ok(length)
+    }
+
+    /// The same, where the process is made of the bytes. It stands alone, so that this process is
+    /// not cleared where none is made.
+    #[inline(never)]
+    fn push_read(&mut self, ring: u8, kind: Kind, bytes: &[u8]) -> Result<usize, SpeltError>
+        ensures added { IfOk result (Adds self.old self.new ring (kind_of kind) bytes.now) }
+        ensures within { IfOk result (λ n. n ≤ length bytes.now) }
+        ensures refused { IfErr result (Says bytes.now) }
+        ensures unchanged { OnErr result (self.new ≡ self.old) }
+    {
+        match Process::read(bytes) {
+            Ok((subject, length)) => match self.push(&subject, ring, kind) {
+                Ok(()) => Ok(length),
+                Err(_refused) => Err(SpeltError::OutOfMemory),
+            },
+            Err(error) => Err(SpeltError::NoProcess(error)),
+        }
+    }
+
     /// Takes the last subject out if no alert is on it.
     fn forget_unused(&mut self)
         ensures { self.new ≡ self.old }
@@ -228,10 +304,10 @@ impl AlertList {
     }
 
     /// The observer of all alerts.
-    pub(crate) fn observer(&self) -> Process
-        ensures { result ≡ self.now.observer }
+    pub(crate) fn observer(&self) -> &Process
+        ensures { result.now ≡ self.now.observer }
     {
-        self.observer
+        &self.observer
     }
 
     /// The identifier of the configuration of all alerts.
@@ -239,6 +315,22 @@ impl AlertList {
         ensures { result ≡ self.now.config }
     {
         self.config
+    }
+
+    /// Whether both keep the same, place by place.
+    fn is_kept_as(&self, other: &AlertList) -> bool
+        ensures { result ≡ true → self.now ≡ other.now }
+    {
+        if self.config != other.config {
+            return false;
+        }
+        if self.observer != other.observer {
+            return false;
+        }
+        if self.items != other.items {
+            return false;
+        }
+        self.subjects == other.subjects
     }
 
     /// Whether two lists have the same alerts, in the same order.
@@ -249,8 +341,11 @@ impl AlertList {
         if self.len() != other.len() {
             return false;
         }
+        if self.is_kept_as(other) {
+            return true;
+        }
         for at in 0..self.len() {
-            if self.alert(at) != other.alert(at) {
+            if self.alert_ref(at) != other.alert_ref(at) {
                 return false;
             }
         }
@@ -269,8 +364,8 @@ impl AlertList {
     {
         let mut part = AlertList::new(alloc, self.observer, self.config);
         for done in 0..count {
-            let alert = self.alert(from + done);
-            part.push(&alert.subject, alert.ring, alert.kind)?;
+            let alert = self.alert_ref(from + done);
+            part.push(alert.subject, alert.ring, alert.kind)?;
         }
         Ok(part)
     }

@@ -154,7 +154,7 @@ impl<T: ObserverTable> Outbox<T> {
         match self.judge(&alert)? {
             None => Ok(Raising::Already),
             Some(marks) => {
-                self.keep(alert, marks)?;
+                self.keep(&alert, marks)?;
                 Ok(Raising::Raised)
             }
         }
@@ -172,10 +172,10 @@ impl<T: ObserverTable> Outbox<T> {
 
     /// Keeps an alert that is to be raised, on a subject of these marks. If out of memory the
     /// outbox is as it was.
-    fn keep(&mut self, alert: Alert, marks: Marks) -> Result<(), AllocError>
-        requires raised { model.raising (T.observers self.old.table) self.old.owner self.old.outbox (alert_of alert) ≡ model.Raised }
-        requires marks { IsOn (index_of self.old.outbox.raised) alert.subject marks }
-        ensures kept { OnOk result (self.new.outbox ≡ model.after_raising model.Raised self.old.outbox (alert_of alert)) }
+    fn keep(&mut self, alert: &Alert, marks: Marks) -> Result<(), AllocError>
+        requires raised { model.raising (T.observers self.old.table) self.old.owner self.old.outbox (alert_of alert.now) ≡ model.Raised }
+        requires marks { IsOn (index_of self.old.outbox.raised) alert.now.subject marks }
+        ensures kept { OnOk result (self.new.outbox ≡ model.after_raising model.Raised self.old.outbox (alert_of alert.now)) }
         ensures unchanged { OnErr result (self.new ≡ self.old) }
         ensures table { self.new.table ≡ self.old.table }
         ensures owner { self.new.owner ≡ self.old.owner }
@@ -185,7 +185,7 @@ impl<T: ObserverTable> Outbox<T> {
         let place = self
             .raised
             .push_near(marks.place, &alert.subject, alert.ring, alert.kind)?;
-        match self.index.add(&alert, marks, place) {
+        match self.index.add(alert, marks, place) {
             Ok(()) => Ok(()),
             Err(error) => {
                 self.raised.pop();

@@ -7,7 +7,7 @@ use Rattle.rapid_model.specs.Configuration.{identifiers_ascend, endpoints_differ
 use Rattle.rapid_model.specs.Reading as fault
 use Rattle.rapid_model.specs.Reading.{processes_at, read_in, members_fault}
 use Rattle.rapid_model.proofs.Processes.{processes_taken}
-use Rattle.rapid_config.specs.Ends.{AreAll}
+use Rattle.rapid_endpoint.specs.Ends.{AreAll}
 use Rattle.rapid_config.specs.Faults.{ReportsOfFounders, ReportsOfBytes}
 use Rattle.rapid_config.specs.declared.error.ConfigError.{ConfigError}
 use Rattle.rapid_config.specs.declared.error.ConfigError.TheVariants.{BadParams, Truncated, Trailing, BadMagic, NotSorted, EndpointTwice, TooMany, EmptyCut, HeightFull, BadTags, OutOfMemory}

@@ -12,20 +12,10 @@ use Rattle.rapid_model.specs.Configuration.{identifiers_ascend}
 use Rattle.std.specs.List.{IsAllAdjacentAnswer, list_all, filter}
 use Rattle.std.proofs.lemmas.Bool.{and_parts, and_from, and_left, and_right}
 use Rattle.rapid_model.proofs.Logic.{less_is}
+use Rattle.rapid_endpoint.proofs.Ascents.{all_later}
 
 pub bytes_total : IsTotalOrder bytes_cmp
 bytes_total = nat_list_cmp_total
-
--- the test of a total order passes on
-pub is_lt_trans : {K : Type 0} {R : K → K → Ordering} → IsTotalOrder R → (x y z : K) → is_lt (R x y) ≡ true → is_lt (R y z) ≡ true → is_lt (R x z) ≡ true
-is_lt_trans {K} {R} o x y z p q = ap is_lt (o.trans x y z (less_is (R x y) p) (less_is (R y z) q))
-
--- what x passes with y, and y with all of zs, x passes with all of zs
-pub all_later : {X : Type 0} (lt : X → X → Bool) → ((x y z : X) → lt x y ≡ true → lt y z ≡ true → lt x z ≡ true) → (x y : X) (zs : List X) → lt x y ≡ true → list_all (lt y) zs ≡ true → list_all (lt x) zs ≡ true
-all_later lt t x y [] h k = refl
-all_later lt t x y (z ∷ zs) h k =
-    let p = and_parts (lt y z) (list_all (lt y) zs) k in
-    and_from (lt x z) (list_all (lt x) zs) (t x y z h p.0) (all_later lt t x y zs h p.1)
 
 -- neighbours in a longer list
 later : {X : Type 0} (lt : X → X → Bool) (x : X) (xs : List X) (k : ℕ) (d : X) (b : Bool) → b ≡ lt (get_or (x ∷ xs) (suc k) d) (get_or (x ∷ xs) (suc k + 1) d) → b ≡ lt (get_or xs k d) (get_or xs (k + 1) d)

@@ -12,7 +12,8 @@ use Rattle.rapid_model.specs.Process.{Process, IsProcess, identifier, endpoint, 
 use Rattle.rapid_model.specs.Configuration.{AreMembers, identifiers_ascend, endpoints_differ}
 use Rattle.rapid_model.specs.Apply.{collides, insert_process, with_joiners}
 use Rattle.rapid_config.specs.Endpoints.{AreEndpointsOf}
-use Rattle.rapid_config.proofs.Ascending.{bytes_total, is_lt_trans, all_later, below_by_identifier, flipped}
+use Rattle.rapid_endpoint.proofs.Ascents.{is_lt_trans, all_later}
+use Rattle.rapid_config.proofs.Ascending.{bytes_total, below_by_identifier, flipped}
 use Rattle.rapid_config.proofs.Differing.{Gains, gained, same_flips}
 use Rattle.rapid_config.proofs.Places.{by_identifier, rising, any_at, any_none}
 use Rattle.rapid_model.proofs.Logic.{or_swap}

@@ -6,4 +6,3 @@ pub mod Differing
 pub mod Insertions
 pub mod Kept
 pub mod Announced
-pub mod Walking

@@ -1,8 +1,8 @@
 -- Where a process stands among members that ascend by identifier.
-use Rattle.std.proofs.Common.{◌≡◌, ℕ, zero, suc, ◌+◌, ◌<◌, Bool, true, false, not, ◌||◌, cond, List, [], ◌∷◌, length, get_or, refl, sym, ap, subst, ◌∙◌, inl, inr, Some, None, position, arith}
+use Rattle.std.proofs.Common.{◌≡◌, ℕ, zero, suc, ◌+◌, ◌<◌, Bool, true, false, not, ◌||◌, cond, List, [], ◌∷◌, map, length, get_or, refl, sym, ap, subst, ◌∙◌, inl, inr, Some, None, Result, position, arith}
 use Rattle.std.specs.Prelude.{nat_lt, is_some}
 use Rattle.std.specs.List.{list_any, position_or_len}
-use Rattle.std.specs.List.Sorted.{IsBinarySearchResult, IsNonDecreasingBy}
+use Rattle.std.specs.List.Sorted.{IsBinarySearchResult, IsNonDecreasingBy, IsSearchInRange}
 use Rattle.std.specs.declared.cmp.Ordering.{Ordering}
 use Rattle.std.specs.declared.cmp.Ordering.TheVariants.{Less, Equal, Greater}
 use Rattle.std.specs.Ordering.{is_lt, is_eq, ordering_index, ordering_reverse}
@@ -10,7 +10,7 @@ use Rattle.std.specs.Cmp.{tied_itself, alike_right}
 use Rattle.std.specs.Prelude.{Ok, Err}
 use Rattle.std.proofs.lemmas.Bool.{lt-ltb, le-ltb, cases_order, cases_eq, cases_lt}
 use Rattle.std.proofs.lemmas.Bool.Decides.{nat_tests}
-use Rattle.std.proofs.lemmas.List.{get_or_default}
+use Rattle.std.proofs.lemmas.List.{length-map, get_or_default, get_or-map}
 use Rattle.std.proofs.lemmas.List.Sums.{position_or_len_is}
 use Rattle.std.proofs.lemmas.List.Sorted.{searchable_from_sorted}
 use Rattle.rapid_model.specs.Process.{Process, identifier, bytes_cmp, process_cmp, same_bytes, is_in}
@@ -72,6 +72,35 @@ rising ps p up =
     searchable_from_sorted bytes_total identifier ps (identifier p)
     (λ k d z l. ap is_lt (bytes_total.antisymm (identifier (get_or ps (k + 1) d)) (identifier (get_or ps k d))
     ∙ ap ordering_reverse (later_less (λ x y. bytes_cmp (identifier x) (identifier y)) identifiers_ascend (λ _ _. refl) ps up k (k + 1) d (omega arith) l)))
+
+-- What a search finds among what f makes of the elements, and by f among the elements, is the same.
+pub found_in_elements : {X Y : Type 0} (f : X → Y) (ord : Y → Ordering) (xs : List X) (r : Result ℕ ℕ) → IsSearchInRange r (length xs) → IsBinarySearchResult ord (map f xs) r → IsBinarySearchResult (λ x. ord (f x)) xs r
+found_in_elements f ord xs (Ok i) l h = λ d. subst (λ y. ord y ≡ Equal) (get_or-map f xs i d (f d) l) (h (f d))
+found_in_elements f ord [] (Err i) l h = λ rises. (λ k d z m. absurd (omega (arith, l, m)), λ k d m n. absurd (omega (arith, n)))
+found_in_elements f ord (x ∷ xs) (Err i) l h = λ rises.
+    let size : length (map f (x ∷ xs)) ≡ length (x ∷ xs) = length-map (x ∷ xs) f in
+    let parted = h (λ j k d m n. rw (get_or-map f (x ∷ xs) j x d (omega (arith, m, n, size)), get_or-map f (x ∷ xs) k x d (omega (arith, n, size))) (rises j k x m (omega (arith, n, size)))) in (
+      λ k d z m. subst (λ y. ord y ≡ Less) (get_or-map f (x ∷ xs) k d (f d) (omega (arith, m, l))) (parted.0 k (f d) z m),
+      λ k d m n. subst (λ y. ord y ≡ Greater) (get_or-map f (x ∷ xs) k d (f d) n) (parted.1 k (f d) m (omega (arith, n, size))),
+    )
+
+pub found_in_images : {X Y : Type 0} (f : X → Y) (ord : Y → Ordering) (xs : List X) (r : Result ℕ ℕ) → IsSearchInRange r (length xs) → IsBinarySearchResult (λ x. ord (f x)) xs r → IsBinarySearchResult ord (map f xs) r
+found_in_images f ord [] (Ok i) l h = absurd (omega (arith, l))
+found_in_images f ord (x ∷ xs) (Ok i) l h = λ d. subst (λ y. ord y ≡ Equal) (sym (get_or-map f (x ∷ xs) i x d l)) (h x)
+found_in_images f ord [] (Err i) l h = λ rises. (λ k d z m. absurd (omega (arith, l, m)), λ k d m n. absurd (omega (arith, n)))
+found_in_images f ord (x ∷ xs) (Err i) l h = λ rises.
+    let size : length (map f (x ∷ xs)) ≡ length (x ∷ xs) = length-map (x ∷ xs) f in
+    let parted = h (λ j k d m n. rw (← get_or-map f (x ∷ xs) j d (f d) (omega (arith, m, n)), ← get_or-map f (x ∷ xs) k d (f d) n) (rises j k (f d) m (omega (arith, n, size)))) in (
+      λ k d z m. subst (λ y. ord y ≡ Less) (sym (get_or-map f (x ∷ xs) k x d (omega (arith, m, l)))) (parted.0 k x z m),
+      λ k d m n. subst (λ y. ord y ≡ Greater) (sym (get_or-map f (x ∷ xs) k x d (omega (arith, n, size)))) (parted.1 k x m (omega (arith, n, size))),
+    )
+
+-- a search among the identifiers of processes is one among the processes
+pub searched : (ids : List (List ℕ)) (ps : List Process) (p : Process) (x : List ℕ) (r : Result ℕ ℕ) → ids ≡ map identifier ps → x ≡ identifier p → IsSearchInRange r (length ids) → IsBinarySearchResult (λ y. bytes_cmp y x) ids r
+    → IsBinarySearchResult (by_identifier p) ps r
+searched ids ps p x r e f within h =
+    found_in_elements identifier (λ y. bytes_cmp y (identifier p)) ps r (subst (λ n. IsSearchInRange r n) (ap (λ (is : List (List ℕ)). length is) e ∙ length-map ps identifier) within)
+    (subst (λ (is : List (List ℕ)). IsBinarySearchResult (λ y. bytes_cmp y (identifier p)) is r) e (subst (λ (y : List ℕ). IsBinarySearchResult (λ z. bytes_cmp z y) ids r) f h))
 
 -- a search by identifier that finds the process
 pub found_at : (ps : List Process) (p : Process) (i : ℕ) → identifiers_ascend ps ≡ true → i < length ps → IsBinarySearchResult (by_identifier p) ps (Ok i) → same_bytes p (get_or ps i p) ≡ true → position (same_bytes p) ps ≡ Some i

@@ -1,3 +1,2 @@
 pub mod Endpoints
-pub mod Ends
 pub mod Faults

@@ -9,11 +9,11 @@ ghost use Rattle.rapid_model.specs.Reading.{members_fault, bytes_fault, configur
 ghost use Rattle.rapid_config.specs.Faults.{ReportsOfFounders, ReportsOfBytes};
 
 use crate::joining::members_after;
-use crate::members::{MOST_MEMBERS, check_members, place_of};
+use crate::members::{MOST_MEMBERS, check_members, identifiers_of, place_of};
 use crate::reading::{check_head, chunk_at, members_in};
 use crate::spelling::spell;
 use crate::{ConfigError, ConfigId, Cut, Params, Stamp};
-use rapid_endpoint::Process;
+use rapid_endpoint::{Process, ProcessId};
 use sha2::{Digest, Sha256};
 use std::alloc::{AllocError, Global};
 use std::marker::Model;
@@ -21,20 +21,22 @@ use std::sync::ArcSlice;
 
 /// A configuration: a view of who the members are. It has a height, the identifier of the one
 /// before, the parameters, and at most 1,024 members. These ascend by identifier, and no two have
-/// one endpoint. Its identifier is computed once, when it is made. Copies share one list of
-/// members.
+/// one endpoint. Its identifier is computed once, when it is made, and the members' identifiers are
+/// put into a list of their own, in which members are looked for. Copies share both lists.
 #[derive(Debug, Drop)]
 pub struct Configuration {
     params: Params,
     height: u64,
     previous: ConfigId,
     members: ArcSlice<Process>,
+    identifiers: ArcSlice<ProcessId>,
     id: ConfigId,
 }
 
 impl Model for Configuration {
-    ghost use Rattle.std.specs.Prelude.{◌≡◌};
+    ghost use Rattle.std.specs.Prelude.{◌≡◌, map};
     ghost use Rattle.std.specs.Arc.{arc_slice_items};
+    ghost use Rattle.rapid_model.specs.Process.{identifier};
     ghost use Rattle.rapid_model.specs.Configuration.{Configuration as ModelConfiguration, IsConfiguration, configuration_id};
 
     ghost Value = { ModelConfiguration };
@@ -43,7 +45,8 @@ impl Model for Configuration {
 
     ghost invariant = { λ c.
         IsConfiguration (record { params = c.params; height = c.height; previous = c.previous; members = arc_slice_items c.members })
-        × (c.id ≡ configuration_id (record { params = c.params; height = c.height; previous = c.previous; members = arc_slice_items c.members })) };
+        × (c.id ≡ configuration_id (record { params = c.params; height = c.height; previous = c.previous; members = arc_slice_items c.members }))
+        × (arc_slice_items c.identifiers ≡ map identifier (arc_slice_items c.members)) };
 }
 
 /// The configuration of these parts.
@@ -62,11 +65,13 @@ pub(crate) fn assemble(
     previous.tell();
     let bytes = spell(alloc, params, height, previous, members.as_slice())?;
     let id = ConfigId::new(Sha256::digest(bytes.as_slice()));
+    let identifiers = identifiers_of(alloc, members.as_slice())?;
     Ok(Configuration {
         params,
         height,
         previous,
         members,
+        identifiers,
         id,
     })
 }
@@ -168,7 +173,8 @@ impl Configuration {
         ensures place { result ≡ position_of self.now process.now }
         ensures within { IfSome result (λ place. place < length self.now.members) }
     {
-        place_of(self.members.as_slice(), process)
+        let (identifiers, members) = (self.identifiers.as_slice(), self.members.as_slice());
+        place_of(identifiers, members, process)
     }
 
     /// Whether the process is a member.
@@ -206,23 +212,26 @@ impl Configuration {
         let Some(height) = self.height.checked_add(1) else {
             return Err(ConfigError::HeightFull);
         };
-        let members = members_after(alloc, self.members.as_slice(), cut.processes())?;
+        let changed = cut.processes().to_vec(alloc)?;
+        let members = members_after(alloc, self.members.as_slice(), changed.as_slice())?;
         let members = ArcSlice::from_vec(members)?;
         let next = assemble(alloc, self.params, height, self.id, members)?;
         next.tell();
         Ok(next)
     }
 
-    /// An equal configuration, which shares the list of members.
+    /// An equal configuration, which shares the lists.
     pub fn try_copy(&self, _alloc: Global) -> Result<Configuration, AllocError>
         ensures { IfOk result (λ c. c ≡ self.now) }
     {
         let members = self.members.clone()?;
+        let identifiers = self.identifiers.clone()?;
         Ok(Configuration {
             params: self.params,
             height: self.height,
             previous: self.previous,
             members,
+            identifiers,
             id: self.id,
         })
     }

@@ -1,12 +1,10 @@
 // Cuts: the processes that a view change removes or adds.
 
-ghost use Rattle.std.specs.Prelude.{◌≡◌, None, All, length, IfOk, IfErr, OnOk, MatchBool};
+ghost use Rattle.std.specs.Prelude.{◌≡◌, None, IfOk, IfErr, OnOk};
 ghost use Rattle.std.specs.Ordering.{as_partial_cmp};
 ghost use Rattle.std.specs.Cmp.{partial_equiv_from_equiv, partial_order_from_total};
-ghost use Rattle.std.specs.Cmp.Lexicographic.{slice_cmp};
 ghost use Rattle.std.proofs.lemmas.Cmp.{eq_by_cmp_equiv};
 ghost use Rattle.std.proofs.Common.{refl};
-ghost use Rattle.rapid_model.specs.Process.{IsProcess, process_cmp};
 ghost use Rattle.rapid_model.specs.Cut.{IsCut, is_ascending, cut_cmp, same_cut};
 ghost use Rattle.rapid_model.specs.Reading.{cut_fault};
 ghost use Rattle.rapid_model.proofs.Orders.{cuts_total};
@@ -15,29 +13,30 @@ ghost use Rattle.rapid_config.specs.Faults.{Reports};
 use crate::ConfigError;
 use crate::members::MOST_MEMBERS;
 use crate::told::tell_processes;
-use rapid_endpoint::Process;
+use rapid_endpoint::{Process, ProcessList};
 use std::alloc::{AllocError, Global};
 use std::cmp::Ordering;
 use std::marker::Model;
-use std::sync::ArcSlice;
+use std::sync::Arc;
 
 /// A cut: the processes that a view change removes or adds, strictly ascending, from 1 to 1,536 of
-/// them. Copies share one list. Cuts are ordered by the number of processes and then as lists,
-/// which is the order of their bytes.
+/// them. It keeps their bytes, and copies share these. Cuts are ordered by the number of processes
+/// and then as lists, which is the order of their bytes.
 #[derive(Debug, Drop)]
 pub struct Cut {
-    processes: ArcSlice<Process>,
+    // behind one pointer, since journals and outputs keep many cuts
+    processes: Arc<ProcessList, Global>,
 }
 
 impl Model for Cut {
-    ghost use Rattle.std.specs.Arc.{arc_slice_items};
+    ghost use Rattle.std.specs.Arc.{arc_value};
     ghost use Rattle.rapid_model.specs.Cut.{Cut as ModelCut, IsCut};
 
     ghost Value = { ModelCut };
 
-    ghost view = { λ c. arc_slice_items c.processes };
+    ghost view = { λ c. arc_value c.processes };
 
-    ghost invariant = { λ c. IsCut (arc_slice_items c.processes) };
+    ghost invariant = { λ c. IsCut (arc_value c.processes) };
 }
 
 /// Whether the processes strictly ascend.
@@ -45,19 +44,6 @@ fn ascend(processes: &[Process]) -> bool
     ensures { result ≡ is_ascending processes.now }
 {
     processes.is_sorted_by(|a, b| a < b)
-}
-
-/// How lists of one length compare: as the first processes that differ do.
-fn compare(mine: &[Process], others: &[Process]) -> Ordering
-    requires { length mine.now ≡ length others.now }
-    ensures { result ≡ slice_cmp process_cmp mine.now others.now }
-{
-    for place in 0..mine.len() {
-        if mine[place] != others[place] {
-            return mine[place].cmp(&others[place]);
-        }
-    }
-    Ordering::Equal
 }
 
 impl Cut {
@@ -86,16 +72,48 @@ impl Cut {
             return Err(ConfigError::NotSorted);
         }
         tell_processes(processes.as_slice());
-        let processes = ArcSlice::from_vec(processes)?;
+        let alloc = *processes.allocator();
+        let list = ProcessList::from_slice(alloc, processes.as_slice())?;
+        Ok(Cut::of(alloc, list)?)
+    }
+
+    /// The cut of these processes, whose bytes are not copied. The first that holds: `EmptyCut` if
+    /// there is none, `TooMany` if there are more than 1,536, `NotSorted` if they do not strictly
+    /// ascend. `OutOfMemory` comes only if none of them holds.
+    pub fn of_list(alloc: Global, list: ProcessList) -> Result<Cut, ConfigError>
+        ensures value { IfOk result (λ cut. cut ≡ list) }
+        ensures valid { IfOk result IsCut }
+        ensures allowed { OnOk result (cut_fault list ≡ None) }
+        ensures refused { IfErr result (Reports (cut_fault list)) }
+    {
+        if list.is_empty() {
+            return Err(ConfigError::EmptyCut);
+        }
+        if list.len() > Cut::MOST {
+            return Err(ConfigError::TooMany);
+        }
+        if !list.ascends() {
+            return Err(ConfigError::NotSorted);
+        }
+        list.tell();
+        Ok(Cut::of(alloc, list)?)
+    }
+
+    /// The cut of processes that are one.
+    fn of(alloc: Global, list: ProcessList) -> Result<Cut, AllocError>
+        requires { IsCut list }
+        ensures { IfOk result (λ cut. cut ≡ list) }
+    {
+        let processes = Arc::new(alloc, list)?;
         Ok(Cut { processes })
     }
 
     /// The processes, ascending.
-    pub fn processes(&self) -> &[Process]
+    pub fn processes(&self) -> &ProcessList
         ensures value { result.now ≡ self.now }
         ensures valid { IsCut self.now }
     {
-        self.processes.as_slice()
+        &self.processes
     }
 
     /// The value is a cut. It does nothing: what it ensures is for proofs.
@@ -110,7 +128,7 @@ impl Cut {
     pub fn try_copy(&self, _alloc: Global) -> Result<Cut, AllocError>
         ensures { IfOk result (λ cut. cut ≡ self.now) }
     {
-        let processes = self.processes.clone()?;
+        let processes = Arc::try_clone(&self.processes)?;
         Ok(Cut { processes })
     }
 }
@@ -122,7 +140,7 @@ impl PartialEq for Cut {
 
     fn eq(&self, other: &Cut) -> bool {
         let (mine, others) = (self.processes(), other.processes());
-        mine.len() == others.len() && compare(mine, others).is_eq()
+        mine.len() == others.len() && mine.compare(others).is_eq()
     }
 }
 
@@ -154,6 +172,6 @@ impl Ord for Cut {
         if mine.len() != others.len() {
             return mine.len().cmp(&others.len());
         }
-        compare(mine, others)
+        mine.compare(others)
     }
 }

@@ -1,28 +1,38 @@
-// The endpoints of some processes, as a set.
+// The endpoints of some processes.
 
-ghost use Rattle.std.specs.Prelude.{◌≡◌, true, false, IfOk, MatchOption};
+ghost use Rattle.std.specs.Prelude.{◌≡◌, IfOk};
 ghost use Rattle.rapid_model.specs.Configuration.{endpoints_differ};
 ghost use Rattle.rapid_config.specs.Endpoints.{AreEndpointsOf};
 
 use crate::endpoint_key::EndpointKey;
+use crate::references::References;
 use rapid_endpoint::Process;
 use std::alloc::{AllocError, Global};
 use std::collections::HashSet;
 
-/// The endpoints of the processes; none if two have one.
-pub(crate) fn endpoints_of(
-    alloc: Global,
-    processes: &[Process],
-) -> Result<Option<HashSet<EndpointKey>>, AllocError>
-    ensures { IfOk result
-        (λ o. MatchOption o (endpoints_differ processes.now ≡ false)
-        (λ set. (endpoints_differ processes.now ≡ true) × AreEndpointsOf processes.now set.keys)) }
+/// Whether no two processes have one endpoint.
+pub(crate) fn endpoints_differ(alloc: Global, processes: &[Process]) -> Result<bool, AllocError>
+    ensures { IfOk result (λ differ. differ ≡ endpoints_differ processes.now) }
 {
     let mut seen = HashSet::with_capacity(alloc, processes.len())?;
     for process in processes {
         if !seen.insert(EndpointKey::new(process.endpoint()))? {
-            return Ok(None);
+            return Ok(false);
         }
     }
-    Ok(Some(seen))
+    Ok(true)
+}
+
+/// The endpoints of the processes, as a set.
+pub(crate) fn endpoints_of(
+    alloc: Global,
+    processes: &References<'_>,
+) -> Result<HashSet<EndpointKey>, AllocError>
+    ensures { IfOk result (λ set. AreEndpointsOf processes.now set.keys) }
+{
+    let mut endpoints = HashSet::with_capacity(alloc, processes.len())?;
+    for place in 0..processes.len() {
+        endpoints.insert(EndpointKey::new(processes.at(place).endpoint()))?;
+    }
+    Ok(endpoints)
 }

@@ -12,6 +12,7 @@ ghost use Rattle.rapid_config.specs.Endpoints.{AreEndpointsOf};
 use crate::endpoint_key::EndpointKey;
 use crate::endpoints::endpoints_of;
 use crate::members::MOST_MEMBERS;
+use crate::references::References;
 use rapid_endpoint::Process;
 use std::alloc::{AllocError, Global};
 use std::collections::HashSet;
@@ -28,82 +29,80 @@ fn contains(processes: &[Process], process: &Process) -> bool
 }
 
 /// The processes that are not among others, which ascend.
-fn without(
+fn without<'a>(
     alloc: Global,
-    processes: &[Process],
+    processes: &'a [Process],
     others: &[Process],
-) -> Result<Vec<Process>, AllocError>
+) -> Result<References<'a>, AllocError>
     requires { IsTrue (is_ascending others.now) }
-    ensures { IfOk result (λ kept. kept.items ≡ filter (λ p. not (is_in others.now p)) processes.now) }
+    ensures { IfOk result (λ kept. kept ≡ filter (λ p. not (is_in others.now p)) processes.now) }
 {
-    let mut kept = Vec::with_capacity(alloc, processes.len())?;
+    let mut kept = References::new(alloc);
     for process in processes {
         if !contains(others, process) {
-            kept.push(*process)?;
+            kept.push(process)?;
         }
     }
     Ok(kept)
 }
 
 /// The place for a joiner among the members; none if its identifier is held.
-fn free_place(members: &[Process], joiner: &Process) -> Option<usize>
+fn free_place(members: &References<'_>, joiner: &Process) -> Option<usize>
     requires { IsTrue (identifiers_ascend members.now) }
     ensures { MatchOption result (list_any (same_identifier joiner.now) members.now ≡ true)
         (λ place. (place ≤ length members.now) × (list_any (same_identifier joiner.now) members.now ≡ false) × (insert members.now place joiner.now ≡ insert_process joiner.now members.now)) }
 {
-    match members.binary_search_by_key(&joiner.id(), |member| member.id()) {
+    match members.search(&joiner.id()) {
         Ok(_place) => None,
         Err(place) => Some(place),
     }
 }
 
 /// Lets a joiner in if there is room and nobody holds its identifier or its endpoint.
-fn admit(
-    members: &mut Vec<Process>,
+fn admit<'a>(
+    members: &mut References<'a>,
     endpoints: &mut HashSet<EndpointKey>,
-    joiner: &Process,
+    joiner: &'a Process,
 ) -> Result<(), AllocError>
-    requires members { AreMembers members.old.items }
-    requires endpoints { AreEndpointsOf members.old.items endpoints.old.keys }
+    requires members { AreMembers members.old }
+    requires endpoints { AreEndpointsOf members.old endpoints.old.keys }
     ensures admitted { OnOk result
-        (members.new.items ≡ (if not (collides members.old.items joiner.now) && nat_lt (length members.old.items) most_members then insert_process joiner.now members.old.items else members.old.items)) }
-    ensures members { OnOk result (AreMembers members.new.items) }
-    ensures endpoints { OnOk result (AreEndpointsOf members.new.items endpoints.new.keys) }
+        (members.new ≡ (if not (collides members.old joiner.now) && nat_lt (length members.old) most_members then insert_process joiner.now members.old else members.old)) }
+    ensures members { OnOk result (AreMembers members.new) }
+    ensures endpoints { OnOk result (AreEndpointsOf members.new endpoints.new.keys) }
 {
     if members.len() >= MOST_MEMBERS {
         return Ok(());
     }
-    let Some(place) = free_place(members.as_slice(), joiner) else {
+    let Some(place) = free_place(members, joiner) else {
         return Ok(());
     };
     if !endpoints.insert(EndpointKey::new(joiner.endpoint()))? {
         return Ok(());
     }
     joiner.tell();
-    members.insert(place, *joiner)?;
+    members.insert(place, joiner)?;
     Ok(())
 }
 
-/// The members after joiners, one after another.
-fn join_all(
+/// Lets joiners in, one after another.
+fn join_all<'a>(
     alloc: Global,
-    mut members: Vec<Process>,
-    joiners: &[Process],
-) -> Result<Vec<Process>, AllocError>
-    requires { AreMembers members.items }
-    ensures joined { IfOk result (λ next. next.items ≡ with_joiners members.items joiners.now) }
-    ensures valid { IfOk result (λ next. AreMembers next.items) }
+    members: &mut References<'a>,
+    joiners: &References<'a>,
+) -> Result<(), AllocError>
+    requires { AreMembers members.old }
+    ensures joined { OnOk result (members.new ≡ with_joiners members.old joiners.now) }
+    ensures valid { OnOk result (AreMembers members.new) }
 {
-    if joiners.is_empty() {
-        return Ok(members);
+    if joiners.len() == 0 {
+        return Ok(());
     }
-    let Some(mut endpoints) = endpoints_of(alloc, members.as_slice())? else {
-        unreachable!()
-    };
-    for joiner in joiners {
-        admit(&mut members, &mut endpoints, joiner)?;
+    let mut endpoints = endpoints_of(alloc, members)?;
+    for place in 0..joiners.len() {
+        admit(members, &mut endpoints, joiners.at(place))?;
     }
-    Ok(members)
+    Ok(())
 }
 
 /// The members that a cut makes of others: those outside the cut stay, and the others of the cut
@@ -119,7 +118,8 @@ pub(crate) fn members_after(
     ensures next { IfOk result (λ next. next.items ≡ next_members members.now cut.now) }
     ensures valid { IfOk result (λ next. AreMembers next.items) }
 {
-    let stayers = without(alloc, members, cut)?;
+    let mut next = without(alloc, members, cut)?;
     let joiners = without(alloc, cut, members)?;
-    join_all(alloc, stayers, joiners.as_slice())
+    join_all(alloc, &mut next, &joiners)?;
+    next.to_vec(alloc)
 }

@@ -11,6 +11,7 @@ mod joining;
 mod members;
 mod params;
 mod reading;
+mod references;
 mod spelling;
 mod stamp;
 mod told;

@@ -1,16 +1,18 @@
 // Lists of members: whether they may be one, and where a process stands in one.
 
-ghost use Rattle.std.specs.Prelude.{◌≡◌, ◌<◌, ◌≤◌, true, None, position, length, IsTrue, IfOk, IfErr, IfSome, OnOk};
-ghost use Rattle.rapid_model.specs.Process.{same_bytes};
+ghost use Rattle.std.specs.Prelude.{◌≡◌, ◌<◌, ◌≤◌, true, None, map, position, length, IsTrue, IfOk, IfErr, IfSome, OnOk};
+ghost use Rattle.std.specs.Arc.{arc_slice_items};
+ghost use Rattle.rapid_model.specs.Process.{identifier, same_bytes};
 ghost use Rattle.rapid_model.specs.Configuration.{AreMembers, identifiers_ascend};
 ghost use Rattle.rapid_model.specs.Reading.{members_fault};
 ghost use Rattle.rapid_config.specs.Faults.{ReportsOfFounders};
 
 use crate::ConfigError;
-use crate::endpoints::endpoints_of;
+use crate::endpoints::endpoints_differ;
 use crate::told::tell_processes;
-use rapid_endpoint::Process;
-use std::alloc::Global;
+use rapid_endpoint::{Process, ProcessId};
+use std::alloc::{AllocError, Global};
+use std::sync::ArcSlice;
 
 /// The most members of a configuration.
 pub(crate) const MOST_MEMBERS: usize = 1024;
@@ -37,20 +39,40 @@ pub(crate) fn check_members(alloc: Global, processes: &[Process]) -> Result<(), 
     if !identifiers_ascend(processes) {
         return Err(ConfigError::NotSorted);
     }
-    if endpoints_of(alloc, processes)?.is_none() {
+    if !endpoints_differ(alloc, processes)? {
         return Err(ConfigError::EndpointTwice);
     }
     tell_processes(processes);
     Ok(())
 }
 
-/// The place of a process among members, from 0.
-pub(crate) fn place_of(members: &[Process], process: &Process) -> Option<usize>
-    requires { IsTrue (identifiers_ascend members.now) }
+/// The identifiers of members, in their order. They stand close together, so a search among them
+/// reads little memory.
+pub(crate) fn identifiers_of(
+    alloc: Global,
+    members: &[Process],
+) -> Result<ArcSlice<ProcessId>, AllocError>
+    ensures { IfOk result (λ identifiers. arc_slice_items identifiers ≡ map identifier members.now) }
+{
+    let mut identifiers = Vec::with_capacity(alloc, members.len())?;
+    for member in members {
+        identifiers.push(member.id())?;
+    }
+    ArcSlice::from_vec(identifiers)
+}
+
+/// The place of a process among members, from 0. The identifiers are those of the members.
+pub(crate) fn place_of(
+    identifiers: &[ProcessId],
+    members: &[Process],
+    process: &Process,
+) -> Option<usize>
+    requires ascend { IsTrue (identifiers_ascend members.now) }
+    requires identifiers { identifiers.now ≡ map identifier members.now }
     ensures place { result ≡ position (same_bytes process.now) members.now }
     ensures within { IfSome result (λ place. place < length members.now) }
 {
-    match members.binary_search_by_key(&process.id(), |member| member.id()) {
+    match identifiers.binary_search(&process.id()) {
         Ok(place) => {
             if *process == members[place] {
                 Some(place)

@@ -6,14 +6,14 @@ ghost use Rattle.rapid_model.specs.Process.{same_bytes, process_at};
 ghost use Rattle.rapid_model.specs.Configuration.{magic, AreMembers};
 ghost use Rattle.rapid_model.specs.Reading.{params_in, count_in, configuration_in, processes_at, read_in, read_fault, members_fault, bytes_fault};
 ghost use Rattle.rapid_model.specs.Limits.{most_members};
+ghost use Rattle.rapid_endpoint.specs.Ends.{EndsAt, AreAll};
 ghost use Rattle.rapid_endpoint.specs.ReadErrors.{Gives};
-ghost use Rattle.rapid_config.specs.Ends.{EndsAt, AreAll};
 ghost use Rattle.rapid_config.specs.Faults.{ReportsOfBytes};
 
 use crate::members::{MOST_MEMBERS, check_members};
 use crate::spelling::{HEAD_BYTES, MAGIC};
 use crate::{ConfigError, Params};
-use rapid_endpoint::{Process, ReadError};
+use rapid_endpoint::{Endpoint, Process, ProcessId, ProcessList, ReadError};
 use std::alloc::{AllocError, Global};
 use std::sync::ArcSlice;
 
@@ -65,29 +65,15 @@ fn read_head(bytes: &[u8]) -> Result<(Params, usize), ConfigError>
     Ok((params, count))
 }
 
-/// The process from a place on, and the place behind it.
-fn process_from(bytes: &[u8], at: usize) -> Result<(Process, usize), ReadError>
-    requires { at ≤ length bytes.now }
-    ensures read { Gives (λ r. (r.0, drop r.1 bytes.now)) result (process_at (drop at bytes.now)) }
-    ensures within { IfOk result (λ r. r.1 ≤ length bytes.now) }
-{
-    match Process::read(&bytes[at..]) {
-        Ok((process, length)) => Ok((process, at + length)),
-        Err(error) => Err(error),
-    }
-}
-
 /// The place behind this many processes, which begin behind the head.
 fn end_of_members(count: usize, bytes: &[u8]) -> Result<usize, ReadError>
     requires { 49 ≤ length bytes.now }
     ensures { EndsAt bytes.now result (processes_at count (drop 49 bytes.now)) }
 {
-    let mut at = HEAD_BYTES;
-    for _ in 0..count {
-        let (_member, next) = process_from(bytes, at)?;
-        at = next;
+    match ProcessList::end_in(count, &bytes[HEAD_BYTES..]) {
+        Ok(length) => Ok(HEAD_BYTES + length),
+        Err(error) => Err(error),
     }
-    Ok(at)
 }
 
 /// Whether this many members are all that stands behind the head.
@@ -121,16 +107,30 @@ pub(crate) fn check_head(bytes: &[u8]) -> Result<(Params, usize), ConfigError>
     Ok((params, count))
 }
 
-/// The members behind the head, one after another.
+/// Reads the process that begins at a place over this one, and says where it ends.
+fn read_from(process: &mut Process, bytes: &[u8], at: usize) -> Result<usize, ReadError>
+    requires { at ≤ length bytes.now }
+    ensures read { Gives (λ next. (process.new, drop next bytes.now)) result (process_at (drop at bytes.now)) }
+    ensures within { IfOk result (λ next. next ≤ length bytes.now) }
+{
+    match process.read_over(&bytes[at..]) {
+        Ok(length) => Ok(at + length),
+        Err(error) => Err(error),
+    }
+}
+
+/// The members behind the head, one after another. They are read over one process, so that each is
+/// copied once.
 fn read_members(alloc: Global, count: usize, bytes: &[u8]) -> Result<Vec<Process>, AllocError>
     requires long { 49 ≤ length bytes.now }
     requires all { AreAll (processes_at count (drop 49 bytes.now)) }
     ensures { IfOk result (λ members. members.items ≡ read_in (processes_at count (drop 49 bytes.now))) }
 {
     let mut members = Vec::with_capacity(alloc, count)?;
+    let mut member = Process::new(ProcessId::new([0; 16]), Endpoint::new([0; 4], 0));
     let mut at = HEAD_BYTES;
     for _ in 0..count {
-        let Ok((member, next)) = process_from(bytes, at) else {
+        let Ok(next) = read_from(&mut member, bytes, at) else {
             unreachable!()
         };
         members.push(member)?;

@@ -1,6 +1,7 @@
 // The canonical bytes of configurations.
 
-ghost use Rattle.std.specs.Prelude.{◌≡◌, ◌≤◌, length, IfOk};
+ghost use Rattle.std.specs.Prelude.{◌≡◌, ◌+◌, ◌≤◌, length, IfOk};
+ghost use Rattle.std.specs.List.{concat};
 ghost use Rattle.rapid_model.specs.Configuration.{configuration_bytes};
 ghost use Rattle.rapid_model.specs.Limits.{most_members};
 
@@ -14,8 +15,17 @@ pub(crate) const MAGIC: [u8; 4] = [0x52, 0x50, 0x43, 0x32];
 /// How many bytes stand before those of the members.
 pub(crate) const HEAD_BYTES: usize = 49;
 
-/// How many bytes a member without tags has.
-const LEAST_MEMBER_BYTES: usize = 23;
+/// How many bytes the configuration of these members has.
+fn bytes_len(members: &[Process]) -> usize
+    requires { length members.now ≤ most_members }
+    ensures { result ≡ 49 + length (concat members.now) }
+{
+    let mut bytes = HEAD_BYTES;
+    for member in members {
+        bytes += member.length();
+    }
+    bytes
+}
 
 /// The canonical bytes of the configuration of these parts.
 pub(crate) fn spell(
@@ -30,7 +40,7 @@ pub(crate) fn spell(
         (λ bytes. bytes.items ≡ configuration_bytes (record { params = params; height = height; previous = previous; members = members.now })) }
 {
     let count = members.len() as u16;
-    let mut bytes = Vec::with_capacity(alloc, HEAD_BYTES + LEAST_MEMBER_BYTES * members.len())?;
+    let mut bytes = Vec::with_capacity(alloc, bytes_len(members))?;
     bytes.extend_from_slice(&MAGIC)?;
     bytes.extend_from_slice(&previous.bytes())?;
     bytes.extend_from_slice(&height.to_be_bytes())?;

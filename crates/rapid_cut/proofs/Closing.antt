@@ -1,5 +1,5 @@
 -- Least closed sets, and what is implied.
-use Rattle.std.proofs.Common.{◌≡◌, ℕ, ◌≤◌, ◌<◌, Bool, true, false, not, ◌&&◌, ◌||◌, List, refl, ◌⊎◌, inl, inr, arith, nat_lt, nat_le}
+use Rattle.std.proofs.Common.{◌≡◌, ℕ, ◌≤◌, ◌<◌, true, ◌&&◌, List, arith, nat_lt, nat_le}
 use Rattle.std.specs.Cmp.{both_ways}
 use Rattle.std.specs.FinSet as set
 use Rattle.rapid_model.specs.Process.{Process, is_in}

@@ -1,5 +1,5 @@
 -- Who is listed as stable or unstable, and when there is a cut.
-use Rattle.std.proofs.Common.{◌≡◌, ◌↔◌, ◌≤◌, ◌<◌, ◌⊎◌, inl, inr, ℕ, Bool, true, List, [], ◌∷◌, filter, refl, sym, ap, subst, ◌∙◌, Some, None, nat_lt, nat_le, arith}
+use Rattle.std.proofs.Common.{◌≡◌, ◌↔◌, ◌≤◌, ◌⊎◌, inl, inr, Bool, true, List, [], ◌∷◌, filter, refl, sym, ap, subst, ◌∙◌, Some, None, nat_lt, nat_le, arith}
 use Rattle.std.specs.Prelude.{Contains}
 use Rattle.std.specs.List.{list_all, AllByRecursion}
 use Rattle.std.specs.List.Sorted.{IsStrictlySortedBy}
@@ -8,19 +8,19 @@ use Rattle.std.specs.declared.cmp.Ordering.TheVariants.{Less, Equal, Greater}
 use Rattle.std.specs.Cmp.{both_ways}
 use Rattle.std.specs.Ordering.{is_lt}
 use Rattle.std.proofs.lemmas.List.Kept.{IsStrictlySortedBy-filter}
-use Rattle.rapid_model.specs.Process.{Process, process_cmp, is_in, same_bytes}
+use Rattle.rapid_model.specs.Process.{Process, process_cmp, is_in}
 use Rattle.rapid_model.specs.Cut.{Cut, is_ascending}
 use Rattle.rapid_model.specs.Ring.{Observers, AreObservers}
 use Rattle.rapid_model.specs.Reports.{Reports, subjects, tally, reaches_low, is_stable, is_unstable, reports, stable, unstable, cut_if, cut_of}
-use Rattle.rapid_model.proofs.Lists.{In, in_from, contains_from}
+use Rattle.rapid_model.proofs.Lists.{in_from, contains_from}
 use Rattle.rapid_model.proofs.InOrder.{ascends, same_sorted}
-use Rattle.rapid_model.proofs.Orders.{processes_total, processes_exact, same_bytes_decides}
+use Rattle.rapid_model.proofs.Orders.{processes_total, processes_exact}
 use Rattle.rapid_cut.specs.Laws.{reports_on, HasHigh, IsBetweenMarks, AreListed, AreAllStable, NoneIsReady}
 use Rattle.rapid_cut.proofs.OnePass.{low_before}
 use Rattle.rapid_cut.proofs.Joiners.{sorted_subjects}
 use Rattle.rapid_cut.proofs.Active.{low_active}
 use Rattle.rapid_model.proofs.Among.{among_is, is_among, cut_parts, filter_among}
-use Rattle.std.proofs.lemmas.Bool.{leb-true, le-leb, ltb-true, lt-ltb, and_parts, and_from, or_cases, or_left, or_right}
+use Rattle.std.proofs.lemmas.Bool.{leb-true, le-leb, ltb-true, lt-ltb, and_parts, and_from}
 
 -- ---- who stands in a list
 

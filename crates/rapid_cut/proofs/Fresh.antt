@@ -104,6 +104,16 @@ puts_adds s old new mask rings more at is puts q = puts q ∙ inside (same_bytes
         is q.1 ∙ turn (has_ring mask q.1) (has_ring rings q.1) ∙ ap (λ b. has_ring rings q.1 || b) (sym (at q.1) ∙ ap (λ (p : Process). set.contains old (p, q.1)) ((same_bytes_decides s q.0).0 e))
     inside false e = refl
 
+-- what is said of a process is said of an equal one
+pub noted_for : (part : Masks → ℕ) (xs ys : List Added) (s p : Process) (rings : ℕ) → s ≡ p → ((q : Report) → is_added part ys q ≡ (is_added part xs q || is_for s rings q)) → (q : Report) → is_added part ys q ≡ (is_added part xs q || is_for p rings q)
+noted_for part xs ys s p rings e h q = h q ∙ ap (λ (r : Process). is_added part xs q || is_for r rings q) e
+
+pub puts_for : (s p : Process) (mask : ℕ) (old new : Reports) → s ≡ p → PutsMask s mask old new → PutsMask p mask old new
+puts_for s p mask old new e h q = h q ∙ ap (λ (r : Process). cond (same_bytes r q.0) (has_ring mask q.1) (set.contains old q)) e
+
+pub takes_for : (s p : Process) (mask : ℕ) (old new : Reports) → s ≡ p → TakesOut s mask old new → TakesOut p mask old new
+takes_for s p mask old new e h q = h q ∙ ap (λ (r : Process). not (is_for r mask q) && set.contains old q) e
+
 -- rings that are not there are noted
 pub without_noted : (part : Masks → ℕ) (r : Reports) (xs ys : List Added) (a : Added) (rings : ℕ) → ((q : Report) → is_added part ys q ≡ (is_added part xs q || is_for a.subject (part a.rings) q)) → ((q : Report) → is_for a.subject (part a.rings) q ≡ (is_for a.subject rings q && not (set.contains r q)))
     → without_added part r ys ≡ without_added part r xs

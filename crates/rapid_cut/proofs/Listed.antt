@@ -1,7 +1,5 @@
 -- Lists of masks, and what a change of one entry makes of them.
 use Rattle.std.proofs.Common.{◌≡◌, ℕ, zero, suc, ◌+◌, ◌<◌, Bool, true, false, cond, List, [], ◌∷◌, ◌++◌, length, take, set, get_or, Option, Some, None, is_some, refl, sym, ap, ◌∙◌, arith}
-use Rattle.std.specs.Cmp.{eq_by_cmp_equiv}
-use Rattle.std.proofs.lemmas.Cmp.{nat_list_cmp_total}
 use Rattle.std.proofs.lemmas.List.{take_more, append-nil}
 use Rattle.rapid_model.specs.Process.{Process, same_bytes}
 use Rattle.rapid_model.proofs.Orders.{same_bytes_decides}

@@ -18,6 +18,7 @@ use crate::closure::{active_with, close_grown, tally};
 use crate::growing::GrowingReports;
 use crate::in_turn::{EachAlert, InTurn};
 use crate::reports::KnownReports;
+use crate::shared_list::SharedList;
 use crate::taken::{TakenAlerts, take_all};
 use rapid_alerts::{Alert, AlertList};
 use rapid_config::{ConfigError, Cut};
@@ -147,33 +148,33 @@ fn settle<T: ObserverTable>(
     alloc: Global,
     table: &T,
     known: &mut GrowingReports,
-    active: &mut Vec<Process>,
+    active: &mut SharedList,
     grown: &[Process],
 ) -> Result<Option<Cut>, AllocError>
     requires rules { AreObservers (T.observers table.now) }
     requires known { IsBetween (T.observers table.now) known.old.reports.direct known.old.reports.all }
     requires limits { IsWithinLimits (T.observers table.now) known.old.reports.direct }
-    requires low { (q : Bytes) → model.reaches_low (T.observers table.now) known.old.reports.direct (Some q) ≡ (is_in active.old.items q || is_in grown.now q) }
-    requires active { IsStrictlySortedBy process_cmp active.old.items }
+    requires low { (q : Bytes) → model.reaches_low (T.observers table.now) known.old.reports.direct (Some q) ≡ (is_in active.old q || is_in grown.now q) }
+    requires active { IsStrictlySortedBy process_cmp active.old }
     requires grown { IsStrictlySortedBy process_cmp grown.now }
     requires come { HaveCome (T.observers table.now) known.old.reports.direct known.old.reports.all grown.now }
     requires closed { grown.now ≡ [] → known.old.reports.all ≡ model.reports (T.observers table.now) known.old.reports.direct }
-    requires listed { grown.now ≡ [] → active.old.items ≡ active_of (T.observers table.now) known.old.reports.direct }
+    requires listed { grown.now ≡ [] → active.old ≡ active_of (T.observers table.now) known.old.reports.direct }
     ensures direct { OnOk result (known.new.reports.direct ≡ known.old.reports.direct) }
     ensures detecting { OnOk result (IsDetecting (T.observers table.now) known.old.reports.direct known.new.reports.all) }
-    ensures listed { OnOk result (active.new.items ≡ active_of (T.observers table.now) known.old.reports.direct) }
+    ensures listed { OnOk result (active.new ≡ active_of (T.observers table.now) known.old.reports.direct) }
     ensures cut { IfOk result (λ cut. cut ≡ model.cut_of (T.observers table.now) known.old.reports.direct) }
-    ensures active { OnErr result (active.new.items ≡ active.old.items) }
+    ensures active { OnErr result (active.new ≡ active.old) }
     ensures before { before known.new ≡ before known.old }
 {
     // who has L reports is as before, so nothing more is implied
     if grown.is_empty() {
-        return cut_of(alloc, table, &known.reports, active);
+        return cut_of(alloc, table, &known.reports, active.as_slice());
     }
-    let more = active_with(alloc, table, &known.reports, active, grown)?;
+    let more = active_with(alloc, table, &known.reports, active.as_slice(), grown)?;
     close_grown(table, &more, grown, known)?;
     let cut = cut_of(alloc, table, &known.reports, &more)?;
-    *active = more;
+    *active = SharedList::of(more)?;
     Ok(cut)
 }
 
@@ -182,19 +183,19 @@ fn take_batch<T: ObserverTable, A: InTurn>(
     alloc: Global,
     table: &T,
     known: &mut GrowingReports,
-    active: &mut Vec<Process>,
+    active: &mut SharedList,
     joiners: usize,
     alerts: &A,
 ) -> Result<Advance, AllocError>
     requires detecting { IsDetecting (T.observers table.now) known.old.reports.direct known.old.reports.all }
-    requires active { active.old.items ≡ active_of (T.observers table.now) known.old.reports.direct }
+    requires active { active.old ≡ active_of (T.observers table.now) known.old.reports.direct }
     requires joiners { joiners ≡ length (detector.joiners (T.observers table.now) known.old.reports.direct) }
     ensures direct { OnOk result (known.new.reports.direct ≡ detector.with_alerts known.old.reports.direct (detector.taken (T.observers table.now) known.old.reports.direct (A.alerts alerts.now))) }
-    ensures known { IfOk result (λ advance. IsKept (T.observers table.now) known.new.reports.direct known.new.reports.all active.new.items advance.joiners (is_some advance.cut)) }
+    ensures known { IfOk result (λ advance. IsKept (T.observers table.now) known.new.reports.direct known.new.reports.all active.new advance.joiners (is_some advance.cut)) }
     ensures cut { IfOk result (λ advance. advance.cut ≡ model.cut_of (T.observers table.now) known.new.reports.direct) }
     ensures count { IfOk result (λ advance. advance.count ≡ length (detector.taken (T.observers table.now) known.old.reports.direct (A.alerts alerts.now))) }
     ensures bound { IfOk result (λ advance. advance.count ≤ length (A.alerts alerts.now)) }
-    ensures active { OnErr result (active.new.items ≡ active.old.items) }
+    ensures active { OnErr result (active.new ≡ active.old) }
     ensures before { before known.new ≡ before known.old }
 {
     let TakenAlerts {
@@ -222,7 +223,7 @@ fn take_batch<T: ObserverTable, A: InTurn>(
 pub struct Detector<T: ObserverTable> {
     table: T,
     known: GrowingReports,
-    active: Vec<Process>,
+    active: SharedList,
     joiners: usize,
     closed: bool,
     skipped: usize,
@@ -241,7 +242,7 @@ impl<T: ObserverTable> Model for Detector<T> {
 
     ghost view = { λ d. record { table = d.table; detector = record { direct = d.known.reports.direct; closed = d.closed; skipped = d.skipped } } };
 
-    ghost invariant = { λ d. IsKept (T.observers d.table) d.known.reports.direct d.known.reports.all d.active.items d.joiners d.closed × (before d.known ≡ d.known.reports) };
+    ghost invariant = { λ d. IsKept (T.observers d.table) d.known.reports.direct d.known.reports.all d.active d.joiners d.closed × (before d.known ≡ d.known.reports) };
 }
 
 impl<T: ObserverTable> Detector<T> {
@@ -254,7 +255,7 @@ impl<T: ObserverTable> Detector<T> {
         Detector {
             table,
             known: GrowingReports::new(alloc),
-            active: Vec::new(alloc),
+            active: SharedList::new(),
             joiners: 0,
             closed: false,
             skipped: 0,
@@ -338,7 +339,12 @@ impl<T: ObserverTable> Detector<T> {
     pub fn unstable(&self) -> Result<Vec<Process>, AllocError>
         ensures { IfOk result (λ found. found.items ≡ model.unstable (T.observers self.now.table) self.now.detector.direct) }
     {
-        unstable_ones(self.alloc, &self.table, &self.known.reports, &self.active)
+        unstable_ones(
+            self.alloc,
+            &self.table,
+            &self.known.reports,
+            self.active.as_slice(),
+        )
     }
 
     /// An equal detector over a table that says the same, as another share of one table does.
@@ -353,7 +359,7 @@ impl<T: ObserverTable> Detector<T> {
         Ok(Detector {
             table,
             known: self.known.try_copy(self.alloc)?,
-            active: self.active.clone()?,
+            active: self.active.try_copy()?,
             joiners: self.joiners,
             closed: self.closed,
             skipped: self.skipped,

@@ -4,6 +4,7 @@ ghost use Rattle.std.specs.Prelude.{◌≡◌, ℕ, ◌++◌, ◌∷◌, [], Non
 ghost use Rattle.rapid_model.specs.Process.{Process as Bytes, same_bytes};
 ghost use Rattle.rapid_cut.specs.Listed.{masks_at, StandsAt};
 
+use crate::kept::Kept;
 use crate::mask::Masks;
 use rapid_endpoint::Process;
 use rapid_rings::ProcessKey;
@@ -12,12 +13,12 @@ use std::collections::HashMap;
 
 /// The place of the first entry of a process, if there is one.
 #[inline(always)]
-pub fn place_in(entries: &[(Process, Masks)], subject: &Process) -> Option<usize>
+pub fn place_in(entries: &[(Kept, Masks)], subject: &Process) -> Option<usize>
     ensures found { IfSome result (StandsAt entries.now subject.now) }
     ensures none { IfNone result (masks_at entries.now subject.now ≡ None) }
 {
     for place in 0..entries.len() {
-        if *subject == entries[place].0 {
+        if entries[place].0.is(subject) {
             return Some(place);
         }
     }
@@ -27,13 +28,13 @@ pub fn place_in(entries: &[(Process, Masks)], subject: &Process) -> Option<usize
 /// A map with the masks that the list has.
 pub fn map_of(
     alloc: Global,
-    entries: &[(Process, Masks)],
+    entries: &[(Kept, Masks)],
 ) -> Result<HashMap<ProcessKey, Masks>, AllocError>
     ensures { IfOk result (λ map. (q : Bytes) → masks_at map.entries q ≡ masks_at entries.now q) }
 {
     let mut map = HashMap::new(alloc);
     for (subject, masks) in entries {
-        let key = ProcessKey::new(*subject);
+        let key = ProcessKey::new(*subject.get());
         if !map.contains_key(&key) {
             map.insert(key, *masks)?;
         }
@@ -68,8 +69,8 @@ pub fn put_in(
 /// stay as short.
 #[inline(never)]
 pub fn push_to(
-    entries: &mut Vec<(Process, Masks)>,
-    subject: &Process,
+    entries: &mut Vec<(Kept, Masks)>,
+    subject: &Kept,
     masks: Masks,
 ) -> Result<(), AllocError>
     ensures pushed { OnOk result (entries.new.items ≡ entries.old.items ++ (subject.now, masks) ∷ []) }
@@ -78,23 +79,30 @@ pub fn push_to(
     if entries.is_empty() {
         entries.reserve_exact(1)?;
     }
-    entries.push((*subject, masks))?;
+    entries.push((subject.share()?, masks))?;
     Ok(())
 }
 
 /// The same entries, with room for some more. An empty list takes no memory.
-pub fn copy_of(
-    alloc: Global,
-    entries: &[(Process, Masks)],
-) -> Result<Vec<(Process, Masks)>, AllocError>
+pub fn copy_of(alloc: Global, entries: &[(Kept, Masks)]) -> Result<Vec<(Kept, Masks)>, AllocError>
     ensures { IfOk result (λ copy. copy.items ≡ entries.now) }
 {
     let mut copy = Vec::new(alloc);
     if !entries.is_empty() {
         copy.reserve(entries.len().saturating_add(MORE))?;
-        copy.extend_from_slice(entries)?;
+        share_all(&mut copy, entries)?;
     }
     Ok(copy)
+}
+
+/// Adds the same entries.
+fn share_all(copy: &mut Vec<(Kept, Masks)>, entries: &[(Kept, Masks)]) -> Result<(), AllocError>
+    ensures { OnOk result (copy.new.items ≡ copy.old.items ++ entries.now) }
+{
+    for (subject, masks) in entries {
+        copy.push((subject.share()?, *masks))?;
+    }
+    Ok(())
 }
 
 /// For how many more entries a copy has room.

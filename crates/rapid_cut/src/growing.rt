@@ -7,15 +7,16 @@ ghost use Rattle.rapid_cut.specs.declared.mask.Masks as masks;
 ghost use Rattle.rapid_alerts.specs.RingMasks.{has_ring};
 ghost use Rattle.rapid_cut.specs.Growing.{AddsRings, is_for, is_added, all_added, without_all, before};
 
+use crate::kept::Kept;
 use crate::mask::Masks;
 use crate::reports::KnownReports;
 use rapid_endpoint::Process;
 use std::alloc::{AllocError, Global};
 
 /// Rings for which reports on a process were added.
-#[derive(Clone, Copy, Debug)]
+#[derive(Debug, Drop)]
 struct Added {
-    subject: Process,
+    subject: Kept,
     rings: Masks,
 }
 
@@ -53,8 +54,9 @@ impl GrowingReports {
         ensures before { before self.new ≡ before self.old }
     {
         let added = rings.without(so_far);
-        note_joined(&mut self.last, &mut self.others, subject, added)?;
-        self.reports.put(subject, so_far.with(rings))?;
+        let subject = self.reports.kept(subject)?;
+        note_joined(&mut self.last, &mut self.others, &subject, added)?;
+        self.reports.put(&subject, so_far.with(rings))?;
         Ok(())
     }
 
@@ -72,8 +74,8 @@ impl GrowingReports {
         ensures reports { self.new.reports ≡ before self.old }
         ensures kept { before self.new ≡ self.new.reports }
     {
-        if let Some(added) = self.last {
-            self.reports.take_out(&added.subject, added.rings);
+        if let Some(added) = &self.last {
+            self.reports.take_out(added.subject.get(), added.rings);
         }
         take_out(&mut self.reports, self.others.as_slice());
         self.last = None;
@@ -99,7 +101,7 @@ fn take_out(reports: &mut KnownReports, others: &[Added])
     ensures { reports.new ≡ without_all reports.old others.now }
 {
     for added in others {
-        reports.take_out(&added.subject, added.rings);
+        reports.take_out(added.subject.get(), added.rings);
     }
 }
 
@@ -107,7 +109,7 @@ fn take_out(reports: &mut KnownReports, others: &[Added])
 fn note_joined(
     last: &mut Option<Added>,
     others: &mut Vec<Added>,
-    subject: &Process,
+    subject: &Kept,
     rings: Masks,
 ) -> Result<(), AllocError>
     ensures direct { OnOk result ((x : Report) → is_added (λ m. m.direct) (all_added last.new others.new.items) x ≡ (is_added (λ m. m.direct) (all_added last.old others.old.items) x || is_for subject.now rings.direct x)) }
@@ -115,7 +117,7 @@ fn note_joined(
     ensures unchanged { OnErr result (all_added last.new others.new.items ≡ all_added last.old others.old.items) }
 {
     if let Some(noted) = last {
-        if noted.subject == *subject {
+        if noted.subject.is(subject.get()) {
             noted.rings = noted.rings.with(rings);
             return Ok(());
         }
@@ -128,18 +130,22 @@ fn note_joined(
 fn note(
     last: &mut Option<Added>,
     others: &mut Vec<Added>,
-    subject: &Process,
+    subject: &Kept,
     rings: Masks,
 ) -> Result<(), AllocError>
     ensures more { OnOk result ((part : masks.Masks → ℕ) (x : Report) → is_added part (all_added last.new others.new.items) x ≡ (is_added part (all_added last.old others.old.items) x || is_for subject.now (part rings) x)) }
     ensures unchanged { OnErr result (all_added last.new others.new.items ≡ all_added last.old others.old.items) }
 {
-    if let Some(noted) = *last {
-        others.push(noted)?;
-    }
-    *last = Some(Added {
-        subject: *subject,
+    let added = Added {
+        subject: subject.share()?,
         rings,
-    });
+    };
+    if let Some(noted) = last {
+        others.push(Added {
+            subject: noted.subject.share()?,
+            rings: noted.rings,
+        })?;
+    }
+    *last = Some(added);
     Ok(())
 }

@@ -10,8 +10,10 @@ mod detector;
 mod few;
 mod growing;
 mod in_turn;
+mod kept;
 mod mask;
 mod reports;
+mod shared_list;
 mod taken;
 
 pub use detector::Detector;

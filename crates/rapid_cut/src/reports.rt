@@ -6,6 +6,7 @@ ghost use Rattle.rapid_cut.specs.Growing.{PutsMask, TakesOut};
 ghost use Rattle.rapid_alerts.specs.RingMasks.{has_ring};
 
 use crate::few::{copy_of, map_of, masks_in, place_in, push_to, put_in};
+use crate::kept::Kept;
 use crate::mask::Masks;
 use rapid_endpoint::Process;
 use rapid_rings::ProcessKey;
@@ -25,7 +26,7 @@ const NONE: Masks = Masks { direct: 0, all: 0 };
 /// then in a map.
 #[derive(Debug, Drop)]
 pub struct KnownReports {
-    few: Vec<(Process, Masks)>,
+    few: Vec<(Kept, Masks)>,
     many: HashMap<ProcessKey, Masks>,
     alloc: Global,
 }
@@ -68,18 +69,29 @@ impl KnownReports {
         masks_in(&self.many, subject).unwrap_or(NONE)
     }
 
+    /// The process. The list shares it if it is there.
+    pub fn kept(&self, subject: &Process) -> Result<Kept, AllocError>
+        ensures { IfOk result (λ kept. kept ≡ subject.now) }
+    {
+        match place_in(self.few.as_slice(), subject) {
+            Some(place) => self.few[place].0.share(),
+            None => Kept::new(self.alloc, subject),
+        }
+    }
+
     /// Puts these rings in the place of those of the reports on the process.
-    pub fn put(&mut self, subject: &Process, masks: Masks) -> Result<(), AllocError>
+    pub fn put(&mut self, subject: &Kept, masks: Masks) -> Result<(), AllocError>
         ensures direct { OnOk result (PutsMask subject.now masks.direct self.old.direct self.new.direct) }
         ensures all { OnOk result (PutsMask subject.now masks.all self.old.all self.new.all) }
         ensures unchanged { OnErr result (self.new ≡ self.old) }
     {
-        if let Some(place) = place_in(self.few.as_slice(), subject) {
+        let process = subject.get();
+        if let Some(place) = place_in(self.few.as_slice(), process) {
             self.few[place].1 = masks;
             return Ok(());
         }
         if !self.many.is_empty() {
-            put_in(&mut self.many, subject, masks)?;
+            put_in(&mut self.many, process, masks)?;
             return Ok(());
         }
         if self.few.len() < FEW {
@@ -87,7 +99,7 @@ impl KnownReports {
             return Ok(());
         }
         let mut many = map_of(self.alloc, self.few.as_slice())?;
-        put_in(&mut many, subject, masks)?;
+        put_in(&mut many, process, masks)?;
         self.many = many;
         self.few.clear();
         Ok(())

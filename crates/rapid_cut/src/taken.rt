@@ -119,6 +119,10 @@ fn list(grown: &mut Vec<Process>, comes_to_low: bool, subject: &Process) -> Resu
     ensures { OnOk result (grown.new.items ≡ (if comes_to_low then grown.old.items ++ subject.now ∷ [] else grown.old.items)) }
 {
     if comes_to_low {
+        // mostly one alone comes to it
+        if grown.is_empty() {
+            grown.reserve_exact(1)?;
+        }
         grown.push(*subject)?;
     }
     Ok(())

@@ -7,7 +7,7 @@ ghost use Rattle.rapid_model.specs.Numbered.{number_of};
 ghost use Rattle.rapid_detect.specs.Replies.{refusal_of, reply_text};
 
 use rapid_config::Cut;
-use rapid_endpoint::Process;
+use rapid_endpoint::{Process, ProcessList};
 use std::alloc::AllocError;
 
 /// Why a line is refused.
@@ -64,13 +64,20 @@ fn write_number(number: usize, output: &mut Vec<u8>) -> Result<(), AllocError>
     output.extend_from_slice(text.as_bytes())
 }
 
+/// Appends the number of a process, a space before it.
+fn write_process(process: &Process, output: &mut Vec<u8>) -> Result<(), AllocError>
+    ensures { OnOk result (output.new.items ≡ output.old.items ++ (space ∷ decimal (number_of process.now))) }
+{
+    output.push(b' ')?;
+    write_number(usize::from(process.endpoint().port()), output)
+}
+
 /// Appends the numbers of processes, a space before each.
-fn write_processes(processes: &[Process], output: &mut Vec<u8>) -> Result<(), AllocError>
+fn write_processes(processes: &ProcessList, output: &mut Vec<u8>) -> Result<(), AllocError>
     ensures { OnOk result (output.new.items ≡ output.old.items ++ flat_map (λ p. space ∷ decimal (number_of p)) processes.now) }
 {
-    for process in processes {
-        output.push(b' ')?;
-        write_number(usize::from(process.endpoint().port()), output)?;
+    for process in processes.iter() {
+        write_process(&process, output)?;
     }
     Ok(())
 }

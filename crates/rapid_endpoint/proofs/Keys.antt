@@ -1,15 +1,16 @@
 -- A process as its key and the bytes of its tags.
-use Rattle.std.proofs.Common.{◌≡◌, ℕ, ◌+◌, ◌-◌, ◌<◌, ◌≤◌, true, false, cond, List, ◌++◌, length, take, drop, sym, ap, subst, ◌∙◌, inl, inr, append_assoc, length-append, arith}
+use Rattle.std.proofs.Common.{◌≡◌, ℕ, ◌+◌, ◌-◌, ◌<◌, ◌≤◌, true, false, cond, List, ◌++◌, length, take, drop, sym, ap, subst, ◌∙◌, inl, inr, length-append, arith}
 use Rattle.std.specs.Prelude.{All, Result, Ok, Err}
 use Rattle.std.proofs.lemmas.Bool.{true≢false, lt-ltb, le-ltb, cases_lt}
-use Rattle.std.proofs.lemmas.List.{take-append-le, drop-append-le, take-append-drop, take_all, length-drop, drop-drop}
-use Rattle.std.proofs.lemmas.List.Elements.{All-append}
+use Rattle.std.proofs.lemmas.List.{take-append-le, drop-append-le, take-append-drop, take_all, length-take-le, length-drop, drop-drop}
+use Rattle.std.proofs.lemmas.List.Elements.{All-append, All-take}
 use Rattle.rapid_model.specs.Tags.{AreTags, tags_of, TagsFault, Truncated, after_tags}
 use Rattle.rapid_model.specs.Process.{IsProcess, identifier, endpoint, before_rest, process_at}
-use Rattle.rapid_model.proofs.Processes.{all_before}
+use Rattle.rapid_model.proofs.Processes.{process_taken}
 use Rattle.rapid_endpoint.specs.Joined.{second_part, endpoint_part}
 use Rattle.rapid_endpoint.specs.Keys.{IsKey}
 use Rattle.rapid_endpoint.proofs.TagLists.{bytes_are_few}
+use Rattle.rapid_endpoint.proofs.TagReading.{front_is}
 
 pub is_process : (key tags : List ℕ) → IsKey key → All (λ b. b < 256) tags → AreTags (tags_of tags) tags → IsProcess (key ++ tags)
 is_process key tags h b t =
@@ -67,28 +68,46 @@ all_behind n bytes = take_all (length bytes - n) (drop n bytes) (let l = length-
 behind_all : (bytes : List ℕ) → behind_it bytes ≡ drop 22 bytes
 behind_all bytes = all_behind 22 bytes
 
--- a process of this key and these tags stands in front of the bytes
-pub stands : (bytes key tags p : List ℕ) (n : ℕ) → key ≡ take 22 bytes → p ≡ key ++ tags
-    → behind_it bytes ≡ tags ++ drop n (behind_it bytes) → bytes ≡ p ++ drop (22 + n) bytes
-stands bytes key tags p n e j t =
-    let rest : drop 22 bytes ≡ tags ++ drop n (drop 22 bytes) = subst (λ s. s ≡ tags ++ drop n s) (behind_all bytes) t in
-    sym (take-append-drop 22 bytes)
-    ∙ (λ i. sym e i ++ rest i)
-    ∙ sym (append_assoc key tags (drop n (drop 22 bytes)))
-    ∙ (λ i. sym j i ++ drop-drop n 22 bytes i)
-
-pub read_of : (bytes key tags p : List ℕ) (n : ℕ) → 22 ≤ length bytes → key ≡ take 22 bytes → p ≡ key ++ tags
-    → behind_it bytes ≡ tags ++ drop n (behind_it bytes) → after_tags (behind_it bytes) ≡ Ok (drop n (behind_it bytes))
-    → process_at bytes ≡ Ok (p, drop (22 + n) bytes)
-read_of bytes key tags p n h e j t r =
-    let rest = drop (22 + n) bytes in
-    let after : after_tags (drop 22 bytes) ≡ Ok rest =
-    subst (λ s. after_tags s ≡ Ok (drop n s)) (behind_all bytes) r ∙ (λ i. Ok (drop-drop n 22 bytes i)) in
-    let front : take (length bytes - length rest) bytes ≡ p =
-    ap (λ l. take (length l - length rest) l) (stands bytes key tags p n e j t) ∙ all_before p rest in
-    let given : List ℕ → Result (List ℕ × List ℕ) TagsFault = λ u. Ok (u, rest) in
-    with_tags bytes h ∙ ap (before_rest bytes) after ∙ ap given front
-
 pub refused_of : (bytes : List ℕ) (e : TagsFault) → 22 ≤ length bytes → after_tags (behind_it bytes) ≡ Err e → process_at bytes ≡ Err e
 refused_of bytes e h r =
     with_tags bytes h ∙ ap (before_rest bytes) (subst (λ s. after_tags s ≡ Err e) (behind_all bytes) r)
+
+-- the process takes all bytes but those that follow its tags
+pub length_of : (bytes rest : List ℕ) → 22 ≤ length bytes → after_tags (behind_it bytes) ≡ Ok rest
+    → process_at bytes ≡ Ok (take (length bytes - length rest) bytes, drop (length bytes - length rest) bytes)
+length_of bytes rest h r =
+    let after : after_tags (drop 22 bytes) ≡ Ok rest = subst (λ s. after_tags s ≡ Ok rest) (behind_all bytes) r in
+    let front = front_is (drop 22 bytes) rest after in
+    let long = length-drop 22 bytes in
+    let n : 22 + (length (drop 22 bytes) - length rest) ≡ length bytes - length rest = omega (arith, long, front.0, h) in
+    let left : drop (length bytes - length rest) bytes ≡ rest =
+    sym (drop-drop (length (drop 22 bytes) - length rest) 22 bytes ∙ ap (λ k. drop k bytes) n) ∙ front.2 in
+    let given : List ℕ → Result (List ℕ × List ℕ) TagsFault = λ l. Ok (take (length bytes - length rest) bytes, l) in
+    with_tags bytes h ∙ ap (before_rest bytes) after ∙ ap given (sym left)
+
+-- so many bytes are left behind the tags
+pub no_more_behind : (bytes rest : List ℕ) → 22 ≤ length bytes → after_tags (behind_it bytes) ≡ Ok rest → length rest ≤ length bytes
+no_more_behind bytes rest h r =
+    let front = front_is (behind_it bytes) rest r in
+    let long = ap length (behind_all bytes) ∙ length-drop 22 bytes in
+    omega (arith, long, front.0)
+
+-- what is read is a process
+pub front_is_process : (bytes : List ℕ) (n : ℕ) → All (λ b. b < 256) bytes → process_at bytes ≡ Ok (take n bytes, drop n bytes)
+    → IsProcess (take n bytes)
+front_is_process bytes n h e =
+    let taken = process_taken bytes (take n bytes, drop n bytes) e in
+    record { long = taken.long; bytes = All-take (λ b. b < 256) n bytes h; tags = taken.tags }
+
+-- ---- a process, made of its bytes
+
+pub are_behind : (bytes : List ℕ) → IsProcess bytes → AreTags (tags_of (behind_it bytes)) (behind_it bytes)
+are_behind bytes h = subst (λ t. AreTags (tags_of t) t) (sym (behind_all bytes)) h.tags
+
+pub parts_are_all : (bytes key tags : List ℕ) → key ≡ take 22 bytes → tags ≡ behind_it bytes → key ++ tags ≡ bytes
+parts_are_all bytes key tags e f = (λ i. e i ++ (f ∙ behind_all bytes) i) ∙ take-append-drop 22 bytes
+
+pub parts_are_process : (bytes key tags : List ℕ) → IsProcess bytes → key ≡ take 22 bytes → tags ≡ behind_it bytes
+    → (length key ≡ 22) × IsProcess (key ++ tags)
+parts_are_process bytes key tags h e f =
+    (ap length e ∙ length-take-le 22 bytes h.long, subst IsProcess (sym (parts_are_all bytes key tags e f)) h)

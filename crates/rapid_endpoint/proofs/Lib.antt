@@ -1,9 +1,12 @@
+pub mod Ascents
 pub mod Commas
 pub mod Fronts
 pub mod Hosts
 pub mod Keys
+pub mod Listed
 pub mod Numbers
 pub mod Rooms
 pub mod Spellings
 pub mod TagLists
 pub mod TagReading
+pub mod Walking

@@ -1,7 +1,10 @@
+pub mod Ends
 pub mod Joined
 pub mod Keys
 pub mod OneSpelling
 pub mod ParseErrors
+pub mod ProcessesIn
+pub mod ProcessesLeft
 pub mod ReadErrors
 pub mod Room
 pub mod Same

@@ -12,10 +12,14 @@ ghost use Rattle.rapid_endpoint.specs.ParseErrors.{Reports};
 ghost use Rattle.rapid_endpoint.specs.ReadErrors.{Gives};
 
 use crate::key::Key;
-use crate::{Endpoint, ParseError, ProcessId, ReadError, Tags};
+use crate::tag_reading::read_tags;
+use crate::{Endpoint, ParseError, ProcessId, ReadError, Tags, bytes};
 use std::alloc::{AllocError, Global};
 use std::cmp::Ordering;
 use std::marker::Model;
+
+/// How many bytes an identifier and an endpoint have.
+const KEY_LENGTH: usize = 22;
 
 /// A process: an identifier, an endpoint and tags. Processes are ordered by identifier, endpoint and
 /// the bytes of their tags, which is the order of their bytes.
@@ -155,13 +159,63 @@ impl Process {
         ensures length { IfOk result (λ r. length r.0 ≡ r.1) }
         ensures process { IfOk result (λ r. IsProcess r.0) }
     {
+        let length = Process::length_at(bytes)?;
+        Ok((Process::spelt(&bytes[..length]), length))
+    }
+
+    /// The process of these bytes.
+    #[inline(always)]
+    fn spelt(bytes: &[u8]) -> Process
+        requires { IsProcess bytes.now }
+        ensures { result ≡ bytes.now }
+    {
         let Some(key) = Key::read(bytes) else {
-            return Err(ReadError::Truncated);
+            unreachable!()
         };
-        match Tags::read(&bytes[22..]) {
-            Ok((tags, length)) => Ok((Process::joined(key, tags), 22 + length)),
-            Err(error) => Err(error),
+        Process {
+            key,
+            tags: Tags::spelt(&bytes[KEY_LENGTH..]),
         }
+    }
+
+    /// Puts the process of these bytes in place of this one.
+    fn replace(&mut self, bytes: &[u8])
+        requires { IsProcess bytes.now }
+        ensures { self.new ≡ bytes.now }
+    {
+        let Some(key) = Key::read(bytes) else {
+            unreachable!()
+        };
+        self.key = key;
+        self.tags.replace(&bytes[KEY_LENGTH..]);
+    }
+
+    /// How many bytes the process in front of the bytes takes. The error is that of `read`.
+    pub fn length_at(bytes: &[u8]) -> Result<usize, ReadError>
+        ensures read { Gives (λ n. (take n bytes.now, drop n bytes.now)) result (process_at bytes.now) }
+        ensures within { IfOk result (λ n. n ≤ length bytes.now) }
+        ensures process { IfOk result (λ n. IsProcess (take n bytes.now)) }
+    {
+        if bytes.len() < KEY_LENGTH {
+            return Err(ReadError::Truncated);
+        }
+        bytes::tell(bytes);
+        let rest = read_tags(&bytes[KEY_LENGTH..])?;
+        Ok(bytes.len() - rest.len())
+    }
+
+    /// Reads the process in front of the bytes over this one, and says how many bytes it takes. The
+    /// error is that of `read`, and then this one stays as it was.
+    pub fn read_over(&mut self, bytes: &[u8]) -> Result<usize, ReadError>
+        ensures read { Gives (λ n. (self.new, drop n bytes.now)) result (process_at bytes.now) }
+        ensures taken { IfOk result (λ n. bytes.now ≡ self.new ++ drop n bytes.now) }
+        ensures length { IfOk result (λ n. length self.new ≡ n) }
+        ensures process { OnOk result (IsProcess self.new) }
+        ensures kept { OnErr result (self.new ≡ self.old) }
+    {
+        let length = Process::length_at(bytes)?;
+        self.replace(&bytes[..length]);
+        Ok(length)
     }
 
     /// The value is a process. It does nothing: what it ensures is for proofs.

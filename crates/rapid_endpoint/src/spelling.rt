@@ -43,6 +43,32 @@ impl Spelling {
         }
     }
 
+    /// These bytes.
+    pub(crate) fn of(bytes: &[u8]) -> Spelling
+        requires { length bytes.now ≤ 521 }
+        ensures { result ≡ bytes.now }
+    {
+        let mut room = [0; ROOM];
+        room[..bytes.len()].copy_from_slice(bytes);
+        Spelling {
+            used: bytes.len() as u16,
+            bytes: room,
+        }
+    }
+
+    /// Puts these bytes in place of those that are there. It writes no more of the room than these
+    /// and those take.
+    pub(crate) fn replace(&mut self, bytes: &[u8])
+        requires { length bytes.now ≤ 521 }
+        ensures { self.new ≡ bytes.now }
+    {
+        let end = bytes.len();
+        let cleared = end.max(usize::from(self.used));
+        self.bytes[..end].copy_from_slice(bytes);
+        self.bytes[end..cleared].fill(0);
+        self.used = end as u16;
+    }
+
     /// Puts more bytes behind those that are there.
     pub(crate) fn push(&mut self, more: &[u8])
         requires { length self.old + length more.now ≤ 521 }

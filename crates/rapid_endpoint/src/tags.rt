@@ -89,9 +89,26 @@ impl Tags {
     {
         let rest = read_tags(bytes)?;
         let length = bytes.len() - rest.len();
-        let mut spelling = Spelling::new();
-        spelling.push(&bytes[..length]);
-        Ok((Tags { spelling }, length))
+        Ok((Tags::spelt(&bytes[..length]), length))
+    }
+
+    /// The tags of these bytes.
+    #[inline(always)]
+    pub(crate) fn spelt(bytes: &[u8]) -> Tags
+        requires { AreTags (tags_of bytes.now) bytes.now }
+        ensures { result ≡ bytes.now }
+    {
+        Tags {
+            spelling: Spelling::of(bytes),
+        }
+    }
+
+    /// Puts the tags of these bytes in place of those that are there.
+    pub(crate) fn replace(&mut self, bytes: &[u8])
+        requires { AreTags (tags_of bytes.now) bytes.now }
+        ensures { self.new ≡ bytes.now }
+    {
+        self.spelling.replace(bytes);
     }
 
     /// The bytes: the number of tags, and then the length and the bytes of each.

@@ -1,7 +1,10 @@
 // The decisions of configurations that were left.
 
-ghost use Rattle.std.specs.Prelude.{◌≡◌, ◌++◌, ◌∷◌, [], Some, IfOk, OnOk, OnErr};
+ghost use Rattle.std.specs.Prelude.{◌≡◌, ◌≤◌, ◌++◌, ◌∷◌, [], Some, length, IfOk, OnOk, OnErr};
 ghost use Rattle.std.specs.Option.{option_copied};
+ghost use Rattle.rapid_model.specs.Bytes.{ConfigurationId};
+ghost use Rattle.rapid_model.specs.Cut.{Cut as ModelCut};
+ghost use Rattle.rapid_model.specs.Limits.{kept_decisions};
 ghost use Rattle.rapid_model.specs.NodeStep.{last_64};
 ghost use Rattle.rapid_model.specs.Node.{outputs};
 ghost use Rattle.rapid_model.specs.Receive as receive;
@@ -51,6 +54,18 @@ fn copy_all(
     Ok(copy)
 }
 
+/// The decisions that stay if one more is kept: all but the first if there is no room for it.
+fn staying(decisions: &[(ConfigId, Cut)]) -> &[(ConfigId, Cut)]
+    requires { length decisions.now ≤ kept_decisions }
+    ensures { (more : ConfigurationId × ModelCut) → result.now ++ more ∷ [] ≡ last_64 (decisions.now ++ more ∷ []) }
+{
+    if decisions.len() == KEPT_DECISIONS {
+        &decisions[1..]
+    } else {
+        decisions
+    }
+}
+
 impl Decisions {
     /// No decision.
     pub fn new(alloc: Global) -> Result<Decisions, AllocError>
@@ -64,13 +79,7 @@ impl Decisions {
     pub fn with(&self, alloc: Global, id: ConfigId, cut: Cut) -> Result<Decisions, AllocError>
         ensures { IfOk result (λ d. d ≡ last_64 (self.now ++ (id, cut) ∷ [])) }
     {
-        let decided = self.decided.as_slice();
-        let first = if decided.len() == KEPT_DECISIONS {
-            1
-        } else {
-            0
-        };
-        let mut kept = copy_all(alloc, &decided[first..])?;
+        let mut kept = copy_all(alloc, staying(self.decided.as_slice()))?;
         kept.push((id, cut))?;
         let decided = ArcSlice::from_vec(kept)?;
         Ok(Decisions { decided })

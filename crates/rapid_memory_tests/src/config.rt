@@ -1,9 +1,9 @@
 // Endpoints, cuts and configurations: each call says by its error that memory ran out, or makes what
 // it makes with memory.
 
-use crate::numbered::{Marks, Name, at, named, process, seeded};
+use crate::numbered::{Marks, Name, at, named, process, seeded, tagged};
 use rapid_config::{ConfigError, Configuration, Cut, Params};
-use rapid_endpoint::{Endpoint, ParseError, Process};
+use rapid_endpoint::{Endpoint, Process};
 use std::alloc::{AllocError, Global};
 use std::test::Fail;
 
@@ -12,12 +12,6 @@ fn out_of_memory_in_texts(rt: HostRuntime) -> Result<(), Fail> {
     let printed = Endpoint::new([127, 0, 0, 1], 7000).to_string(rt.alloc())?;
     assert!(rt; printed.as_str() == "127.0.0.1:7000");
     Ok(())
-}
-
-/// The process with this number and these tags.
-fn tagged(number: u16, tags: &[&[u8]]) -> Result<Process, ParseError> {
-    let bare = process(number);
-    Process::tagged(bare.id(), bare.endpoint(), tags)
 }
 
 /// The bytes of the process with the number 2 and the tags `db` and `web`.
@@ -64,7 +58,8 @@ fn are(processes: &[Process], names: &[Name]) -> bool {
 #[test]
 fn out_of_memory_in_cuts(rt: HostRuntime) -> Result<(), Fail> {
     let copy = cut(rt.alloc(), &[(2, 2), (3, 3)])?.try_copy(rt.alloc())?;
-    assert!(rt; are(copy.processes(), &[(2, 2), (3, 3)]));
+    let processes = copy.processes().to_vec(rt.alloc())?;
+    assert!(rt; are(processes.as_slice(), &[(2, 2), (3, 3)]));
     Ok(())
 }
 

@@ -1,11 +1,10 @@
 // The cut detector over a table of explicit edges: a batch for which memory runs out changes nothing.
 
-use crate::numbered::process;
+use crate::numbered::{are_numbered, process};
 use crate::tables::{Edge, table};
 use rapid_alerts::{Alert, Kind};
 use rapid_config::{ConfigId, Cut};
 use rapid_cut::Detector;
-use rapid_endpoint::Process;
 use rapid_rings::Table;
 use std::alloc::{AllocError, Global};
 use std::test::Fail;
@@ -38,16 +37,6 @@ fn alerts(alloc: Global, edges: &[Edge]) -> Result<Vec<Alert>, AllocError> {
         alerts.push(alert(edge))?;
     }
     Ok(alerts)
-}
-
-/// Whether these are the processes with these numbers.
-fn are_numbered(processes: &[Process], numbers: &[u16]) -> bool {
-    for (found, number) in processes.iter().zip(numbers) {
-        if *found != process(*number) {
-            return false;
-        }
-    }
-    processes.len() == numbers.len()
 }
 
 /// Whether a cut is that of the processes with these numbers; none stands for no cut.

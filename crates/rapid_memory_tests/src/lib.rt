@@ -23,6 +23,8 @@ mod joins;
 #[cfg(test)]
 mod lines;
 #[cfg(test)]
+mod lists;
+#[cfg(test)]
 mod node;
 #[cfg(test)]
 mod numbered;

@@ -1,7 +1,7 @@
 // Processes by their numbers, and configurations of them.
 
 use rapid_config::{ConfigError, Configuration, Cut, Params};
-use rapid_endpoint::{Endpoint, Process, ProcessId};
+use rapid_endpoint::{Endpoint, ParseError, Process, ProcessId, ProcessList};
 use std::alloc::{AllocError, Global};
 use std::test::Fail;
 
@@ -25,9 +25,25 @@ pub fn process(number: u16) -> Process {
     at(number, number)
 }
 
+/// The process with this number as identifier and port, and with these tags.
+pub fn tagged(number: u16, tags: &[&[u8]]) -> Result<Process, ParseError> {
+    Process::tagged(id(number), endpoint(number), tags)
+}
+
 /// The cut of the process with this number alone.
 pub fn cut(alloc: Global, number: u16) -> Result<Cut, Fail> {
     Ok(Cut::new(Vec::from_array(alloc, [process(number)])?)?)
+}
+
+/// Whether these are the processes with these numbers.
+pub fn are_numbered(processes: &ProcessList, numbers: &[u16]) -> bool {
+    let mut left = processes.iter();
+    for number in numbers {
+        if left.next() != Some(process(*number)) {
+            return false;
+        }
+    }
+    left.next().is_none()
 }
 
 /// An identifier and a port.

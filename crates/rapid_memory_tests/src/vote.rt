@@ -3,7 +3,7 @@
 
 ghost use Rattle.std.specs.Prelude.{◌≡◌, ◌<◌};
 
-use crate::numbered::process;
+use crate::numbered::{are_numbered, process};
 use rapid_config::{ConfigError, Cut};
 use rapid_fast::{FastRound, HearError};
 use rapid_paxos::{
@@ -20,10 +20,7 @@ fn cut(alloc: Global, number: u8) -> Result<Cut, ConfigError> {
 /// Whether it is the cut of the process with this number, or none, as expected.
 fn is_cut(found: Option<&Cut>, number: Option<u8>) -> bool {
     match (found, number) {
-        (Some(found), Some(number)) => match found.processes() {
-            [only] => *only == process(u16::from(number)),
-            _ => false,
-        },
+        (Some(found), Some(number)) => are_numbered(found.processes(), &[u16::from(number)]),
         (None, None) => true,
         (Some(_), None) | (None, Some(_)) => false,
     }

@@ -30,7 +30,7 @@ fn check_batch(sender: &Process, id: ConfigId, batch: &Batch) -> Result<(), Mess
     ensures refused { IfErr result (CannotSay sender.now (SaysBatch id batch.now)) }
 {
     tell_batch(batch);
-    if batch.observer() != *sender {
+    if *batch.observer() != *sender {
         Err(MessageError::OtherObserver)
     } else if batch.config() != id {
         Err(MessageError::OtherConfiguration)

@@ -28,6 +28,13 @@ fn are_same(a: &[Process], b: &[Process]) -> bool
     a == b
 }
 
+/// Whether two cuts are the same.
+fn is_same_cut(a: &Cut, b: &Cut) -> bool
+    ensures { result ≡ true → a.now ≡ b.now }
+{
+    a == b
+}
+
 /// Whether two parameters are the same.
 #[tactic(auto, using(crate::proofs::Viewing::same_params))]
 fn are_same_params(a: Params, b: Params) -> bool
@@ -163,9 +170,7 @@ impl KeptView {
         ensures { result ≡ true → self.now ≡ apply before.now cut.now }
     {
         match &self.before {
-            Some((from, by)) => {
-                are_same(by.processes(), cut.processes()) && is_same(from, before)
-            }
+            Some((from, by)) => { is_same_cut(by, cut) && is_same(from, before) }
             None => false,
         }
     }

@@ -3,8 +3,10 @@
 mod changes;
 mod configurations;
 mod cuts;
+mod cuts_of_lists;
 mod endpoints;
 mod hexadecimal;
+mod lists;
 mod readings;
 mod tags;
 mod texts;

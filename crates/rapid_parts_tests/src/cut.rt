@@ -2,4 +2,5 @@
 
 mod alerts;
 mod cuts;
+mod spelt;
 mod tables;

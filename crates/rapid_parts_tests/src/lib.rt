@@ -14,6 +14,8 @@ mod rings;
 #[cfg(test)]
 mod second;
 #[cfg(test)]
+mod short_lists;
+#[cfg(test)]
 mod vote;
 #[cfg(test)]
 mod wire;

@@ -1,7 +1,7 @@
 // Processes by their numbers, and configurations of them.
 
 use rapid_config::{ConfigError, Configuration, Params};
-use rapid_endpoint::{Endpoint, ParseError, Process, ProcessId};
+use rapid_endpoint::{Endpoint, ParseError, Process, ProcessId, ProcessList};
 use std::alloc::{AllocError, Global};
 
 /// The process of this identifier in 16 bytes, at this port of 127.0.0.1.
@@ -19,6 +19,17 @@ pub fn process(number: u16) -> Process {
 pub fn tagged(number: u16, tags: &[&[u8]]) -> Result<Process, ParseError> {
     let bare = process(number);
     Process::tagged(bare.id(), bare.endpoint(), tags)
+}
+
+/// Eight tags of 64 bytes each.
+pub const MOST: [[u8; 64]; 8] = [
+    [b'1'; 64], [b'2'; 64], [b'3'; 64], [b'4'; 64], [b'5'; 64], [b'6'; 64], [b'7'; 64], [b'8'; 64],
+];
+
+/// The process with this number as identifier and port, and with eight tags of 64 bytes each.
+pub fn full(number: u16) -> Result<Process, ParseError> {
+    let [a, b, c, d, e, f, g, h] = &MOST;
+    tagged(number, &[a, b, c, d, e, f, g, h])
 }
 
 /// An identifier and a port.
@@ -52,13 +63,14 @@ pub fn are(processes: &[Process], names: &[Name]) -> bool {
 }
 
 /// Whether these are the processes with these numbers.
-pub fn are_numbered(processes: &[Process], numbers: &[u16]) -> bool {
-    for (found, number) in processes.iter().zip(numbers) {
-        if *found != process(*number) {
+pub fn are_numbered(processes: &ProcessList, numbers: &[u16]) -> bool {
+    let mut left = processes.iter();
+    for number in numbers {
+        if left.next() != Some(process(*number)) {
             return false;
         }
     }
-    processes.len() == numbers.len()
+    left.next().is_none()
 }
 
 /// Whether it is the process with this number; 0 stands for none.

@@ -54,8 +54,8 @@ pub fn number_in(cut: &Option<Cut>) -> Option<Number> {
 
 /// The number of a cut's first process.
 pub fn number_of(cut: &Cut) -> Number {
-    match cut.processes() {
-        [] => 0,
-        [first, ..] => first.endpoint().port(),
+    match cut.processes().iter().next() {
+        None => 0,
+        Some(first) => first.endpoint().port(),
     }
 }

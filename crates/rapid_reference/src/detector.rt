@@ -185,7 +185,7 @@ fn batch(
     let was_closed = list.closed;
     let cut: Option<Cut> = detector.batch(alerts)?;
     let answer = match &cut {
-        Some(cut) => Some(numbers(alloc, cut.processes())?),
+        Some(cut) => Some(numbers(alloc, cut.processes().to_vec(alloc)?.as_slice())?),
         None => None,
     };
     let expected = list.batch(alloc, reports)?;

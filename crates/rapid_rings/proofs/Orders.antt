@@ -16,7 +16,8 @@ use Rattle.rapid_model.specs.Process.{Process, bytes_cmp, process_cmp, identifie
 use Rattle.rapid_model.specs.Configuration.{identifiers_ascend}
 use Rattle.rapid_model.specs.Ring.{ring_observer}
 use Rattle.rapid_model.proofs.Orders.{processes_total, same_bytes_decides}
-use Rattle.rapid_config.proofs.Ascending.{later_less, below_by_identifier, flipped, is_lt_trans}
+use Rattle.rapid_endpoint.proofs.Ascents.{is_lt_trans}
+use Rattle.rapid_config.proofs.Ascending.{later_less, below_by_identifier, flipped}
 use Rattle.rapid_config.proofs.Places.{any_at, in_by_place}
 use Rattle.rapid_rings.specs.Seats.{Seat, Placed, seat, seats_of, seat_cmp, same_seat, is_below, placed_cmp, with_member, is_member_below, member_below, member_if_any, place_at, other_at, rank_before, rank_after, IsOrder, Ascend, IsNextBefore, IsNextAfter}
 use Rattle.rapid_rings.specs.Seats as seats

@@ -21,6 +21,10 @@ abbrev pub NotesRemoval : Phase → Option Present → List Note → List Note �
 NotesRemoval now present old new =
     (new ≡ old) ⊎ ((now ≡ phase.Removed) × IsSomeAnd present (λ p. new ≡ old ++ note.Removed p.view.height ∷ []))
 
+-- The same notes wait. Or the node is removed, and behind them waits that it is no member from this height on.
+abbrev pub NotesRemovalAt : Phase → ℕ → List Note → List Note → Type 0
+NotesRemovalAt now height old new = (new ≡ old) ⊎ ((now ≡ phase.Removed) × (new ≡ old ++ note.Removed height ∷ []))
+
 -- The same notes wait, and behind them at most notes that the node is no member from a height on.
 abbrev pub AddsRemovals : List Note → List Note → Type 0
 AddsRemovals old new = (heights : List ℕ) × (new ≡ old ++ map note.Removed heights)

@@ -21,7 +21,7 @@ ghost use Rattle.rapid_signals.specs.declared.fault.RunningFault.TheVariants.{Ou
 ghost use Rattle.rapid_service.specs.Entering.{after_entering, installed_by, shown_since, view_in, views_of};
 ghost use Rattle.rapid_service.specs.Filters.{IsFresh, StaysOrFresh, TickedOrFresh, HeardOrFresh, TickedIn, HeardIn, filter_of};
 ghost use Rattle.rapid_service.specs.HandingOn.{down_on, downs_from};
-ghost use Rattle.rapid_service.specs.Noting.{NotesRemoval, AddsRemovals, NotesQuestion, AskedOnce, AsksOrNone, asking_after, heard};
+ghost use Rattle.rapid_service.specs.Noting.{NotesRemoval, NotesRemovalAt, AddsRemovals, NotesQuestion, AskedOnce, AsksOrNone, asking_after, heard};
 ghost use Rattle.rapid_lines.specs.declared.asking.Asking.{Asking};
 ghost use Rattle.rapid_lines.specs.declared.note.Note.{Note};
 ghost use Rattle.rapid_service.specs.Posting.{postings, to_each, all_but, present_in, stands, PostsSome, SaysAt, SaysSome, SaysAll, SaysFirst};
@@ -129,6 +129,16 @@ fn probe_all<R: Wait, P: Post>(
         }
     }
     Ok(())
+}
+
+/// Notes that a node of this phase is no member from this height on, if it was removed. Without
+/// memory it notes nothing.
+fn note_removal(notes: &mut Notes, phase: Phase, height: u64)
+    ensures { NotesRemovalAt phase height notes.old.waiting.items notes.new.waiting.items }
+{
+    if phase == Phase::Removed {
+        let _ = notes.add(Note::Removed(height));
+    }
 }
 
 // By hand: it is proved here that all parts can be dropped, and no crate above has to prove it again.
@@ -696,10 +706,8 @@ impl<R: Wait + Copy + Drop, P: Post + Drop> Service<R, P> {
         write_view(view.configuration(), &mut self.lines)?;
         let watch = self.watch(view.configuration())?;
         let repeats = Repeats::new(self.alloc, view.configuration())?;
-        if self.desk.phase() == Phase::Removed {
-            let height = view.configuration().height();
-            let _ = self.notes.add(Note::Removed(height));
-        }
+        let height = view.configuration().height();
+        note_removal(&mut self.notes, self.desk.phase(), height);
         self.asking = None;
         self.present = Some(Present {
             view,

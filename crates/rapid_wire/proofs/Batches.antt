@@ -28,14 +28,6 @@ are_a_batch from id (a ∷ xs) h some few =
     let same = all_alike from id a xs (h 0 a (omega arith)) (λ i d l. h (suc i) d (omega (arith, l))) in
     rw (enough, same) refl
 
-items_back : (from : Process) (id : List ℕ) (xs : List AlertItem) → map item_of (batch_alerts from id xs) ≡ xs
-items_back from id [] = refl
-items_back from id (x ∷ xs) = ap (λ ys. x ∷ ys) (items_back from id xs)
-
--- what the alerts of a list say is what the list has
-pub listed_items : (l : ListedAlerts) → map item_of (alerts_in l) ≡ l.items
-listed_items l = items_back l.observer l.config l.items
-
 -- they are of its observer, for its configuration
 pub listed_from : (l : ListedAlerts) (from : Process) (id : List ℕ) → l.observer ≡ from → l.config ≡ id → All (IsFrom from id) (alerts_in l)
 listed_from l from id o c = All-map (IsFrom from id) (read_as l.observer l.config) l.items (λ i d k. (o, c))

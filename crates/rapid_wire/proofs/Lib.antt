@@ -2,6 +2,7 @@ pub mod Pieces
 pub mod Batches
 pub mod Frames
 pub mod Joined
+pub mod Lists
 pub mod Readers
 pub mod Loops
 pub mod Counts

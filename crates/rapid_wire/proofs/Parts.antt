@@ -6,6 +6,7 @@ use Rattle.std.specs.List.{concat}
 use Rattle.std.specs.Int.{w16, to_be_bytes}
 use Rattle.std.proofs.lemmas.List.{drop-drop}
 use Rattle.std.proofs.lemmas.Bool.{ltb-false, ltb-true, le-ltb, lt-ltb, leb-true, le-leb, eqb-true}
+use Rattle.rapid_model.specs.Tags.{TagsFault}
 use Rattle.rapid_model.specs.Process as model
 use Rattle.rapid_model.specs.Process.{Process, IsProcess}
 use Rattle.rapid_model.specs.Cut.{Cut, IsCut, is_ascending, cut_bytes}
@@ -255,6 +256,15 @@ two_first bytes r s ring kind e k =
     let two = kind_first r (kind, s) k in
     (two.0, byte_first bytes (ring, r) e ∙ ap (λ l. ring ∷ l) two.1)
 
+-- a process that is read is one that a reader gives, and what is none is not
+pub some_process : (bytes : List ℕ) (x : Process × List ℕ) → model.process_at bytes ≡ Ok x → process_at bytes ≡ Some x
+unfolding process_at
+some_process bytes x h = ap result_ok h
+
+pub no_process : (bytes : List ℕ) (e : TagsFault) → model.process_at bytes ≡ Err e → process_at bytes ≡ None
+unfolding process_at
+no_process bytes e h = ap result_ok h
+
 -- an alert ends where its subject does
 pub item_read : (bytes r s : List ℕ) (ring : ℕ) (kind : Kind) (subject : Process) (n : ℕ) → byte_at bytes ≡ Some (ring, r)
     → kind_at r ≡ Some (kind, s) → process_at s ≡ Some (subject, drop n s)
@@ -265,6 +275,11 @@ item_read bytes r s ring kind subject n e k p =
     let whole = (two_first bytes r s ring kind e k).1 in
     let after : drop n s ≡ drop (2 + n) bytes = ap (λ l. drop n (drop 2 l)) (sym whole) ∙ drop-drop n 2 bytes in
     rw (e, k, p) (ap (λ l. Some (item, l)) after)
+
+-- without a subject there is no alert
+pub no_item : (bytes r s : List ℕ) (ring : ℕ) (kind : Kind) → byte_at bytes ≡ Some (ring, r) → kind_at r ≡ Some (kind, s) → process_at s ≡ None → item_at bytes ≡ None
+unfolding item_at
+no_item bytes r s ring kind e k p = rw (e, k, p) refl
 
 pub item_within : (bytes r s : List ℕ) (ring : ℕ) (kind : Kind) (n : ℕ) → byte_at bytes ≡ Some (ring, r)
     → kind_at r ≡ Some (kind, s) → n ≤ length s → 2 + n ≤ length bytes

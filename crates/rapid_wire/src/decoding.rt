@@ -11,7 +11,7 @@ use crate::WireFault;
 use crate::encoding::VERSION;
 use crate::kind::FrameKind;
 use crate::kinds::read_body;
-use crate::reading::read_process;
+use crate::reading::{any_process, read_process};
 use crate::told::tell_message;
 use rapid_config::Configuration;
 use rapid_message::Message;
@@ -35,7 +35,8 @@ fn read_message(
 ) -> Result<Message, WireFault>
     ensures { Gives (λ m. m) result (message_in (number_of kind) bytes.now) }
 {
-    let (sender, length) = read_process(bytes)?;
+    let mut sender = any_process();
+    let length = read_process(&mut sender, bytes)?;
     let body = read_body(alloc, near, sender, kind, &bytes[length..])?;
     Ok(Message::of(sender, body))
 }

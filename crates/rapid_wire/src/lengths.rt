@@ -46,12 +46,14 @@ fn processes_length(processes: &[Process]) -> usize
 }
 
 /// The bytes of a cut.
-#[tactic(auto, using(crate::proofs::Sizes::cut_length_is))]
+#[tactic(auto, using(crate::proofs::Sizes::cut_length_is, crate::proofs::Sizes::processes_few))]
 fn cut_length(cut: &Cut) -> usize
     ensures value { result ≡ length (cut_bytes cut.now) }
     ensures few { result ≤ 834050 }
 {
-    2 + processes_length(cut.processes())
+    let processes = cut.processes();
+    processes.tell();
+    2 + processes.bytes_len()
 }
 
 /// The bytes of alerts.
@@ -62,7 +64,7 @@ fn alerts_length(alerts: &AlertList) -> usize
 {
     let mut bytes = 0;
     for at in 0..alerts.len() {
-        bytes += MARK_BYTES + alerts.alert(at).subject.length();
+        bytes += MARK_BYTES + alerts.alert_ref(at).subject.length();
     }
     bytes
 }

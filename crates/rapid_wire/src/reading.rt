@@ -1,21 +1,24 @@
 // How the parts of frames are read. A part that ends a body takes all bytes that it is given.
 
-ghost use Rattle.std.specs.Prelude.{◌≡◌, ◌≤◌, ◌==◌, ◌&&◌, nat_le, All, Some, None, IfOk, drop, length, map, if◌then◌else◌};
+ghost use Rattle.std.specs.Prelude.{true, false, ◌≡◌, ◌≤◌, ◌==◌, ◌&&◌, nat_le, All, Some, None, IfOk, IfErr, drop, length, map, if◌then◌else◌};
 ghost use Rattle.rapid_model.specs.Ballot.{IsClassicBallot};
 ghost use Rattle.rapid_model.specs.Batch.{batch_fault};
 ghost use Rattle.rapid_model.specs.Message.{item_of};
+ghost use Rattle.rapid_model.specs.Reading.{processes_at};
+ghost use Rattle.rapid_endpoint.specs.Ends.{AreAll};
 ghost use Rattle.rapid_alerts.specs.Alerts.{alerts_in, kind_of};
 ghost use Rattle.rapid_paxos.specs.Reported.{last_of};
 ghost use Rattle.rapid_join.specs.Answers.{NamesObservers, answer_of};
 ghost use Rattle.rapid_message.specs.Bodies.{IsFrom};
-ghost use Rattle.rapid_wire.specs.Faults.{Gives};
+ghost use Rattle.rapid_wire.specs.Faults.{Fails, Gives};
+ghost use Rattle.rapid_wire.specs.Adding.{AddsItem};
 ghost use Rattle.rapid_wire.specs.Reading.{both, all_of, many, front_at, byte_at, number_at, process_at, cut_at, is_cut, is_classic, is_ballot, numbers_at, ballot_at, report_at, kind_at, item_at, items_at, observers_at, made, id_at, safe_from, answer_at};
 
 use crate::WireFault;
 use crate::numbers::number_in;
-use rapid_alerts::{AlertList, Batch, BatchError, Kind};
+use rapid_alerts::{AlertList, Batch, BatchError, Kind, SpeltError};
 use rapid_config::{ConfigError, ConfigId, Cut};
-use rapid_endpoint::Process;
+use rapid_endpoint::{Endpoint, Process, ProcessId, ProcessList};
 use rapid_join::{Reply, RingObservers};
 use rapid_paxos::Ballot;
 use std::alloc::{AllocError, Global};
@@ -68,14 +71,19 @@ fn read_number(bytes: &[u8]) -> Result<(u16, &[u8]), WireFault>
     Ok((number_in(front), rest))
 }
 
-/// A process, and how many bytes it takes.
+/// Some process, over which another is read.
+pub(crate) fn any_process() -> Process {
+    Process::new(ProcessId::new([0; 16]), Endpoint::new([0; 4], 0))
+}
+
+/// Reads the process in front of the bytes over this one, and says how many bytes it takes.
 #[tactic(auto, unfolding(crate::specs::Reading::process_at))]
-pub(crate) fn read_process(bytes: &[u8]) -> Result<(Process, usize), WireFault>
-    ensures value { Gives (λ x. (x.0, drop x.1 bytes.now)) result (process_at bytes.now) }
-    ensures within { IfOk result (λ x. x.1 ≤ length bytes.now) }
+pub(crate) fn read_process(process: &mut Process, bytes: &[u8]) -> Result<usize, WireFault>
+    ensures value { Gives (λ n. (process.new, drop n bytes.now)) result (process_at bytes.now) }
+    ensures within { IfOk result (λ n. n ≤ length bytes.now) }
 {
-    match Process::read(bytes) {
-        Ok((process, length)) => Ok((process, length)),
+    match process.read_over(bytes) {
+        Ok(length) => Ok(length),
         Err(_) => Err(WireFault::BadBody),
     }
 }
@@ -102,20 +110,32 @@ fn read_processes(
     // no more room than the bytes can fill, whatever number they announce
     let most = count.min(bytes.len() / LEAST_PROCESS_BYTES);
     let mut processes = Vec::with_capacity(alloc, most)?;
+    let mut process = any_process();
     let mut rest = bytes;
     for _ in 0..count {
-        let (process, length) = read_process(rest)?;
+        let length = read_process(&mut process, rest)?;
         processes.push(process)?;
         rest = rest.split_at(length).1;
     }
     Ok((processes, rest))
 }
 
-/// The cut of these processes, if they are one.
-fn cut_of(processes: Vec<Process>) -> Result<Cut, WireFault>
-    ensures { Gives (λ cut. cut) result (if is_cut processes.items then Some processes.items else None) }
+/// Whether these bytes are just this many processes.
+fn are_just(count: usize, bytes: &[u8]) -> bool
+    ensures all { result ≡ true → AreAll (processes_at count bytes.now) }
+    ensures others { result ≡ false → all_of (many count process_at) bytes.now ≡ None }
 {
-    match Cut::new(processes) {
+    match ProcessList::end_in(count, bytes) {
+        Ok(end) => end == bytes.len(),
+        Err(_) => false,
+    }
+}
+
+/// The cut of these processes, if they are one.
+fn cut_of(alloc: Global, processes: ProcessList) -> Result<Cut, WireFault>
+    ensures { Gives (λ cut. cut) result (if is_cut processes then Some processes else None) }
+{
+    match Cut::of_list(alloc, processes) {
         Ok(cut) => Ok(cut),
         Err(ConfigError::OutOfMemory) => Err(WireFault::OutOfMemory),
         Err(_) => Err(WireFault::BadBody),
@@ -132,10 +152,11 @@ pub(crate) fn read_cut(alloc: Global, bytes: &[u8]) -> Result<Cut, WireFault>
     if count > Cut::MOST {
         return Err(WireFault::BadBody);
     }
-    let (processes, rest) = read_processes(alloc, count, rest)?;
-    let cut = cut_of(processes)?;
-    ended(rest)?;
-    Ok(cut)
+    if !are_just(count, rest) {
+        return Err(WireFault::BadBody);
+    }
+    let processes = ProcessList::of_bytes(alloc, count, rest)?;
+    cut_of(alloc, processes)
 }
 
 /// A round and a position, and the rest.
@@ -212,35 +233,37 @@ fn read_kind(bytes: &[u8]) -> Result<(Kind, &[u8]), WireFault>
     }
 }
 
-/// The ring, the kind and the subject of an alert, and how many bytes it takes in all.
-#[tactic(auto, using(crate::proofs::Parts::item_read, crate::proofs::Parts::item_within), unfolding(crate::specs::Reading::item_at))]
-fn read_item(bytes: &[u8]) -> Result<(u8, Kind, Process, usize), WireFault>
-    ensures value { Gives (λ x. (record { ring = x.0; kind = kind_of x.1; subject = x.2 }, drop x.3 bytes.now)) result
-        (item_at bytes.now) }
-    ensures within { IfOk result (λ x. x.3 ≤ length bytes.now) }
+/// Adds the alert in front of the bytes to a list, and says how many bytes it takes.
+#[tactic(auto, using(crate::proofs::Parts::item_within), unfolding(crate::specs::Reading::item_at))]
+fn add_alert(alerts: &mut AlertList, bytes: &[u8]) -> Result<usize, WireFault>
+    ensures added { IfOk result (AddsItem alerts.old alerts.new bytes.now) }
+    ensures refused { IfErr result (λ e. Fails e (item_at bytes.now)) }
+    ensures within { IfOk result (λ n. n ≤ length bytes.now) }
 {
     let (ring, rest) = read_byte(bytes)?;
     let (kind, rest) = read_kind(rest)?;
-    let (subject, length) = read_process(rest)?;
-    Ok((ring, kind, subject, 2 + length))
+    match alerts.push_spelt(ring, kind, rest) {
+        Ok(length) => Ok(2 + length),
+        Err(SpeltError::OutOfMemory) => Err(WireFault::OutOfMemory),
+        Err(SpeltError::NoProcess(_)) => Err(WireFault::BadBody),
+    }
 }
 
 /// This many alerts of an observer for a configuration, and the rest.
-fn read_alerts(
+fn read_alerts<'a>(
     alloc: Global,
-    observer: Process,
+    observer: &Process,
     config: ConfigId,
     count: usize,
-    bytes: &[u8],
-) -> Result<(AlertList, &[u8]), WireFault>
+    bytes: &'a [u8],
+) -> Result<(AlertList, &'a [u8]), WireFault>
     ensures value { Gives (λ x. (map item_of (alerts_in x.0), x.1.now)) result (many count item_at bytes.now) }
-    ensures from { IfOk result (λ x. All (IsFrom observer config) (alerts_in x.0)) }
+    ensures from { IfOk result (λ x. All (IsFrom observer.now config) (alerts_in x.0)) }
 {
-    let mut alerts = AlertList::new(alloc, observer, config);
+    let mut alerts = AlertList::new(alloc, *observer, config);
     let mut rest = bytes;
     for _ in 0..count {
-        let (ring, kind, subject, length) = read_item(rest)?;
-        alerts.push(&subject, ring, kind)?;
+        let length = add_alert(&mut alerts, rest)?;
         rest = rest.split_at(length).1;
     }
     Ok((alerts, rest))
@@ -269,12 +292,12 @@ fn may_have(count: usize, most: usize) -> bool
 #[tactic(auto, unfolding(crate::specs::Reading::items_at))]
 pub(crate) fn read_batch(
     alloc: Global,
-    observer: Process,
+    observer: &Process,
     config: ConfigId,
     bytes: &[u8],
 ) -> Result<Batch, WireFault>
     ensures value { Gives (λ x. map item_of x) result (all_of items_at bytes.now) }
-    ensures from { IfOk result (λ x. All (IsFrom observer config) x) }
+    ensures from { IfOk result (λ x. All (IsFrom observer.now config) x) }
 {
     let (count, rest) = read_number(bytes)?;
     let count = usize::from(count);

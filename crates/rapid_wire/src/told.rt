@@ -5,12 +5,12 @@ ghost use Rattle.std.specs.Prelude.{◌≡◌, All, map};
 ghost use Rattle.rapid_model.specs.Process.{IsProcess};
 ghost use Rattle.rapid_model.specs.Message.{item_of};
 ghost use Rattle.rapid_model.specs.Frame.{IsItem, IsAnswer, IsBody, IsMessage, IsReport, IsBatch};
-ghost use Rattle.rapid_alerts.specs.Alerts.{alert_of, alerts_in};
+ghost use Rattle.rapid_alerts.specs.Alerts.{alert_of_ref, alerts_in};
 ghost use Rattle.rapid_paxos.specs.Reported.{last_of};
 ghost use Rattle.rapid_join.specs.Answers.{NamesObservers, answer_of};
 ghost use Rattle.rapid_message.specs.Bodies.{CanSay, body_of};
 
-use rapid_alerts::{Alert, AlertList, Batch};
+use rapid_alerts::{AlertList, AlertRef, Batch};
 use rapid_config::Cut;
 use rapid_endpoint::Process;
 use rapid_join::Reply;
@@ -29,9 +29,10 @@ fn tell_processes(processes: &[Process])
 
 /// What an alert says can be spelt.
 #[inline(always)]
-fn tell_alert(alert: Alert)
-    ensures { IsItem (item_of (alert_of alert)) }
+fn tell_alert(alert: &AlertRef<'_>)
+    ensures { IsItem (item_of (alert_of_ref alert.now)) }
 {
+    let _ring = alert.ring;
     alert.subject.tell();
 }
 
@@ -41,7 +42,7 @@ fn tell_alerts(alerts: &AlertList)
     ensures { All (λ a. IsItem (item_of a)) (alerts_in alerts.now) }
 {
     for at in 0..alerts.len() {
-        tell_alert(alerts.alert(at));
+        tell_alert(&alerts.alert_ref(at));
     }
 }
 

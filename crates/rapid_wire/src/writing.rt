@@ -6,13 +6,13 @@ ghost use Rattle.rapid_model.specs.Cut.{cut_bytes};
 ghost use Rattle.rapid_model.specs.Message.{item_of};
 ghost use Rattle.rapid_model.specs.Frame.{kind_byte, item_bytes, ballot_bytes, report_bytes, answer_bytes, body_bytes, kind_number};
 ghost use Rattle.std.specs.Int.{w16, to_be_bytes};
-ghost use Rattle.rapid_alerts.specs.Alerts.{alert_of, alerts_in, kind_of};
+ghost use Rattle.rapid_alerts.specs.Alerts.{alert_of_ref, alerts_in, kind_of};
 ghost use Rattle.rapid_paxos.specs.Reported.{last_of};
 ghost use Rattle.rapid_join.specs.Answers.{answer_of};
 ghost use Rattle.rapid_message.specs.Bodies.{body_of};
 
 use crate::numbers::two_bytes;
-use rapid_alerts::{Alert, AlertList, Batch, Kind};
+use rapid_alerts::{AlertList, AlertRef, Batch, Kind};
 use rapid_config::{ConfigId, Cut};
 use rapid_endpoint::Process;
 use rapid_join::Reply;
@@ -44,7 +44,7 @@ fn put_cut(out: &mut Vec<u8>, cut: &Cut) -> Result<(), AllocError>
     let processes = cut.processes();
     let count = processes.len() as u16;
     out.extend_from_slice(&two_bytes(count))?;
-    put_processes(out, processes)
+    processes.append_to(out)
 }
 
 /// A ballot: its round in one byte, its position in two.
@@ -67,8 +67,8 @@ fn byte_of_kind(kind: Kind) -> u8
 }
 
 /// An alert of a batch.
-fn put_alert(out: &mut Vec<u8>, alert: &Alert) -> Result<(), AllocError>
-    ensures { OnOk result (out.new.items ≡ out.old.items ++ item_bytes (item_of (alert_of alert.now))) }
+fn put_alert(out: &mut Vec<u8>, alert: &AlertRef<'_>) -> Result<(), AllocError>
+    ensures { OnOk result (out.new.items ≡ out.old.items ++ item_bytes (item_of (alert_of_ref alert.now))) }
 {
     out.push(alert.ring)?;
     out.push(byte_of_kind(alert.kind))?;
@@ -80,7 +80,7 @@ fn put_alerts(out: &mut Vec<u8>, alerts: &AlertList) -> Result<(), AllocError>
     ensures { OnOk result (out.new.items ≡ out.old.items ++ concat (map item_bytes (map item_of (alerts_in alerts.now)))) }
 {
     for at in 0..alerts.len() {
-        put_alert(out, &alerts.alert(at))?;
+        put_alert(out, &alerts.alert_ref(at))?;
     }
     Ok(())
 }

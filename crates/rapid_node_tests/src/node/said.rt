@@ -59,8 +59,9 @@ pub enum To {
 
 /// The number of the only process of a cut, and 0 if there are more.
 fn only(cut: &Cut) -> u16 {
-    match cut.processes() {
-        [process] => process.endpoint().port(),
+    let mut processes = cut.processes().iter();
+    match (processes.next(), processes.next()) {
+        (Some(only), None) => only.endpoint().port(),
         _ => 0,
     }
 }

@@ -32,7 +32,9 @@ fn report(detector: &mut Detector<Table>, removed: &mut Vec<Process>, ring: u8) 
         config: ConfigId::zero(),
     };
     if let Some(cut) = detector.batch(&[alert])? {
-        removed.extend_from_slice(cut.processes())?;
+        for process in cut.processes().iter() {
+            removed.push(process)?;
+        }
     }
     Ok(())
 }

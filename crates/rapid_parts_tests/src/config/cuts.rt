@@ -48,7 +48,8 @@ pub fn cut(alloc: Global, numbers: &[(u16, u16)]) -> Result<Cut, ConfigError> {
 /// Whether a cut and its copy have these processes.
 fn has_processes(alloc: Global, cut: &Cut, numbers: &[(u16, u16)]) -> Result<bool, Fail> {
     let copy = cut.try_copy(alloc)?;
-    Ok(are(cut.processes(), numbers) && copy == *cut)
+    let processes = cut.processes().to_vec(alloc)?;
+    Ok(are(processes.as_slice(), numbers) && copy == *cut)
 }
 
 #[test]
@@ -114,7 +115,7 @@ fn cut_of(
 fn processes_of_a_cut_may_differ_in_tags_alone(rt: HostRuntime) -> Result<(), Fail> {
     let (bare, tagged) = (process(2), tagged(2, &[b"db"])?);
     let both = cut_of(rt.alloc(), bare, Some(tagged))??;
-    assert!(rt; both.processes() == [bare, tagged].as_slice());
+    assert!(rt; both.processes().to_vec(rt.alloc())?.as_slice() == [bare, tagged].as_slice());
     let turned = cut_of(rt.alloc(), tagged, Some(bare))?;
     assert!(rt; turned.err() == Some(ConfigError::NotSorted));
     let twice = cut_of(rt.alloc(), tagged, Some(tagged))?;

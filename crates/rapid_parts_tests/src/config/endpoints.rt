@@ -1,6 +1,7 @@
 // The worked cases, and what no clause says: printed text, and calls with values that are known
 // from outside.
 
+use crate::numbered::MOST;
 use rapid_endpoint::{
     Endpoint, ParseError, Process, ProcessId, ReadError, Tags, endpoints_have_one_spelling,
 };
@@ -272,6 +273,79 @@ fn other_bytes_are_no_process(rt: HostRuntime) -> Result<(), Fail> {
     Ok(())
 }
 
+/// Whether a process is read over another from its bytes, whatever follows. The other one stays as
+/// it was at each beginning of these, which is too short.
+fn is_read_over(
+    alloc: Global,
+    made: &Process,
+    tags: &[u8],
+    before: Process,
+) -> Result<bool, AllocError> {
+    let mut bytes = joined(alloc, &[], tags)?;
+    let length = bytes.len();
+    bytes.extend_from_slice(&[7, 7])?;
+    let mut process = before;
+    for some in 0..length {
+        let beginning = bytes.get(..some).unwrap_or(&[]);
+        if process.read_over(beginning) != Err(ReadError::Truncated) || process != before {
+            return Ok(false);
+        }
+    }
+    Ok(process.read_over(bytes.as_slice()) == Ok(length) && process == *made)
+}
+
+/// Processes without tags, with some, and with as many as there may be, that are read over.
+fn others() -> Result<[Process; 3], ParseError> {
+    let [a, b, c, d, e, f, g, h] = &MOST;
+    Ok([
+        process(7, 1, 1),
+        ascending(&[b"a"])?,
+        ascending(&[a, b, c, d, e, f, g, h])?,
+    ])
+}
+
+#[test]
+fn processes_are_read_over_others(rt: HostRuntime) -> Result<(), Fail> {
+    let others = others()?;
+    for (list, bytes) in &TAGS {
+        for before in &others {
+            let made = ascending(list)?;
+            assert!(rt;
+                is_read_over(rt.alloc(), &made, bytes, *before)?,
+                "at {bytes:?}"
+            );
+        }
+    }
+    Ok(())
+}
+
+#[test]
+fn a_process_of_other_bytes_is_not_read_over(rt: HostRuntime) -> Result<(), Fail> {
+    let before = ascending(&[b"db", b"web"])?;
+    for (tags, error) in &WRONG {
+        let bytes = joined(rt.alloc(), &[], tags)?;
+        let mut process = before;
+        let read = process.read_over(bytes.as_slice());
+        assert!(rt; read == Err(*error) && process == before, "at {tags:?}");
+    }
+    Ok(())
+}
+
+#[test]
+fn the_length_of_a_process_is_found(rt: HostRuntime) -> Result<(), Fail> {
+    for (_, tags) in &TAGS {
+        let bytes = joined(rt.alloc(), &[], tags)?;
+        let found = Process::length_at(bytes.as_slice());
+        assert!(rt; found == Ok(bytes.len()), "at {tags:?}");
+    }
+    for (tags, error) in &WRONG {
+        let bytes = joined(rt.alloc(), &[], tags)?;
+        let found = Process::length_at(bytes.as_slice());
+        assert!(rt; found == Err(*error), "at {tags:?}");
+    }
+    Ok(())
+}
+
 /// Lists that are no tags, and why: too many are told first, then a wrong one, then the order.
 const OTHER_TAGS: [(&[&[u8]], ParseError); 6] = [
     (&[b"web", b"db"], ParseError::TagsNotSorted),
@@ -294,11 +368,6 @@ fn tags_of_a_process_are_refused_by_name(rt: HostRuntime) {
         assert!(rt; ascending(list) == Err(*error), "at {list:?}");
     }
 }
-
-/// Eight tags of 64 bytes each.
-const MOST: [[u8; 64]; 8] = [
-    [b'1'; 64], [b'2'; 64], [b'3'; 64], [b'4'; 64], [b'5'; 64], [b'6'; 64], [b'7'; 64], [b'8'; 64],
-];
 
 #[test]
 fn a_process_has_at_most_543_bytes(rt: HostRuntime) -> Result<(), Fail> {

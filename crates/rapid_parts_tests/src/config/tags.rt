@@ -1,5 +1,6 @@
 // Tags: the worked values, the limits, and each change of a byte against a second reader.
 
+use crate::numbered::MOST;
 use crate::second::end_of_tags;
 use rapid_endpoint::{ParseError, ReadError, Tags, tags_have_one_spelling};
 use std::cmp::Ordering;
@@ -142,11 +143,6 @@ fn a_tag_may_have_64_bytes(rt: HostRuntime) -> Result<(), Fail> {
     assert!(rt; Tags::read(&bytes) == Err(ReadError::BadTags));
     Ok(())
 }
-
-/// Eight tags of 64 bytes each.
-const MOST: [[u8; 64]; 8] = [
-    [b'1'; 64], [b'2'; 64], [b'3'; 64], [b'4'; 64], [b'5'; 64], [b'6'; 64], [b'7'; 64], [b'8'; 64],
-];
 
 #[test]
 fn eight_tags_may_have_64_bytes_each(rt: HostRuntime) -> Result<(), Fail> {

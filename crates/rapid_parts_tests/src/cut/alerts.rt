@@ -34,7 +34,7 @@ fn flushed(outbox: &mut Outbox<Table>) -> Result<usize, AllocError> {
 
 /// Whether a batch has just what an outbox of process 1 has raised.
 fn has_raised(batch: &Batch, outbox: &Outbox<Table>) -> bool {
-    batch.observer() == process(1)
+    *batch.observer() == process(1)
         && batch.config() == ConfigId::zero()
         && batch.alerts().says_same(outbox.raised())
 }

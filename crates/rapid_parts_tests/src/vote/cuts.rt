@@ -1,6 +1,6 @@
 // Cuts of one process, by its number.
 
-use crate::numbered::process;
+use crate::numbered::{are_numbered, process};
 use rapid_config::{ConfigError, Cut};
 use std::alloc::Global;
 
@@ -12,10 +12,7 @@ pub fn cut(alloc: Global, number: u8) -> Result<Cut, ConfigError> {
 /// Whether it is the cut of the process with this number, or none, as expected.
 pub fn is_cut(found: Option<&Cut>, number: Option<u8>) -> bool {
     match (found, number) {
-        (Some(found), Some(number)) => match found.processes() {
-            [only] => *only == process(u16::from(number)),
-            _ => false,
-        },
+        (Some(found), Some(number)) => are_numbered(found.processes(), &[u16::from(number)]),
         (None, None) => true,
         (Some(_), None) | (None, Some(_)) => false,
     }

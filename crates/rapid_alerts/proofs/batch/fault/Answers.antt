@@ -1,4 +1,4 @@
-use Rattle.std.proofs.Common.{◌≡◌, sym, ◌∙◌, arith, true, false}
+use Rattle.std.proofs.Common.{sym, ◌∙◌, arith, true, false}
 use Rattle.rapid_alerts.proofs.Batches.{fault_is}
 use Rattle.rapid_alerts.proofs.batch.fault.Goals as goal
 

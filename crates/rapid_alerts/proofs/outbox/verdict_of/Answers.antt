@@ -1,6 +1,6 @@
-use Rattle.std.proofs.Common.{◌≡◌, refl, subst}
+use Rattle.std.proofs.Common.{refl, subst}
 use Rattle.rapid_alerts.specs.Alerts.{alert_of}
-use Rattle.rapid_alerts.specs.Outboxes.{refusal, verdict}
+use Rattle.rapid_alerts.specs.Outboxes.{refusal}
 use Rattle.rapid_alerts.specs.Refusals.{RefusesIfAny}
 use Rattle.rapid_alerts.proofs.Raisings.{refused_by}
 use Rattle.rapid_alerts.proofs.outbox.verdict_of.Goals as goal

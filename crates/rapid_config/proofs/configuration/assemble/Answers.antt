@@ -1,6 +1,6 @@
-use Rattle.std.proofs.Common.{List, ap, ◌∙◌, arith}
+use Rattle.std.proofs.Common.{List, map, ap, ◌∙◌, arith}
 use Rattle.sha2.specs.Sha256.{sha256}
-use Rattle.rapid_model.specs.Process.{Process}
+use Rattle.rapid_model.specs.Process.{Process, identifier}
 use Rattle.rapid_model.specs.Configuration.{configuration_bytes, configuration_id}
 use Rattle.rapid_config.proofs.configuration.assemble.Goals as goal
 
@@ -12,4 +12,5 @@ invariant_of-result c = (
       ∙ ap
       (λ (ps : List Process). sha256 (configuration_bytes (record { params = c.args.params; height = c.args.height; previous = c.args.previous; members = ps })))
       c.as_slice.ensures.value,
+  c.in_ok-identifiers.ensures ∙ ap (λ (ps : List Process). map identifier ps) c.as_slice-3.ensures.value,
 )

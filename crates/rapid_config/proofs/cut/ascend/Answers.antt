@@ -3,7 +3,8 @@ use Rattle.std.specs.Ordering.{is_lt}
 use Rattle.std.proofs.lemmas.List.Sorted.{answers_always}
 use Rattle.rapid_model.specs.Process.{process_cmp}
 use Rattle.rapid_model.specs.Cut.{is_ascending}
-use Rattle.rapid_config.proofs.Ascending.{ascends_by_neighbours, is_lt_trans, bytes_total}
+use Rattle.rapid_endpoint.proofs.Ascents.{is_lt_trans}
+use Rattle.rapid_config.proofs.Ascending.{ascends_by_neighbours, bytes_total}
 use Rattle.rapid_config.proofs.cut.ascend.Goals as goal
 
 pub returns : goal.returns

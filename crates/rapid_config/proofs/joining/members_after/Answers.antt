@@ -9,4 +9,4 @@ pub without-requires-2 : goal.without-requires-2
 without-requires-2 c = members_ascend c.args.members.now c.requires.members.identifiers
 
 pub join_all-requires : goal.join_all-requires
-join_all-requires c = subst AreMembers (sym c.in_ok-stayers.ensures) (members_kept (λ p. not (is_in c.args.cut.now p)) c.args.members.now c.requires.members)
+join_all-requires c = subst AreMembers (sym c.in_ok-next.ensures) (members_kept (λ p. not (is_in c.args.cut.now p)) c.args.members.now c.requires.members)

@@ -1,27 +1,17 @@
-use Rattle.std.proofs.Common.{◌≤◌, [], ◌∷◌, ◌++◌, arith}
-use Rattle.std.proofs.lemmas.Result.{err_from_is_err_and}
-use Rattle.rapid_endpoint.specs.ReadErrors.{fault_of}
-use Rattle.rapid_config.proofs.Walking.{begun, step, stopped, ended}
+use Rattle.std.proofs.Common.{ℕ, List, sym, ap, subst, ◌∙◌, arith, length-drop}
+use Rattle.std.specs.Prelude.{Ok}
+use Rattle.std.proofs.lemmas.List.{drop-drop}
+use Rattle.rapid_model.specs.Reading.{processes_at}
+use Rattle.rapid_endpoint.specs.Ends.{EndsAt}
+use Rattle.rapid_endpoint.proofs.Keys.{all_behind}
 use Rattle.rapid_config.proofs.reading.end_of_members.Goals as goal
 
-pub loop-init : goal.loop-init
-loop-init c = ([], begun c.args.count 49 c.args.bytes.now c.requires)
+pub returns-in-Ok : goal.returns-in-Ok
+returns-in-Ok c =
+    let bytes = c.args.bytes.now in
+    let n = c.in-Ok.length in
+    let h = subst (λ (s : List ℕ). EndsAt s (Ok n) (processes_at c.args.count s)) (all_behind 49 bytes) c.in-Ok.ensures in
+    (omega (arith, h.0, length-drop 49 bytes), h.1, h.2 ∙ (λ i. Ok (h.1, drop-drop n 49 bytes i)))
 
-pub returns-in_err-_member : goal.returns-in_err-_member
-returns-in_err-_member c =
-    let p = err_from_is_err_and c.from_residual.result c.from_residual.ensures.1 in
-    rw (p.1, p.2) (stopped c.args.count 49 c.loop.counter c.loop.at c.args.bytes.now c.loop.invariant.0 (fault_of c.in_err-_member.field-0.0) c.loop.invariant.1 c.loop-test.true c.in_err-_member.ensures.read)
-
-pub loop-preserved : goal.loop-preserved
-loop-preserved c = (
-  c.loop.invariant.0 ++ c.in_ok-_member._member ∷ [],
-  step c.args.count 49 c.loop.counter c.loop.at c.in_ok-_member.next c.args.bytes.now c.loop.invariant.0 c.in_ok-_member._member c.loop.invariant.1 c.loop-test.true c.in_ok-_member.ensures.read c.in_ok-_member.ensures.within,
-)
-
-pub returns : goal.returns
-returns c =
-    let done : c.args.count ≤ c.loop.counter = omega (arith, c.loop-test.false) in (
-      c.loop.invariant.1.within,
-      c.loop.invariant.0,
-      ended c.args.count 49 c.loop.counter c.loop.at c.args.bytes.now c.loop.invariant.0 c.loop.invariant.1 done,
-    )
+pub returns-in-Err : goal.returns-in-Err
+returns-in-Err c = ap (processes_at c.args.count) (sym (all_behind 49 c.args.bytes.now)) ∙ c.in-Err.ensures

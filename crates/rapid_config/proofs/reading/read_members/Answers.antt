@@ -1,7 +1,7 @@
 use Rattle.std.proofs.Common.{◌≤◌, sym, ap, arith}
 use Rattle.rapid_model.specs.Reading.{read_in}
 use Rattle.rapid_endpoint.specs.ReadErrors.{fault_of}
-use Rattle.rapid_config.proofs.Walking.{step, not_stopped, ended}
+use Rattle.rapid_endpoint.proofs.Walking.{step, not_stopped, ended}
 use Rattle.rapid_config.proofs.reading.read_members.Goals as goal
 
 pub unreachable-requires : goal.unreachable-requires

@@ -1,4 +1,4 @@
-use Rattle.rapid_config.proofs.Walking.{Walked}
+use Rattle.rapid_endpoint.proofs.Walking.{Walked}
 use Rattle.rapid_config.proofs.reading.read_members.Given as goal
 
 abbrev pub invariant-loop : goal.invariant-loop

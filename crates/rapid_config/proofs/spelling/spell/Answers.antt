@@ -1,5 +1,5 @@
 use Rattle.std.proofs.Common.{◌<◌, ◌++◌, List, ℕ, length, get_or, ap, ◌∙◌, arith}
-use Rattle.rapid_config.proofs.Spelled.{head_bytes, concat_more}
+use Rattle.rapid_config.proofs.Spelled.{head_bytes, spelt_more}
 use Rattle.rapid_config.proofs.spelling.spell.Goals as goal
 
 pub loop-member-preserved : goal.loop-member-preserved
@@ -11,4 +11,4 @@ loop-member-preserved c =
     c.in_ok-append_to.ensures.value
     ∙ ap (λ (x : List ℕ). c.loop-member.bytes.items ++ x) c.member-item.is
     ∙ ap (λ (x : List ℕ). x ++ get_or ps i c.member-item.result) c.loop-member.invariant
-    ∙ concat_more head ps i c.member-item.result l
+    ∙ spelt_more head ps i c.member-item.result l

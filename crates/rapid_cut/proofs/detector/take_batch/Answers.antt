@@ -23,7 +23,7 @@ settle-requires-clause-low g c q =
     let t = g.T.ObserverTable.observers c.args.table.now in
     let old = c.args.known.now.reports.direct in
     let new = c.take_all.new.known.reports.direct in
-    low_among t old new c.args.active.now.items c.deref.result.now c.requires.detecting.rules c.requires.active
+    low_among t old new c.args.active.now c.deref.result.now c.requires.detecting.rules c.requires.active
     (subst (HaveGrown t old new) (sym c.deref.ensures.value) (grown_in_order t old new c.in_ok-joiners.field-0.grown.items c.ascending-grown.result.items c.ascending-grown.ensures c.in_ok-joiners.ensures.grown)) q
 
 pub settle-requires-clause-active : goal.settle-requires-clause-active
@@ -57,6 +57,6 @@ settle-requires-clause-listed g c none =
     let t = g.T.ObserverTable.observers c.args.table.now in
     let old = c.args.known.now.reports.direct in
     let new = c.take_all.new.known.reports.direct in
-    active_same t old new c.args.active.now.items c.requires.detecting.rules c.requires.active
+    active_same t old new c.args.active.now c.requires.detecting.rules c.requires.active
     (none_grown t old new c.ascending-grown.result.items (sym c.deref.ensures.value ∙ none)
     (grown_in_order t old new c.in_ok-joiners.field-0.grown.items c.ascending-grown.result.items c.ascending-grown.ensures c.in_ok-joiners.ensures.grown))

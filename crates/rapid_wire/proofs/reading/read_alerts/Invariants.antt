@@ -6,5 +6,5 @@ use Rattle.rapid_wire.proofs.reading.read_alerts.Given as goal
 abbrev pub invariant-loop : goal.invariant-loop
 invariant-loop l =
     (with_front l.alerts.items (many (l.count - l.counter) item_at l.rest) ≡ many l.count item_at l.bytes)
-    × (l.alerts.observer ≡ l.fn.observer)
+    × (l.alerts.observer ≡ l.observer)
     × (l.alerts.config ≡ l.fn.config)

@@ -13,7 +13,7 @@ returns-then-not-may_have-clause-value c =
 pub batch_of-requires : goal.batch_of-requires
 batch_of-requires c =
     let has = some_and_few_alerts (alerts_in c.in_ok-alerts.alerts) _ _ _ c.in_ok-alerts.ensures.value (sym c.if-not-may_have.ensures) in
-    are_a_batch c.args.observer c.args.config (alerts_in c.in_ok-alerts.alerts) c.in_ok-alerts.ensures.from has.0 has.1
+    are_a_batch c.args.observer.now c.args.config (alerts_in c.in_ok-alerts.alerts) c.in_ok-alerts.ensures.from has.0 has.1
 
 pub returns-clause-value : goal.returns-clause-value
 returns-clause-value c =

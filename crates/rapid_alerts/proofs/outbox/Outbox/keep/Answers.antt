@@ -11,19 +11,19 @@ use Rattle.rapid_alerts.proofs.outbox.Outbox.keep.Goals as goal
 pub add-requires-clause-ring : goal.add-requires-clause-ring
 add-requires-clause-ring g c =
     let observers = g.T.ObserverTable.observers in
-    let a = alert_of c.args.alert in
+    let a = alert_of c.args.alert.now in
     let o : Outbox = record { raised = alerts_in c.self.inside.raised; flushed = c.self.inside.flushed } in
     raised_ring (observers c.self.inside.table) c.self.inside.owner o c.self.inside.index a c.self.invariant.0 (raising_along observers a c.self.view_is ∙ c.requires.raised) c.params.ensures.rules.params.few
 
 pub add-requires-clause-marks : goal.add-requires-clause-marks
 add-requires-clause-marks g c =
-    subst (λ (i : Index). IsOn i c.args.alert.subject c.args.marks)
+    subst (λ (i : Index). IsOn i c.args.alert.now.subject c.args.marks)
     (sym (c.self.invariant.0.index ∙ ap (λ (x : Outbox). index_of x.raised) (outbox_along c.self.view_is))) c.requires.marks
 
 pub add-requires-clause-room : goal.add-requires-clause-room
 add-requires-clause-room g c =
     let observers = g.T.ObserverTable.observers in
-    let a = alert_of c.args.alert in
+    let a = alert_of c.args.alert.now in
     let o : Outbox = record { raised = alerts_in c.self.inside.raised; flushed = c.self.inside.flushed } in
     (raised_parts (observers c.self.inside.table) c.self.inside.owner o c.self.inside.index a c.self.invariant.0 (raising_along observers a c.self.view_is ∙ c.requires.raised)).2
 
@@ -31,7 +31,7 @@ pub invariant_of-self-in-Ok : goal.invariant_of-self-in-Ok
 invariant_of-self-in-Ok g c =
     let observers = g.T.ObserverTable.observers in
     let t = observers c.self.inside.table in
-    let a = alert_of c.args.alert in
+    let a = alert_of c.args.alert.now in
     let o : Outbox = record { raised = alerts_in c.self.inside.raised; flushed = c.self.inside.flushed } in
     let raised = raising_along observers a c.self.view_is ∙ c.requires.raised in
     let parts = parts_of t c.self.inside.owner a (raised_parts t c.self.inside.owner o c.self.inside.index a c.self.invariant.0 raised).0 in
@@ -47,7 +47,7 @@ pub returns-in-Ok-clause-kept : goal.returns-in-Ok-clause-kept
 returns-in-Ok-clause-kept g c =
     let observers = g.T.ObserverTable.observers in
     let t = observers c.self.inside.table in
-    let a = alert_of c.args.alert in
+    let a = alert_of c.args.alert.now in
     let o : Outbox = record { raised = alerts_in c.self.inside.raised; flushed = c.self.inside.flushed } in
     let raised = raising_along observers a c.self.view_is ∙ c.requires.raised in
     let parts = parts_of t c.self.inside.owner a (raised_parts t c.self.inside.owner o c.self.inside.index a c.self.invariant.0 raised).0 in

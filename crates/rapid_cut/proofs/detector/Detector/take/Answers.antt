@@ -15,7 +15,7 @@ invariant_of-self-in-Err g c =
     let known : c.undo.new.self.reports ≡ c.self.inside.known.reports =
     c.undo.ensures.reports ∙ c.take_batch-advance.ensures.before ∙ c.self.invariant.1 in (
       kept_along (g.T.ObserverTable.observers c.self.inside.table) c.self.inside.known.reports c.undo.new.self.reports
-          c.self.inside.active.items c.take_batch-advance.new.active.items c.self.inside.joiners c.self.inside.closed (sym known) (sym c.in-Err.ensures.active) c.self.invariant.0,
+          c.self.inside.active c.take_batch-advance.new.active c.self.inside.joiners c.self.inside.closed (sym known) (sym c.in-Err.ensures.active) c.self.invariant.0,
       c.undo.ensures.kept,
     )
 

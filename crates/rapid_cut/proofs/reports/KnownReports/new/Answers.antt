@@ -1,4 +1,4 @@
-use Rattle.std.proofs.Common.{◌++◌, ap, ◌∙◌}
+use Rattle.std.proofs.Common.{◌++◌, ◌∙◌}
 use Rattle.rapid_cut.specs.Masks.{reports_in}
 use Rattle.rapid_cut.proofs.Masks.{parts, none_in}
 use Rattle.rapid_cut.proofs.reports.KnownReports.new.Goals as goal

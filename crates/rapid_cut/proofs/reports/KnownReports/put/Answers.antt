@@ -25,7 +25,7 @@ in_list c q =
     let ys = c.self.inside.many.entries in
     ap (λ (x : Process × Masks). masks_at (set es c.in-Some.place (x.0, c.args.masks) ++ ys) q) c.index_mut.ensures.value
     ∙ set_at es c.args.subject.now c.in-Some.place c.index_mut.result.now c.args.masks ys
-    (subst (λ xs. StandsAt xs c.args.subject.now c.in-Some.place) c.as_slice.ensures.value c.in-Some.ensures.found) q
+    (subst (λ p. StandsAt es p c.in-Some.place) c.get-process.ensures (subst (λ xs. StandsAt xs c.get-process.result.now c.in-Some.place) c.as_slice.ensures.value c.in-Some.ensures.found)) q
 
 pub returns-in-Some-clause-direct : goal.returns-in-Some-clause-direct
 returns-in-Some-clause-direct c =
@@ -42,8 +42,8 @@ in_map c =
     let es = c.self.inside.few.items in
     let s = c.args.subject.now in
     let ys = c.self.inside.many.entries in
-    behind es s c.args.masks ys c.put_in.new.map.entries (ap (λ xs. masks_at xs s) (sym c.as_slice.ensures.value) ∙ c.in_default.ensures.none)
-    (λ q. c.in_ok-put_in.ensures.put q)
+    behind es s c.args.masks ys c.put_in.new.map.entries (ap (λ xs. masks_at xs s) (sym c.as_slice.ensures.value) ∙ ap (masks_at c.as_slice.result.now) (sym c.get-process.ensures) ∙ c.in_default.ensures.none)
+    (λ q. c.in_ok-put_in.ensures.put q ∙ ap (λ (p : Process). cond (same_bytes p q) (Some c.args.masks) (masks_at ys q)) c.get-process.ensures)
 
 pub returns-then-not-is_empty-clause-direct : goal.returns-then-not-is_empty-clause-direct
 returns-then-not-is_empty-clause-direct c =
@@ -60,7 +60,7 @@ at_end c q =
     let es = c.self.inside.few.items in
     let s = c.args.subject.now in
     let ys = c.self.inside.many.entries in
-    ap (λ xs. masks_at (xs ++ ys) q) c.in_ok-push_to.ensures.pushed ∙ pushed_before es s c.args.masks ys (ap (λ xs. masks_at xs s) (sym c.as_slice.ensures.value) ∙ c.in_default.ensures.none) q
+    ap (λ xs. masks_at (xs ++ ys) q) c.in_ok-push_to.ensures.pushed ∙ pushed_before es s c.args.masks ys (ap (λ xs. masks_at xs s) (sym c.as_slice.ensures.value) ∙ ap (masks_at c.as_slice.result.now) (sym c.get-process.ensures) ∙ c.in_default.ensures.none) q
 
 pub returns-then-len-lt-FEW-clause-direct : goal.returns-then-len-lt-FEW-clause-direct
 returns-then-len-lt-FEW-clause-direct c =
@@ -78,7 +78,7 @@ moved c q =
     let ys = c.self.inside.many.entries in
     let m = c.args.masks in
     ap (λ xs. masks_at (xs ++ c.put_in-2.new.map.entries) q) c.clear.ensures.items ∙ c.in_ok-put_in-2.ensures.put q
-    ∙ ap (λ o. cond (same_bytes c.args.subject.now q) (Some m) o)
+    ∙ ap (λ (p : Process). cond (same_bytes p q) (Some m) (masks_at c.in_ok-many.many.entries q)) c.get-process.ensures ∙ ap (λ o. cond (same_bytes c.args.subject.now q) (Some m) o)
     (c.in_ok-many.ensures q ∙ ap (λ xs. masks_at xs q) c.as_slice-2.ensures.value ∙ alone es ys (c.is_empty.ensures.0 c.if-not-is_empty.false) q)
 
 pub returns-clause-direct : goal.returns-clause-direct

@@ -1,0 +1,132 @@
+// Lists of processes, their cuts, and alerts on processes that are spelt. Each call says by its error
+// that memory ran out and changes nothing, or makes what it makes with memory.
+
+ghost use Rattle.std.specs.Prelude.{◌≡◌, true};
+ghost use Rattle.rapid_model.specs.Reading.{processes_at};
+ghost use Rattle.rapid_endpoint.specs.Ends.{AreAll};
+
+use crate::numbered::{process, tagged};
+use rapid_alerts::{AlertList, Kind, SpeltError};
+use rapid_config::{ConfigError, ConfigId, Cut};
+use rapid_endpoint::{ParseError, Process, ProcessList};
+use std::alloc::{AllocError, Global};
+use std::test::Fail;
+
+/// The process with the number 1, and the one with the number 2 and the tags `db` and `web`.
+fn two() -> Result<[Process; 2], ParseError> {
+    Ok([process(1), tagged(2, &[b"db", b"web"])?])
+}
+
+/// Their bytes.
+const TWO: [u8; 53] = [
+    0, 0, 0, 0, 0, 0, 0, 0, 0, 0, 0, 0, 0, 0, 0, 1, 0x7f, 0, 0, 1, 0, 1, 0, 0, 0, 0, 0, 0, 0, 0, 0,
+    0, 0, 0, 0, 0, 0, 0, 2, 0x7f, 0, 0, 1, 0, 2, 2, 2, b'd', b'b', 3, b'w', b'e', b'b',
+];
+
+#[test]
+fn out_of_memory_in_lists_of_processes(rt: HostRuntime) -> Result<(), Fail> {
+    let two = two()?;
+    let list = ProcessList::from_slice(rt.alloc(), &two)?;
+    let copy = list.try_copy()?;
+    assert!(rt; copy == list);
+    let processes = copy.to_vec(rt.alloc())?;
+    assert!(rt; processes.as_slice() == two.as_slice());
+    Ok(())
+}
+
+/// Whether these bytes are just this many processes.
+fn are_just(count: usize, bytes: &[u8]) -> bool
+    ensures { result ≡ true → AreAll (processes_at count bytes.now) }
+{
+    match ProcessList::end_in(count, bytes) {
+        Ok(end) => end == bytes.len(),
+        Err(_) => false,
+    }
+}
+
+/// The list of this many processes, if these are their bytes.
+fn read(alloc: Global, count: usize, bytes: &[u8]) -> Result<Option<ProcessList>, AllocError> {
+    if !are_just(count, bytes) {
+        return Ok(None);
+    }
+    let list = ProcessList::of_bytes(alloc, count, bytes)?;
+    Ok(Some(list))
+}
+
+#[test]
+fn out_of_memory_in_lists_of_bytes(rt: HostRuntime) -> Result<(), Fail> {
+    let list = ProcessList::from_slice(rt.alloc(), &two()?)?;
+    assert!(rt; read(rt.alloc(), 2, &TWO)? == Some(list));
+    Ok(())
+}
+
+/// Nothing is appended then.
+#[test]
+fn out_of_memory_while_a_list_is_appended(rt: HostRuntime) -> Result<(), Fail> {
+    let list = ProcessList::from_slice(rt.alloc(), &two()?)?;
+    let mut bytes = Vec::new(rt.alloc());
+    if list.append_to(&mut bytes).is_err() {
+        assert!(rt; bytes.is_empty());
+        list.append_to(&mut bytes)?;
+    }
+    assert!(rt; bytes.as_slice() == TWO.as_slice());
+    Ok(())
+}
+
+/// The cut of the list of these processes, and its copy.
+fn cuts(alloc: Global, processes: &[Process]) -> Result<(Cut, Cut), ConfigError> {
+    let cut = Cut::of_list(alloc, ProcessList::from_slice(alloc, processes)?)?;
+    let copy = cut.try_copy(alloc)?;
+    Ok((cut, copy))
+}
+
+#[test]
+fn out_of_memory_in_cuts_of_lists(rt: HostRuntime) -> Result<(), Fail> {
+    let two = two()?;
+    let (cut, copy) = cuts(rt.alloc(), &two)?;
+    let processes = copy.processes().to_vec(rt.alloc())?;
+    assert!(rt; copy == cut && processes.as_slice() == two.as_slice());
+    Ok(())
+}
+
+/// An alert on the process in front of these bytes, added again if out of memory: the list has as
+/// many alerts then as before.
+fn added_again(list: &mut AlertList, bytes: &[u8]) -> Result<usize, SpeltError> {
+    let before = list.len();
+    match list.push_spelt(0, Kind::Remove, bytes) {
+        Err(SpeltError::OutOfMemory) if list.len() == before => {
+            list.push_spelt(0, Kind::Remove, bytes)
+        }
+        answer => answer,
+    }
+}
+
+/// Adds an alert on each of these to a list.
+fn add_all(list: &mut AlertList, subjects: &[&[u8]]) -> Result<(), SpeltError> {
+    for bytes in subjects {
+        added_again(list, bytes)?;
+    }
+    Ok(())
+}
+
+/// The alerts that remove these subjects, in a list.
+fn list_on(alloc: Global, subjects: &[Process]) -> Result<AlertList, AllocError> {
+    let mut list = AlertList::new(alloc, process(1), ConfigId::zero());
+    for subject in subjects {
+        list.push(subject, 0, Kind::Remove)?;
+    }
+    Ok(list)
+}
+
+/// After a refused growth the list is as it was. The alerts are on the one process, then on the
+/// other, and then on both by turns, which are known.
+#[test]
+fn out_of_memory_leaves_the_list_of_alerts_as_it_was(rt: HostRuntime) -> Result<(), Fail> {
+    let ([one, other], first, second) = (two()?, &TWO[..23], &TWO[23..]);
+    let mut list = list_on(rt.alloc(), &[])?;
+    let subjects = [first, second, first, second, first, second];
+    add_all(&mut list, &subjects)?;
+    let expected = list_on(rt.alloc(), &[one, other, one, other, one, other])?;
+    assert!(rt; list.len() == 6 && list.says_same(&expected));
+    Ok(())
+}
