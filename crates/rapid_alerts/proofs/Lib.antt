@@ -1,5 +1,4 @@
 pub mod Batches
-pub mod Begun
 pub mod Indexes
 pub mod Listing
 pub mod Marks

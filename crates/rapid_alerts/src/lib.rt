@@ -11,7 +11,6 @@ mod list;
 mod mark;
 mod outbox;
 mod ring_mask;
-mod spelling;
 
 pub use alert::{Alert, AlertRef, Kind};
 pub use batch::Batch;

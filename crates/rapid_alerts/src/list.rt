@@ -7,7 +7,6 @@ ghost use Rattle.rapid_alerts.specs.Alerts.{ArePlaced, alert_of, alert_of_ref, a
 ghost use Rattle.rapid_alerts.specs.Listing.{Grows, IsSpeltIn};
 ghost use Rattle.rapid_alerts.specs.Spelt.{Adds, Says};
 
-use crate::spelling::is_spelt_at;
 use crate::{Alert, AlertRef, Kind, SpeltError};
 use rapid_config::ConfigId;
 use rapid_endpoint::Process;
@@ -89,7 +88,7 @@ fn length_spelt(subjects: &[Process], place: u16, bytes: &[u8]) -> Option<usize>
     ensures { IfSome result (IsSpeltIn subjects.now place bytes.now) }
 {
     match subjects.get(usize::from(place)) {
-        Some(subject) if is_spelt_at(subject, bytes) => Some(subject.length()),
+        Some(subject) if subject.is_spelt_at(bytes) => Some(subject.length()),
         _ => None,
     }
 }

@@ -3,7 +3,7 @@
 use crate::members::{cut, process};
 use anyhow::{Context, Result, bail};
 use rapid_config::ConfigId;
-use rapid_endpoint::Process;
+use rapid_endpoint::{Process, SharedProcess};
 use rapid_message::{Body, Message};
 use rapid_wire::Feed;
 use std::alloc::Global;
@@ -11,6 +11,7 @@ use std::alloc::Global;
 /// The fast vote of a member for the cut of the processes up to a number, in a list of its own.
 pub fn vote(alloc: Global, sender: Process, id: ConfigId, last: u16) -> Result<Message> {
     let cut = cut(alloc, 1, last)?;
+    let sender = SharedProcess::new(alloc, &sender)?;
     Ok(Message::new(sender, Body::FastVote(id, cut))?)
 }
 

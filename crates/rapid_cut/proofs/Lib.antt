@@ -1,7 +1,6 @@
 pub mod Sets
 pub mod Closing
 pub mod OnePass
-pub mod Parts
 pub mod Passing
 pub mod Active
 pub mod Joiners

@@ -4,16 +4,15 @@ ghost use Rattle.std.specs.Prelude.{◌≡◌, ℕ, ◌++◌, ◌∷◌, [], Non
 ghost use Rattle.rapid_model.specs.Process.{Process as Bytes, same_bytes};
 ghost use Rattle.rapid_cut.specs.Listed.{masks_at, StandsAt};
 
-use crate::kept::Kept;
 use crate::mask::Masks;
-use rapid_endpoint::Process;
+use rapid_endpoint::{Process, SharedProcess};
 use rapid_rings::ProcessKey;
 use std::alloc::{AllocError, Global};
 use std::collections::HashMap;
 
 /// The place of the first entry of a process, if there is one.
 #[inline(always)]
-pub fn place_in(entries: &[(Kept, Masks)], subject: &Process) -> Option<usize>
+pub fn place_in(entries: &[(SharedProcess, Masks)], subject: &Process) -> Option<usize>
     ensures found { IfSome result (StandsAt entries.now subject.now) }
     ensures none { IfNone result (masks_at entries.now subject.now ≡ None) }
 {
@@ -28,7 +27,7 @@ pub fn place_in(entries: &[(Kept, Masks)], subject: &Process) -> Option<usize>
 /// A map with the masks that the list has.
 pub fn map_of(
     alloc: Global,
-    entries: &[(Kept, Masks)],
+    entries: &[(SharedProcess, Masks)],
 ) -> Result<HashMap<ProcessKey, Masks>, AllocError>
     ensures { IfOk result (λ map. (q : Bytes) → masks_at map.entries q ≡ masks_at entries.now q) }
 {
@@ -69,8 +68,8 @@ pub fn put_in(
 /// stay as short.
 #[inline(never)]
 pub fn push_to(
-    entries: &mut Vec<(Kept, Masks)>,
-    subject: &Kept,
+    entries: &mut Vec<(SharedProcess, Masks)>,
+    subject: &SharedProcess,
     masks: Masks,
 ) -> Result<(), AllocError>
     ensures pushed { OnOk result (entries.new.items ≡ entries.old.items ++ (subject.now, masks) ∷ []) }
@@ -84,7 +83,10 @@ pub fn push_to(
 }
 
 /// The same entries, with room for some more. An empty list takes no memory.
-pub fn copy_of(alloc: Global, entries: &[(Kept, Masks)]) -> Result<Vec<(Kept, Masks)>, AllocError>
+pub fn copy_of(
+    alloc: Global,
+    entries: &[(SharedProcess, Masks)],
+) -> Result<Vec<(SharedProcess, Masks)>, AllocError>
     ensures { IfOk result (λ copy. copy.items ≡ entries.now) }
 {
     let mut copy = Vec::new(alloc);
@@ -96,7 +98,10 @@ pub fn copy_of(alloc: Global, entries: &[(Kept, Masks)]) -> Result<Vec<(Kept, Ma
 }
 
 /// Adds the same entries.
-fn share_all(copy: &mut Vec<(Kept, Masks)>, entries: &[(Kept, Masks)]) -> Result<(), AllocError>
+fn share_all(
+    copy: &mut Vec<(SharedProcess, Masks)>,
+    entries: &[(SharedProcess, Masks)],
+) -> Result<(), AllocError>
     ensures { OnOk result (copy.new.items ≡ copy.old.items ++ entries.now) }
 {
     for (subject, masks) in entries {

@@ -7,16 +7,15 @@ ghost use Rattle.rapid_cut.specs.declared.mask.Masks as masks;
 ghost use Rattle.rapid_alerts.specs.RingMasks.{has_ring};
 ghost use Rattle.rapid_cut.specs.Growing.{AddsRings, is_for, is_added, all_added, without_all, before};
 
-use crate::kept::Kept;
 use crate::mask::Masks;
 use crate::reports::KnownReports;
-use rapid_endpoint::Process;
+use rapid_endpoint::{Process, SharedProcess};
 use std::alloc::{AllocError, Global};
 
 /// Rings for which reports on a process were added.
 #[derive(Debug, Drop)]
 struct Added {
-    subject: Kept,
+    subject: SharedProcess,
     rings: Masks,
 }
 
@@ -109,7 +108,7 @@ fn take_out(reports: &mut KnownReports, others: &[Added])
 fn note_joined(
     last: &mut Option<Added>,
     others: &mut Vec<Added>,
-    subject: &Kept,
+    subject: &SharedProcess,
     rings: Masks,
 ) -> Result<(), AllocError>
     ensures direct { OnOk result ((x : Report) → is_added (λ m. m.direct) (all_added last.new others.new.items) x ≡ (is_added (λ m. m.direct) (all_added last.old others.old.items) x || is_for subject.now rings.direct x)) }
@@ -130,7 +129,7 @@ fn note_joined(
 fn note(
     last: &mut Option<Added>,
     others: &mut Vec<Added>,
-    subject: &Kept,
+    subject: &SharedProcess,
     rings: Masks,
 ) -> Result<(), AllocError>
     ensures more { OnOk result ((part : masks.Masks → ℕ) (x : Report) → is_added part (all_added last.new others.new.items) x ≡ (is_added part (all_added last.old others.old.items) x || is_for subject.now (part rings) x)) }

@@ -10,7 +10,6 @@ mod detector;
 mod few;
 mod growing;
 mod in_turn;
-mod kept;
 mod mask;
 mod reports;
 mod shared_list;

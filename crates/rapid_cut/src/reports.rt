@@ -6,9 +6,8 @@ ghost use Rattle.rapid_cut.specs.Growing.{PutsMask, TakesOut};
 ghost use Rattle.rapid_alerts.specs.RingMasks.{has_ring};
 
 use crate::few::{copy_of, map_of, masks_in, place_in, push_to, put_in};
-use crate::kept::Kept;
 use crate::mask::Masks;
-use rapid_endpoint::Process;
+use rapid_endpoint::{Process, SharedProcess};
 use rapid_rings::ProcessKey;
 use std::alloc::{AllocError, Global};
 use std::collections::HashMap;
@@ -26,7 +25,7 @@ const NONE: Masks = Masks { direct: 0, all: 0 };
 /// then in a map.
 #[derive(Debug, Drop)]
 pub struct KnownReports {
-    few: Vec<(Kept, Masks)>,
+    few: Vec<(SharedProcess, Masks)>,
     many: HashMap<ProcessKey, Masks>,
     alloc: Global,
 }
@@ -70,17 +69,17 @@ impl KnownReports {
     }
 
     /// The process. The list shares it if it is there.
-    pub fn kept(&self, subject: &Process) -> Result<Kept, AllocError>
+    pub fn kept(&self, subject: &Process) -> Result<SharedProcess, AllocError>
         ensures { IfOk result (λ kept. kept ≡ subject.now) }
     {
         match place_in(self.few.as_slice(), subject) {
             Some(place) => self.few[place].0.share(),
-            None => Kept::new(self.alloc, subject),
+            None => SharedProcess::new(self.alloc, subject),
         }
     }
 
     /// Puts these rings in the place of those of the reports on the process.
-    pub fn put(&mut self, subject: &Kept, masks: Masks) -> Result<(), AllocError>
+    pub fn put(&mut self, subject: &SharedProcess, masks: Masks) -> Result<(), AllocError>
         ensures direct { OnOk result (PutsMask subject.now masks.direct self.old.direct self.new.direct) }
         ensures all { OnOk result (PutsMask subject.now masks.all self.old.all self.new.all) }
         ensures unchanged { OnErr result (self.new ≡ self.old) }

@@ -1,10 +1,12 @@
 pub mod Ascents
+pub mod Begun
 pub mod Commas
 pub mod Fronts
 pub mod Hosts
 pub mod Keys
 pub mod Listed
 pub mod Numbers
+pub mod Parts
 pub mod Rooms
 pub mod Spellings
 pub mod TagLists

@@ -1,6 +1,6 @@
 // Processes.
 
-ghost use Rattle.std.specs.Prelude.{◌≡◌, ◌≤◌, ◌++◌, [], ◌∷◌, ◌⊎◌, map, length, take, drop, IfOk, IfErr, OnOk, OnErr};
+ghost use Rattle.std.specs.Prelude.{◌≡◌, ◌≤◌, ◌↔◌, ◌++◌, true, [], ◌∷◌, ◌⊎◌, Ok, map, length, take, drop, IfOk, IfErr, OnOk, OnErr};
 ghost use Rattle.std.specs.Ordering.{as_partial_cmp};
 ghost use Rattle.std.specs.Cmp.{partial_equiv_from_equiv, partial_order_from_total};
 ghost use Rattle.std.proofs.lemmas.Cmp.{nat_list_cmp_total, eq_by_cmp_equiv};
@@ -44,6 +44,17 @@ impl Model for Process {
     ghost use Rattle.rapid_endpoint.specs.Joined.{first_part, second_part};
 
     ghost inverse_ok = { λ p h. λ i. record { key = first_part 22 p.key p.tags h.0 i; tags = second_part 22 p.key p.tags h.0 i } };
+}
+
+/// Whether the bytes begin with these.
+fn begin_with(bytes: &[u8], front: &[u8]) -> bool
+    ensures { (result ≡ true) ↔ (bytes.now ≡ front.now ++ drop (length front.now) bytes.now) }
+{
+    match (front, bytes) {
+        // no tags, as is most common: this calls nothing to compare bytes
+        ([only], [first, ..]) => *first == *only,
+        (front, bytes) => bytes.starts_with(front),
+    }
 }
 
 impl Process {
@@ -216,6 +227,19 @@ impl Process {
         let length = Process::length_at(bytes)?;
         self.replace(&bytes[..length]);
         Ok(length)
+    }
+
+    /// Whether this is the process in front of the bytes, that is, whether they begin with its bytes.
+    /// No process is made of them.
+    pub fn is_spelt_at(&self, bytes: &[u8]) -> bool
+        ensures read { (result ≡ true) ↔ (process_at bytes.now ≡ Ok (self.now, drop (length self.now) bytes.now)) }
+        ensures within { result ≡ true → length self.now ≤ length bytes.now }
+    {
+        self.tell();
+        let Some((key, rest)) = bytes.split_first_chunk::<22>() else {
+            return false;
+        };
+        *key == self.key_bytes() && begin_with(rest, self.tags().as_bytes())
     }
 
     /// The value is a process. It does nothing: what it ensures is for proofs.

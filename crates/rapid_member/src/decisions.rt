@@ -11,7 +11,7 @@ ghost use Rattle.rapid_model.specs.Receive as receive;
 
 use crate::sending::answer;
 use rapid_config::{ConfigId, Cut};
-use rapid_endpoint::Process;
+use rapid_endpoint::{Process, SharedProcess};
 use rapid_message::{Body, Output};
 use std::alloc::{AllocError, Global};
 use std::marker::Model;
@@ -102,7 +102,7 @@ impl Decisions {
         &self,
         alloc: Global,
         out: &mut Vec<Output>,
-        me: &Process,
+        me: &SharedProcess,
         from: &Process,
         id: ConfigId,
     ) -> Result<(), AllocError>

@@ -10,7 +10,7 @@ ghost use Rattle.rapid_join.specs.Answers.{AnswersObservers, answered_of, host_a
 use crate::MemberState;
 use crate::sending::{answer, say_to};
 use rapid_config::Configuration;
-use rapid_endpoint::Process;
+use rapid_endpoint::{Process, SharedProcess};
 use rapid_join::{HostAnswer, JoinRequest, JoinerAnswer};
 use rapid_message::{Body, Output};
 use std::alloc::{AllocError, Global};
@@ -19,8 +19,8 @@ use std::alloc::{AllocError, Global};
 pub(crate) fn say_answer(
     alloc: Global,
     out: &mut Vec<Output>,
-    me: &Process,
-    joiner: &Process,
+    me: &SharedProcess,
+    joiner: &SharedProcess,
     answered: &HostAnswer,
 ) -> Result<(), AllocError>
     requires { AnswersObservers answered.now }
@@ -30,20 +30,12 @@ pub(crate) fn say_answer(
     match answered {
         HostAnswer::Nothing => Ok(()),
         HostAnswer::Reply(reply) => {
-            answer(
-                out,
-                me,
-                joiner,
-                Body::Reply(*joiner, reply.try_copy(alloc)?),
-            )
+            let body = Body::Reply(joiner.share()?, reply.try_copy(alloc)?);
+            answer(out, me, joiner.get(), body)
         }
         HostAnswer::Confirm(configuration) => {
-            answer(
-                out,
-                me,
-                joiner,
-                Body::Confirm(configuration.try_copy(alloc)?),
-            )
+            let body = Body::Confirm(configuration.try_copy(alloc)?);
+            answer(out, me, joiner.get(), body)
         }
         HostAnswer::Raise => Ok(()),
     }
@@ -53,7 +45,7 @@ pub(crate) fn say_answer(
 fn say_all(
     alloc: Global,
     out: &mut Vec<Output>,
-    me: &Process,
+    me: &SharedProcess,
     answers: &[(Process, HostAnswer)],
 ) -> Result<(), AllocError>
     requires { All (λ x. AnswersObservers x.1) answers.now }
@@ -63,7 +55,8 @@ fn say_all(
     // gathered apart, so that nothing is said if memory runs out on the way
     let mut said = Vec::new(alloc);
     for (joiner, answered) in answers {
-        say_answer(alloc, &mut said, me, joiner, answered)?;
+        let joiner = SharedProcess::new(alloc, joiner)?;
+        say_answer(alloc, &mut said, me, &joiner, answered)?;
     }
     out.append(&mut said)?;
     Ok(())
@@ -73,7 +66,7 @@ fn say_all(
 fn send_requests(
     alloc: Global,
     out: &mut Vec<Output>,
-    me: &Process,
+    me: &SharedProcess,
     requests: &[JoinRequest],
 ) -> Result<(), AllocError>
     ensures said { OnOk result (out.new.items ≡ out.old.items ++ outputs me.now (map (λ x. Says (To x.0) x.1) (map request_of requests.now))) }
@@ -93,7 +86,7 @@ fn send_requests(
 pub fn send_joining(
     alloc: Global,
     out: &mut Vec<Output>,
-    me: &Process,
+    me: &SharedProcess,
     answered: &JoinerAnswer,
 ) -> Result<(), AllocError>
     ensures said { OnOk result (out.new.items ≡ out.old.items ++ outputs me.now (map (λ x. Says (To x.0) x.1) (sent_by answered.now))) }
@@ -112,7 +105,7 @@ pub fn send_joining(
 pub fn confirm_pending(
     alloc: Global,
     out: &mut Vec<Output>,
-    me: &Process,
+    me: &SharedProcess,
     member: &mut MemberState,
     next: &Configuration,
 ) -> Result<(), AllocError>

@@ -21,7 +21,7 @@ mod voting;
 use crate::shared_rings::SharedRings;
 use parts::{Context, Rest, Votes};
 use rapid_config::Configuration;
-use rapid_endpoint::Process;
+use rapid_endpoint::{Process, SharedProcess};
 use rapid_fast::FastRound;
 use rapid_join::HostAnswer;
 use rapid_rings::Rings;
@@ -67,13 +67,13 @@ impl MemberState {
         alloc: Global,
         configuration: &Configuration,
         rings: Arc<Rings, Global>,
-        me: Process,
+        me: SharedProcess,
     ) -> Result<MemberState, AllocError>
         requires member { is_member configuration.now me ≡ true }
         requires rings { arc_value rings ≡ configuration.now }
         ensures { IfOk result (λ s. s ≡ node.fresh_member configuration.now me) }
     {
-        let Some(place) = configuration.position(&me) else {
+        let Some(place) = configuration.position(me.get()) else {
             unreachable!()
         };
         let size = configuration.members().len();
@@ -112,6 +112,13 @@ impl MemberState {
 
     /// The process.
     fn me(&self) -> &Process
+        ensures { result.now ≡ self.now.me }
+    {
+        self.context.me.get()
+    }
+
+    /// The process, to be shared with what it says.
+    fn shared_me(&self) -> &SharedProcess
         ensures { result.now ≡ self.now.me }
     {
         &self.context.me

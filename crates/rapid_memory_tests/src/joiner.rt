@@ -1,6 +1,6 @@
 // Steps of a joiner: if memory runs out in one it halts, sends nothing and has installed nothing.
 
-use crate::numbered::{THREE, endpoint, founded, process};
+use crate::numbered::{THREE, endpoint, founded, process, shared};
 use rapid_config::Configuration;
 use rapid_join::{Reply, RingObservers};
 use rapid_message::{Body, Destination, Message, Output, Outputs};
@@ -70,21 +70,26 @@ fn goes_on(
 }
 
 /// Process 1 says this.
-fn said(body: Body) -> Result<Event, Fail> {
-    Ok(Event::Receive(Message::new(process(1), body)?))
+fn said(alloc: Global, body: Body) -> Result<Event, Fail> {
+    let sender = shared(alloc, &process(1))?;
+    Ok(Event::Receive(Message::new(sender, body)?))
 }
 
 /// Process 1 answers that process 2 is safe, and that process 1 observes it on each of three rings.
 fn safe(alloc: Global, founding: &Configuration) -> Result<Event, Fail> {
     let observers = RingObservers::new(Vec::from_array(alloc, [process(1); 3])?)?;
-    said(Body::Reply(process(2), Reply::Safe(founding.id(), observers)))
+    let joiner = shared(alloc, &process(2))?;
+    said(
+        alloc,
+        Body::Reply(joiner, Reply::Safe(founding.id(), observers)),
+    )
 }
 
 /// Process 2 asks, requests and is confirmed, as long as there is memory.
 fn joins(rt: &impl Abort, alloc: Global, node: &mut Node) -> Result<(), Fail> {
     let safe = safe(alloc, &founded(alloc, THREE, &[(1, 1)])?)?;
     let both = founded(alloc, THREE, &[(1, 1), (2, 2)])?;
-    let confirmed = said(Body::Confirm(both))?;
+    let confirmed = said(alloc, Body::Confirm(both))?;
     let requests = [Sent::Request(0), Sent::Request(1), Sent::Request(2)];
     let is_member = goes_on(rt, node, &Event::Tick, &[Sent::Question], Phase::Joining)
         && goes_on(rt, node, &safe, &requests, Phase::Joining)

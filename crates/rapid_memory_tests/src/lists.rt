@@ -1,11 +1,11 @@
-// Lists of processes, their cuts, and alerts on processes that are spelt. Each call says by its error
-// that memory ran out and changes nothing, or makes what it makes with memory.
+// Processes that are shared, lists of processes, their cuts, and alerts on processes that are spelt. Each
+// call says by its error that memory ran out and changes nothing, or makes what it makes with memory.
 
 ghost use Rattle.std.specs.Prelude.{◌≡◌, true};
 ghost use Rattle.rapid_model.specs.Reading.{processes_at};
 ghost use Rattle.rapid_endpoint.specs.Ends.{AreAll};
 
-use crate::numbered::{process, tagged};
+use crate::numbered::{process, shared, tagged};
 use rapid_alerts::{AlertList, Kind, SpeltError};
 use rapid_config::{ConfigError, ConfigId, Cut};
 use rapid_endpoint::{ParseError, Process, ProcessList};
@@ -22,6 +22,17 @@ const TWO: [u8; 53] = [
     0, 0, 0, 0, 0, 0, 0, 0, 0, 0, 0, 0, 0, 0, 0, 1, 0x7f, 0, 0, 1, 0, 1, 0, 0, 0, 0, 0, 0, 0, 0, 0,
     0, 0, 0, 0, 0, 0, 0, 2, 0x7f, 0, 0, 1, 0, 2, 2, 2, b'd', b'b', 3, b'w', b'e', b'b',
 ];
+
+/// To share it once more takes no memory.
+#[test]
+fn out_of_memory_in_shared_processes(rt: HostRuntime) -> Result<(), Fail> {
+    let [one, other] = two()?;
+    let first = shared(rt.alloc(), &other)?;
+    let second = first.share()?;
+    assert!(rt; *first.get() == other && *second.get() == other);
+    assert!(rt; second.is(&other) && !second.is(&one));
+    Ok(())
+}
 
 #[test]
 fn out_of_memory_in_lists_of_processes(rt: HostRuntime) -> Result<(), Fail> {

@@ -1,7 +1,7 @@
 // Steps of a node: if memory runs out in one, the node halts, sends nothing and keeps its
 // configuration.
 
-use crate::numbered::{Marks, cut, process};
+use crate::numbered::{Marks, cut, process, shared};
 use rapid_alerts::{Alert, Batch, Kind};
 use rapid_config::{ConfigId, Configuration, Cut, Params};
 use rapid_endpoint::Process;
@@ -151,8 +151,9 @@ fn shown(rt: &impl Abort, node: &Node) -> ConfigId {
 }
 
 /// A message of a process reaches a node.
-fn heard(number: u16, body: Body) -> Result<Event, Fail> {
-    Ok(Event::Receive(Message::new(process(number), body)?))
+fn heard(alloc: Global, number: u16, body: Body) -> Result<Event, Fail> {
+    let sender = shared(alloc, &process(number))?;
+    Ok(Event::Receive(Message::new(sender, body)?))
 }
 
 /// The observer of a process on ring 0.
@@ -183,7 +184,7 @@ fn joining(
     };
     let batch = Batch::new(alloc, &[alert])?;
     let body = Body::Batch(configuration.id(), batch);
-    Ok(Message::new(observer, body)?)
+    Ok(Message::new(shared(alloc, &observer)?, body)?)
 }
 
 /// The batch of the one alert of its observer that the third process joins.
@@ -199,12 +200,12 @@ fn event(rt: &impl Abort, alloc: Global, node: &Node, word: Word) -> Result<Even
         Word::Down(ring, number) => Ok(Event::EdgeDown(shown(rt, node), ring, process(number))),
         Word::Decision(number) => {
             let cut = cut(alloc, number)?;
-            heard(number, Body::Decision(shown(rt, node), cut))
+            heard(alloc, number, Body::Decision(shown(rt, node), cut))
         }
-        Word::JoinRequest => heard(3, Body::JoinRequest(shown(rt, node), 0)),
+        Word::JoinRequest => heard(alloc, 3, Body::JoinRequest(shown(rt, node), 0)),
         Word::Joining => batch(rt, alloc, node),
         Word::Leave => Ok(Event::Leave),
-        Word::Leaves(ring, number) => heard(number, Body::Leave(shown(rt, node), ring)),
+        Word::Leaves(ring, number) => heard(alloc, number, Body::Leave(shown(rt, node), ring)),
     }
 }
 

@@ -1,7 +1,7 @@
 // Processes by their numbers, and configurations of them.
 
 use rapid_config::{ConfigError, Configuration, Cut, Params};
-use rapid_endpoint::{Endpoint, ParseError, Process, ProcessId, ProcessList};
+use rapid_endpoint::{Endpoint, ParseError, Process, ProcessId, ProcessList, SharedProcess};
 use std::alloc::{AllocError, Global};
 use std::test::Fail;
 
@@ -28,6 +28,11 @@ pub fn process(number: u16) -> Process {
 /// The process with this number as identifier and port, and with these tags.
 pub fn tagged(number: u16, tags: &[&[u8]]) -> Result<Process, ParseError> {
     Process::tagged(id(number), endpoint(number), tags)
+}
+
+/// This process, to be shared.
+pub fn shared(alloc: Global, process: &Process) -> Result<SharedProcess, AllocError> {
+    SharedProcess::new(alloc, process)
 }
 
 /// The cut of the process with this number alone.

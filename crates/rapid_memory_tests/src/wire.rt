@@ -45,15 +45,20 @@ fn append(bytes: &mut Vec<u8>, pieces: &[&[u8]]) -> Result<(), AllocError> {
 /// A kind, and the parts of a body.
 type Parts<'a> = (u8, &'a [&'a [u8]]);
 
-/// The frame of a body from the process with the number 1.
-fn frame(alloc: Global, (kind, parts): &Parts) -> Result<Vec<u8>, Fail> {
+/// The frame of a body from a sender.
+fn frame_from(alloc: Global, sender: &[u8], (kind, parts): &Parts) -> Result<Vec<u8>, Fail> {
     let mut payload = Vec::new(alloc);
-    append(&mut payload, &[&[2, *kind], &ONE])?;
+    append(&mut payload, &[&[2, *kind], sender])?;
     append(&mut payload, parts)?;
     let length = u32::try_from(payload.len())?.to_be_bytes();
     let mut frame = Vec::new(alloc);
     append(&mut frame, &[&length, payload.as_slice()])?;
     Ok(frame)
+}
+
+/// The frame of a body from the process with the number 1.
+fn frame(alloc: Global, body: &Parts) -> Result<Vec<u8>, Fail> {
+    frame_from(alloc, &ONE, body)
 }
 
 /// Whether a message is written as this frame.
@@ -100,5 +105,27 @@ fn out_of_memory_leaves_the_feed_as_it_was(rt: HostRuntime) -> Result<(), Fail> 
     for body in &GROWING {
         assert!(rt; survives(rt.alloc(), body)?, "at {body:?}");
     }
+    Ok(())
+}
+
+/// Whether messages of these senders come one after another, with one growth refused.
+fn come_in_turn(alloc: Global, senders: &[&[u8]]) -> Result<bool, Fail> {
+    let mut feed = Feed::new(alloc);
+    for sender in senders {
+        let bytes = frame_from(alloc, sender, &(12, &[&ID]))?;
+        match fed_again(&mut feed, &bytes)? {
+            Some(message) if writes(alloc, &message, &bytes)? => {}
+            _ => return Ok(false),
+        }
+    }
+    Ok(true)
+}
+
+/// A feed keeps the sender of its last message. What it keeps is no other message's sender, also
+/// after a refused growth.
+#[test]
+fn out_of_memory_leaves_each_message_its_sender(rt: HostRuntime) -> Result<(), Fail> {
+    let senders: [&[u8]; 6] = [&TWO, &TAGGED, &TAGGED, &TWO, &ONE, &ONE];
+    assert!(rt; come_in_turn(rt.alloc(), &senders)?);
     Ok(())
 }

@@ -8,7 +8,7 @@ use crate::MessageError;
 use crate::saying::check;
 use rapid_alerts::Batch;
 use rapid_config::{ConfigId, Configuration, Cut};
-use rapid_endpoint::Process;
+use rapid_endpoint::{Process, SharedProcess};
 use rapid_join::Reply;
 use rapid_paxos::{Ballot, copy_vote};
 use std::alloc::{AllocError, Global};
@@ -34,7 +34,7 @@ pub enum Body {
     /// The sender wants to join.
     PreJoin,
     /// What a host answers to this joiner.
-    Reply(Process, Reply),
+    Reply(SharedProcess, Reply),
     /// The sender asks its observer on this ring to let it in.
     JoinRequest(ConfigId, u8),
     /// The configuration that the joiner is in.
@@ -63,7 +63,7 @@ impl Body {
             Body::Accepted(id, ballot, cut) => Body::Accepted(*id, *ballot, cut.try_copy(alloc)?),
             Body::Decision(id, cut) => Body::Decision(*id, cut.try_copy(alloc)?),
             Body::PreJoin => Body::PreJoin,
-            Body::Reply(joiner, reply) => Body::Reply(*joiner, reply.try_copy(alloc)?),
+            Body::Reply(joiner, reply) => Body::Reply(joiner.share()?, reply.try_copy(alloc)?),
             Body::JoinRequest(id, ring) => Body::JoinRequest(*id, *ring),
             Body::Confirm(configuration) => Body::Confirm(configuration.try_copy(alloc)?),
             Body::Probe(id) => Body::Probe(*id),
@@ -95,11 +95,11 @@ impl Body {
     }
 }
 
-/// A message: who sends it, and what it says. A sender's batch has its own alerts, and only a fast
-/// vote and the vote that a promise reports can be at the fast ballot.
+/// A message: who sends it, which is shared, and what it says. A sender's batch has its own alerts,
+/// and only a fast vote and the vote that a promise reports can be at the fast ballot.
 #[derive(Debug, Drop)]
 pub struct Message {
-    sender: Process,
+    sender: SharedProcess,
     body: Body,
 }
 
@@ -119,18 +119,18 @@ impl Message {
     /// batch has alerts of another than the sender. Else `OtherConfiguration` if it has alerts for
     /// another configuration than the one that it names. `FastBallot` if a Prepare, a Promise, an
     /// Accept or an Accepted is at the fast ballot. `NoObserver` if a reply Safe names no observer.
-    pub fn new(sender: Process, body: Body) -> Result<Message, MessageError>
+    pub fn new(sender: SharedProcess, body: Body) -> Result<Message, MessageError>
         ensures value { IfOk result (λ message. message ≡ record { sender = sender; body = body_of body }) }
         ensures said { OnOk result (CanSay sender body) }
         ensures refused { IfErr result (CannotSay sender body) }
     {
-        check(&sender, &body)?;
+        check(sender.get(), &body)?;
         Ok(Message::of(sender, body))
     }
 
     /// The message of a sender that can say this. What a member says is known to be such, and is not
     /// looked through again.
-    pub fn of(sender: Process, body: Body) -> Message
+    pub fn of(sender: SharedProcess, body: Body) -> Message
         requires { CanSay sender body }
         ensures { result ≡ record { sender = sender; body = body_of body } }
     {
@@ -139,6 +139,13 @@ impl Message {
 
     /// Who sends it.
     pub fn sender(&self) -> &Process
+        ensures { result.now ≡ self.now.sender }
+    {
+        self.sender.get()
+    }
+
+    /// Who sends it, to be shared.
+    pub fn shared_sender(&self) -> &SharedProcess
         ensures { result.now ≡ self.now.sender }
     {
         &self.sender
@@ -164,10 +171,8 @@ impl Message {
     pub fn try_copy(&self, alloc: Global) -> Result<Message, AllocError>
         ensures { IfOk result (λ m. m ≡ self.now) }
     {
+        let sender = self.sender.share()?;
         let body = self.body.try_copy(alloc)?;
-        Ok(Message {
-            sender: self.sender,
-            body,
-        })
+        Ok(Message { sender, body })
     }
 }

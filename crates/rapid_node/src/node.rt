@@ -29,7 +29,7 @@ use crate::views::{ViewWithRings, Views};
 use crate::{Event, NodeFault, Phase};
 use rapid_alerts::{Alert, Kind};
 use rapid_config::{ConfigId, Configuration, Cut, Stamp};
-use rapid_endpoint::{Endpoint, Process};
+use rapid_endpoint::{Endpoint, Process, SharedProcess};
 use rapid_join::{Joiner, Reply};
 use rapid_member::{Decisions, MemberState, confirm_pending, send_joining};
 use rapid_message::{Body, Message, Output, Outputs};
@@ -43,7 +43,7 @@ use std::sync::Arc;
 /// no input or output: it takes events, one [`Node::step`] each, and answers what is to be sent.
 #[derive(Debug, Drop)]
 pub struct Node {
-    me: Arc<Process, Global>,
+    me: SharedProcess,
     state: State,
     past: Arc<Past, Global>,
     alloc: Global,
@@ -60,9 +60,9 @@ impl Model for Node {
 
     ghost use Rattle.rapid_node.specs.Phases.{phase_of, IsState};
 
-    ghost view = { λ n. record { me = arc_value n.me; phase = phase_of (arc_value n.past).shown n.state; installed = (arc_value n.past).installed; decisions = (arc_value n.past).decisions } };
+    ghost view = { λ n. record { me = n.me; phase = phase_of (arc_value n.past).shown n.state; installed = (arc_value n.past).installed; decisions = (arc_value n.past).decisions } };
 
-    ghost invariant = { λ n. IsState (arc_value n.me) (arc_value n.past).shown n.state };
+    ghost invariant = { λ n. IsState n.me (arc_value n.past).shown n.state };
 }
 
 /// The member that a member observes on a ring.
@@ -77,11 +77,10 @@ impl Node {
     pub const MOST_VIEWS: usize = 65_536;
 
     /// The node of these parts.
-    fn of(alloc: Global, me: Process, state: State, past: Past) -> Result<Node, AllocError>
+    fn of(alloc: Global, me: SharedProcess, state: State, past: Past) -> Result<Node, AllocError>
         requires { IsState me past.shown state }
         ensures { IfOk result (λ node. node ≡ record { me = me; phase = phase_of past.shown state; installed = past.installed; decisions = past.decisions }) }
     {
-        let me = Arc::new(alloc, me)?;
         let past = Arc::new(alloc, past)?;
         Ok(Node {
             me,
@@ -124,8 +123,9 @@ impl Node {
             installed,
             decisions: Decisions::new(alloc)?,
         };
-        let state = State::found(alloc, &view, process)?;
-        Node::of(alloc, process, state, past)
+        let me = SharedProcess::new(alloc, &process)?;
+        let state = State::found(alloc, &view, &me)?;
+        Node::of(alloc, me, state, past)
     }
 
     /// The node of a process that joins by the seed at this endpoint.
@@ -137,15 +137,23 @@ impl Node {
             installed: Installed::new(alloc)?,
             decisions: Decisions::new(alloc)?,
         };
+        let me = SharedProcess::new(alloc, &process)?;
         let state = State::Joining(Box::new(alloc, Joiner::new(process, seed))?);
-        Node::of(alloc, process, state, past)
+        Node::of(alloc, me, state, past)
     }
 
     /// The process.
     pub fn process(&self) -> &Process
         ensures { result.now ≡ self.now.me }
     {
-        &*self.me
+        self.me.get()
+    }
+
+    /// The process, to be shared with what it says.
+    fn shared_me(&self) -> &SharedProcess
+        ensures { result.now ≡ self.now.me }
+    {
+        &self.me
     }
 
     /// The stamps of all configurations that it installed, in order.
@@ -226,7 +234,7 @@ impl Node {
         ensures { IfOk result (λ node. node ≡ self.now) }
     {
         let state = self.state.try_copy(self.alloc)?;
-        let me = Arc::try_clone(&self.me)?;
+        let me = self.me.share()?;
         let past = Arc::try_clone(&self.past)?;
         Ok(Node {
             me,
@@ -281,7 +289,7 @@ impl Node {
     {
         let id = before.configuration().id();
         let decisions = self.past.decisions.with(self.alloc, id, cut)?;
-        let state = State::enter(self.alloc, view, *self.process())?;
+        let state = State::enter(self.alloc, view, &self.me)?;
         let stamp = view.configuration().stamp();
         let shown = Shown::share_of(view.configuration())?;
         Arc::make_mut(&mut self.past)?.add(stamp, shown, decisions)?;
@@ -306,7 +314,7 @@ impl Node {
     {
         let view = views.after(&*member, &cut)?;
         let next = &**view.configuration();
-        confirm_pending(self.alloc, out, self.process(), &mut *member, next)?;
+        confirm_pending(self.alloc, out, self.shared_me(), &mut *member, next)?;
         self.enter(&*member, &view, cut)
     }
 
@@ -440,7 +448,7 @@ impl Node {
         ensures unchanged { OnErr result (self.new ≡ self.old) }
     {
         let question = joiner.on_tick();
-        send_joining(self.alloc, out, self.process(), &question)?;
+        send_joining(self.alloc, out, self.shared_me(), &question)?;
         self.be_joining(joiner);
         Ok(())
     }
@@ -460,7 +468,7 @@ impl Node {
         ensures unchanged { OnErr result (self.new ≡ self.old) }
     {
         let answer = joiner.on_reply(self.alloc, process, reply)?;
-        send_joining(self.alloc, out, self.process(), &answer)?;
+        send_joining(self.alloc, out, self.shared_me(), &answer)?;
         self.be_joining(joiner);
         Ok(())
     }
@@ -502,7 +510,7 @@ impl Node {
         ensures unchanged { OnErr result (self.new ≡ self.old) }
     {
         match message.body() {
-            Body::Reply(process, reply) => self.joiner_reply(out, joiner, process, reply),
+            Body::Reply(process, reply) => self.joiner_reply(out, joiner, process.get(), reply),
             Body::Confirm(configuration) => self.joiner_confirm(views, joiner, configuration),
             Body::Batch(..)
             | Body::FastVote(..)
@@ -531,7 +539,7 @@ impl Node {
                 let from = message.sender();
                 self.past
                     .decisions
-                    .catch_up(self.alloc, out, self.process(), from, id)
+                    .catch_up(self.alloc, out, self.shared_me(), from, id)
             }
             None => Ok(()),
         }

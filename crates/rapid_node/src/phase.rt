@@ -9,7 +9,7 @@ ghost use Rattle.rapid_node.specs.Phases.{phase_of, IsState};
 
 use crate::views::ViewWithRings;
 use rapid_config::Configuration;
-use rapid_endpoint::Process;
+use rapid_endpoint::SharedProcess;
 use rapid_join::Joiner;
 use rapid_member::MemberState;
 use std::alloc::{AllocError, Global};
@@ -46,14 +46,15 @@ impl State {
     pub(crate) fn found(
         alloc: Global,
         view: &ViewWithRings,
-        me: Process,
+        me: &SharedProcess,
     ) -> Result<State, AllocError>
-        requires { is_member view.now me ≡ true }
-        ensures phase { IfOk result (λ s. phase_of (Some view.now) s ≡ Member (fresh_member view.now me)) }
-        ensures state { IfOk result (IsState me (Some view.now)) }
+        requires { is_member view.now me.now ≡ true }
+        ensures phase { IfOk result (λ s. phase_of (Some view.now) s ≡ Member (fresh_member view.now me.now)) }
+        ensures state { IfOk result (IsState me.now (Some view.now)) }
     {
         let rings = Arc::try_clone(view.rings())?;
-        let member = MemberState::new(alloc, &**view.configuration(), rings, me)?;
+        let own = me.share()?;
+        let member = MemberState::new(alloc, &**view.configuration(), rings, own)?;
         let boxed = Box::new(alloc, member)?;
         Ok(State::Member(boxed))
     }
@@ -62,12 +63,12 @@ impl State {
     pub(crate) fn enter(
         alloc: Global,
         view: &ViewWithRings,
-        me: Process,
+        me: &SharedProcess,
     ) -> Result<State, AllocError>
-        ensures phase { IfOk result (λ s. phase_of (Some view.now) s ≡ phase_in view.now me) }
-        ensures state { IfOk result (IsState me (Some view.now)) }
+        ensures phase { IfOk result (λ s. phase_of (Some view.now) s ≡ phase_in view.now me.now) }
+        ensures state { IfOk result (IsState me.now (Some view.now)) }
     {
-        if view.configuration().is_member(&me) {
+        if view.configuration().is_member(me.get()) {
             State::found(alloc, view, me)
         } else {
             Ok(State::Removed(view.configuration().try_copy(alloc)?))

@@ -1,8 +1,8 @@
 // Processes by their numbers, and their cuts.
 
 use rapid_config::Cut;
-use rapid_endpoint::{Endpoint, ParseError, Process, ProcessId};
-use std::alloc::Global;
+use rapid_endpoint::{Endpoint, ParseError, Process, ProcessId, SharedProcess};
+use std::alloc::{AllocError, Global};
 use std::test::Fail;
 
 /// The process with this number: its identifier in 16 bytes, and port of 127.0.0.1.
@@ -12,6 +12,11 @@ pub fn process(number: u16) -> Process {
     id[14] = high;
     id[15] = low;
     Process::new(ProcessId::new(id), Endpoint::new([127, 0, 0, 1], number))
+}
+
+/// This process, to be shared.
+pub fn shared(alloc: Global, process: &Process) -> Result<SharedProcess, AllocError> {
+    SharedProcess::new(alloc, process)
 }
 
 /// The process with this number and these tags.

@@ -8,5 +8,6 @@ mod endpoints;
 mod hexadecimal;
 mod lists;
 mod readings;
+mod shared;
 mod tags;
 mod texts;

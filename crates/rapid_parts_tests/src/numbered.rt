@@ -1,7 +1,7 @@
 // Processes by their numbers, and configurations of them.
 
 use rapid_config::{ConfigError, Configuration, Params};
-use rapid_endpoint::{Endpoint, ParseError, Process, ProcessId, ProcessList};
+use rapid_endpoint::{Endpoint, ParseError, Process, ProcessId, ProcessList, SharedProcess};
 use std::alloc::{AllocError, Global};
 
 /// The process of this identifier in 16 bytes, at this port of 127.0.0.1.
@@ -13,6 +13,11 @@ pub fn at(number: u16, port: u16) -> Process {
 /// The process with this number as identifier and port.
 pub fn process(number: u16) -> Process {
     at(number, number)
+}
+
+/// This process, to be shared.
+pub fn shared(alloc: Global, process: &Process) -> Result<SharedProcess, AllocError> {
+    SharedProcess::new(alloc, process)
 }
 
 /// The process with this number as identifier and port, and with these tags.

@@ -5,3 +5,4 @@ mod cuts;
 mod frames;
 mod longest;
 mod refusals;
+mod senders;

@@ -39,7 +39,7 @@ use crate::received::Received;
 use bytes::Bytes;
 use rapid_config::{ConfigId, Configuration, Params};
 use rapid_desk::{Desk, DeskError, Subscription};
-use rapid_endpoint::{Endpoint, Process};
+use rapid_endpoint::{Endpoint, Process, SharedProcess};
 use rapid_lines::{Asking, Note, Notes, write_view};
 use rapid_message::{Body, Destination, Message, Output, Outputs};
 use rapid_node::{Event, Phase};
@@ -62,7 +62,7 @@ const SEATS: usize = 8;
 pub struct Service<R: Wait + Copy + Drop, P: Post + Drop> {
     rt: R,
     alloc: Global,
-    me: Process,
+    me: SharedProcess,
     desk: Desk<R>,
     /// Its questions while it has no view.
     asking: Option<Asking>,
@@ -78,7 +78,7 @@ pub struct Service<R: Wait + Copy + Drop, P: Post + Drop> {
 }
 
 /// The probe of a configuration, which anyone can say.
-fn probe_of(sender: Process, id: ConfigId) -> Message
+fn probe_of(sender: SharedProcess, id: ConfigId) -> Message
     ensures { result ≡ record { sender = sender; body = Probe id } }
 {
     match Message::new(sender, Body::Probe(id)) {
@@ -162,7 +162,7 @@ impl<R: Wait + Copy + Drop, P: Post + Drop> Drop for Service<R, P> {
 
 impl<R: Wait + Copy + Drop, P: Post + Drop> Service<R, P> {
     /// The service at a desk.
-    fn at(rt: R, alloc: Global, me: Process, desk: Desk<R>, post: P) -> Service<R, P>
+    fn at(rt: R, alloc: Global, me: SharedProcess, desk: Desk<R>, post: P) -> Service<R, P>
         ensures desk { (result.desk ≡ desk) × (result.me ≡ me) }
         ensures blank { (result.present ≡ None) × (result.asking ≡ None) × (result.lines.items ≡ []) × (result.notes.waiting.items ≡ []) × (result.rounds ≡ 0) }
         ensures seats { vec_len result.seats ≡ 0 }
@@ -213,6 +213,7 @@ impl<R: Wait + Copy + Drop, P: Post + Drop> Service<R, P> {
         let Ok(desk) = Desk::seed(rt, alloc, &configuration, me, SEATS) else {
             return Err(RunningFault::OutOfMemory);
         };
+        let me = SharedProcess::new(alloc, &me)?;
         let mut service = Service::at(rt, alloc, me, desk, post);
         service.enter(View::new(configuration))?;
         Ok(service)
@@ -240,6 +241,7 @@ impl<R: Wait + Copy + Drop, P: Post + Drop> Service<R, P> {
         let Ok(desk) = Desk::joiner(rt, alloc, me, seed, SEATS) else {
             return Err(RunningFault::OutOfMemory);
         };
+        let me = SharedProcess::new(alloc, &me)?;
         let mut service = Service::at(rt, alloc, me, desk, post);
         service.asking = Some(Asking::new(seed));
         Ok(service)
@@ -310,7 +312,8 @@ impl<R: Wait + Copy + Drop, P: Post + Drop> Service<R, P> {
         ensures asked { OnOk result (AsksOrNone self.old.lines.items self.old.asking self.new.lines.items self.new.asking) }
     {
         self.hand_down(round.id, &round.downs)?;
-        let frame = frame_of(self.alloc, &probe_of(self.me, round.id))?;
+        let probe = probe_of(self.me.share()?, round.id);
+        let frame = frame_of(self.alloc, &probe)?;
         probe_all(&self.rt, &mut self.post, &round.probes, &frame)?;
         Ok(())
     }
@@ -450,7 +453,7 @@ impl<R: Wait + Copy + Drop, P: Post + Drop> Service<R, P> {
     {
         if let Some(asking) = &mut self.asking
             && let Body::Reply(joiner, reply) = message.body()
-            && *joiner == self.me
+            && self.me.is(joiner.get())
         {
             asking.hear(reply);
         }
@@ -471,7 +474,7 @@ impl<R: Wait + Copy + Drop, P: Post + Drop> Service<R, P> {
     pub fn process(&self) -> Process
         ensures { result ≡ self.now.me }
     {
-        self.me
+        *self.me.get()
     }
 
     /// The phase of the node.
@@ -648,7 +651,7 @@ impl<R: Wait + Copy + Drop, P: Post + Drop> Service<R, P> {
                 &self.rt,
                 &mut self.post,
                 present.view.configuration().members(),
-                &self.me,
+                self.me.get(),
                 frame,
             ),
             None => Ok(()),
@@ -729,7 +732,7 @@ impl<R: Wait + Copy + Drop, P: Post + Drop> Service<R, P> {
     {
         match &self.present {
             Some(present) => present.watch.next(configuration),
-            None => ObservedEdges::new(self.alloc, configuration, &self.me),
+            None => ObservedEdges::new(self.alloc, configuration, self.me.get()),
         }
     }
 

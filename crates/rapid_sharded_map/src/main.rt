@@ -11,7 +11,7 @@ use crate::stores::{STORE, deal};
 use anyhow::{Context, Result, bail};
 use rapid_config::{ConfigId, Configuration, Cut, Params};
 use rapid_desk::{Desk, Subscription, Taken};
-use rapid_endpoint::{Endpoint, Process, ProcessId};
+use rapid_endpoint::{Endpoint, Process, ProcessId, SharedProcess};
 use rapid_message::{Body, Message};
 use rapid_node::Event;
 use rapid_view::{View, ViewSeat};
@@ -113,7 +113,8 @@ fn process(number: u16) -> Result<Process> {
 /// Another member says that a cut of this process was decided in the configuration.
 fn decision(alloc: Global, id: ConfigId, number: u16) -> Result<Event> {
     let cut = Cut::new(Vec::from_array(alloc, [process(number)?])?)?;
-    let message = Message::new(process(2)?, Body::Decision(id, cut))?;
+    let sender = SharedProcess::new(alloc, &process(2)?)?;
+    let message = Message::new(sender, Body::Decision(id, cut))?;
     Ok(Event::Receive(message))
 }
 

@@ -2,11 +2,11 @@
 
 ghost use Rattle.std.specs.Prelude.{◌≤◌, ◌<◌};
 
-use crate::numbered::{cut, process};
+use crate::numbered::{cut, process, shared};
 use rapid_config::{ConfigId, Configuration, Params};
 use rapid_desk::{Desk, DeskError, Subscription, Taken};
 use rapid_endpoint::Endpoint;
-use rapid_message::{Body, Message, MessageError};
+use rapid_message::{Body, Message};
 use rapid_node::{Event, NodeFault};
 use rapid_view::ViewSeat;
 use std::alloc::{AllocError, Global};
@@ -28,13 +28,15 @@ fn after(alloc: Global, configuration: &Configuration, number: u16) -> Result<Co
 /// Process 2 says that in the configuration with this identifier the cut of this process was
 /// decided.
 pub(crate) fn decision(alloc: Global, id: ConfigId, number: u16) -> Result<Event, Fail> {
-    let message = Message::new(process(2), Body::Decision(id, cut(alloc, number)?))?;
+    let sender = shared(alloc, &process(2))?;
+    let message = Message::new(sender, Body::Decision(id, cut(alloc, number)?))?;
     Ok(Event::Receive(message))
 }
 
 /// Process 1 confirms that the configuration was installed.
-fn confirmation(configuration: Configuration) -> Result<Event, MessageError> {
-    let message = Message::new(process(1), Body::Confirm(configuration))?;
+fn confirmation(alloc: Global, configuration: Configuration) -> Result<Event, Fail> {
+    let sender = shared(alloc, &process(1))?;
+    let message = Message::new(sender, Body::Confirm(configuration))?;
     Ok(Event::Receive(message))
 }
 
@@ -161,7 +163,7 @@ fn has_seats_once_in<R: Wait + Abort>(
 ) -> Result<(), Fail> {
     let configuration = after(alloc, &founding(alloc)?, 2)?;
     let copy = configuration.try_copy(alloc)?;
-    hand_over(rt, desk, confirmation(configuration)?, confirmation(copy)?)?;
+    hand_over(rt, desk, confirmation(alloc, configuration)?, confirmation(alloc, copy)?)?;
     assert!(rt; desk.take_seats().is_some());
     Ok(())
 }

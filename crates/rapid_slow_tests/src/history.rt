@@ -1,6 +1,6 @@
 // A node installs at most 65,536 views.
 
-use crate::numbered::process;
+use crate::numbered::{process, shared};
 use rapid_config::{Configuration, Cut, Params};
 use rapid_message::{Body, Message};
 use rapid_node::{Event, Node, NodeFault, Phase};
@@ -23,7 +23,8 @@ fn founder(rt: &impl Abort, alloc: Global) -> Result<Box<Node>, Fail> {
 fn decision(rt: &impl Abort, alloc: Global, node: &Node) -> Result<Event, Fail> {
     let shown = node.configuration().expect(rt, "a configuration").id();
     let cut = Cut::new(Vec::from_array(alloc, [process(2)])?)?;
-    Ok(Event::Receive(Message::new(process(2), Body::Decision(shown, cut))?))
+    let sender = shared(alloc, &process(2))?;
+    Ok(Event::Receive(Message::new(sender, Body::Decision(shown, cut))?))
 }
 
 /// Installs a view, which has the second process if the one before has it not.

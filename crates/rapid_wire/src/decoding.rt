@@ -11,9 +11,10 @@ use crate::WireFault;
 use crate::encoding::VERSION;
 use crate::kind::FrameKind;
 use crate::kinds::read_body;
-use crate::reading::{any_process, read_process};
+use crate::reading::read_shared;
 use crate::told::tell_message;
 use rapid_config::Configuration;
+use rapid_endpoint::SharedProcess;
 use rapid_message::Message;
 use std::alloc::Global;
 
@@ -25,19 +26,20 @@ pub(crate) fn tell_bytes(bytes: &[u8])
     let _ = bytes;
 }
 
-/// The message of a kind whose sender and body are these bytes. A configuration may be near.
+/// The message of a kind whose sender and body are these bytes. A configuration may be near, and a
+/// sender.
 #[tactic(auto, unfolding(crate::specs::Reading::message_in))]
 fn read_message(
     alloc: Global,
     near: Option<&Configuration>,
+    sender: Option<&SharedProcess>,
     kind: FrameKind,
     bytes: &[u8],
 ) -> Result<Message, WireFault>
     ensures { Gives (λ m. m) result (message_in (number_of kind) bytes.now) }
 {
-    let mut sender = any_process();
-    let length = read_process(&mut sender, bytes)?;
-    let body = read_body(alloc, near, sender, kind, &bytes[length..])?;
+    let (sender, length) = read_shared(alloc, sender, bytes)?;
+    let body = read_body(alloc, near, sender.get(), kind, &bytes[length..])?;
     Ok(Message::of(sender, body))
 }
 
@@ -63,10 +65,12 @@ fn open_frame(whole: &[u8]) -> Result<(FrameKind, &[u8]), WireFault>
 }
 
 /// The message of a whole frame, after its length. The faults of its first two bytes come first,
-/// then `BadBody` if the rest is not spelt as a message of this kind is. A configuration may be near.
+/// then `BadBody` if the rest is not spelt as a message of this kind is. A configuration may be near,
+/// and a sender.
 pub(crate) fn decode(
     alloc: Global,
     near: Option<&Configuration>,
+    sender: Option<&SharedProcess>,
     whole: &[u8],
 ) -> Result<Message, WireFault>
     ensures valid { IfOk result IsMessage }
@@ -75,7 +79,7 @@ pub(crate) fn decode(
 {
     let (kind, rest) = open_frame(whole)?;
     tell_bytes(rest);
-    let message = read_message(alloc, near, kind, rest)?;
+    let message = read_message(alloc, near, sender, kind, rest)?;
     tell_message(&message);
     Ok(message)
 }

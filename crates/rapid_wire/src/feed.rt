@@ -10,6 +10,7 @@ use crate::decoding::{decode, tell_bytes};
 use crate::numbers::length_in;
 use bytes::BytesMut;
 use rapid_config::Configuration;
+use rapid_endpoint::SharedProcess;
 use rapid_message::Message;
 use std::alloc::{AllocError, Global};
 use std::marker::Model;
@@ -32,6 +33,8 @@ const MOST_BYTES: usize = 2_097_152;
 pub struct Feed {
     held: BytesMut,
     fault: Option<WireFault>,
+    // the sender of the last message: mostly the next one is from it too, and shares it
+    sender: Option<SharedProcess>,
     alloc: Global,
 }
 
@@ -72,11 +75,12 @@ fn first_frame(bytes: &[u8]) -> Result<Option<(&[u8], usize)>, WireFault>
 }
 
 /// The message in front of the bytes and how many bytes its frame has; none if no whole frame is
-/// there. Or the fault that stands in its place. A configuration may be near.
+/// there. Or the fault that stands in its place. A configuration may be near, and a sender.
 #[tactic(auto, using(crate::proofs::Fronts::fault_in_front, crate::proofs::Fronts::length_fault, crate::proofs::Fronts::message_in_front))]
 pub(crate) fn front(
     alloc: Global,
     near: Option<&Configuration>,
+    sender: Option<&SharedProcess>,
     bytes: &[u8],
 ) -> Result<Option<(Message, usize)>, WireFault>
     ensures whole { IfOk result (λ o. IfSome o (λ x. IsFront bytes.now (Whole x.0 (drop x.1 bytes.now)))) }
@@ -86,10 +90,21 @@ pub(crate) fn front(
 {
     match first_frame(bytes)? {
         Some((whole, length)) => {
-            let message = decode(alloc, near, whole)?;
+            let message = decode(alloc, near, sender, whole)?;
             Ok(Some((message, length)))
         }
         None => Ok(None),
+    }
+}
+
+/// Whether no whole frame stands in front of the bytes, and no fault in its place.
+fn has_no_front(bytes: &[u8]) -> bool
+    ensures { result ≡ true → IsIncomplete bytes.now }
+{
+    match first_frame(bytes) {
+        Ok(None) => true,
+        Ok(Some(_)) => false,
+        Err(_) => false,
     }
 }
 
@@ -104,6 +119,17 @@ fn lasting(fault: WireFault) -> Option<WireFault>
 }
 
 impl Feed {
+    /// Keeps this sender for the next message, unless it is the one that is kept.
+    #[inline(always)]
+    fn keep(&mut self, sender: &SharedProcess)
+        ensures { self.new ≡ self.old }
+    {
+        match &self.sender {
+            Some(kept) if kept.is(sender.get()) => {}
+            _ => self.sender = sender.share().ok(),
+        }
+    }
+
     /// A feed that was fed nothing.
     pub fn new(alloc: Global) -> Feed
         ensures { result ≡ Left [] }
@@ -111,6 +137,7 @@ impl Feed {
         Feed {
             held: BytesMut::new(alloc),
             fault: None,
+            sender: None,
             alloc,
         }
     }
@@ -146,15 +173,29 @@ impl Feed {
     /// frame is there, and the first that holds is answered. They are `BadBody` if it has no kind,
     /// `BadVersion`, `BadKind`, and `BadBody` if it is not spelt as a message is. `OutOfMemory`
     /// comes only in place of a message or of the last of these, and leaves the feed as it was.
-    #[tactic(auto, using(crate::proofs::Feeds::same_fault, crate::proofs::Feeds::next_none, crate::proofs::Feeds::next_some, crate::proofs::Feeds::next_fault, crate::proofs::Feeds::is_lasting))]
+    #[tactic(auto, using(crate::proofs::Feeds::next_none))]
     pub fn next(&mut self) -> Result<Option<Message>, WireFault>
+        ensures { IsNext self.old self.new result }
+    {
+        if self.fault.is_none() && has_no_front(self.held.as_slice()) {
+            return Ok(None);
+        }
+        self.next_of_front()
+    }
+
+    /// What [`Feed::next`] answers. It stands apart: room for a message takes time at each call of
+    /// the function that has it, and at the end of each piece there is none.
+    #[tactic(auto, using(crate::proofs::Feeds::same_fault, crate::proofs::Feeds::next_none, crate::proofs::Feeds::next_some, crate::proofs::Feeds::next_fault, crate::proofs::Feeds::is_lasting))]
+    #[inline(never)]
+    fn next_of_front(&mut self) -> Result<Option<Message>, WireFault>
         ensures { IsNext self.old self.new result }
     {
         if let Some(fault) = self.fault {
             return Err(fault);
         }
-        match front(self.alloc, None, self.held.as_slice()) {
+        match front(self.alloc, None, self.sender.as_ref(), self.held.as_slice()) {
             Ok(Some((message, length))) => {
+                self.keep(message.shared_sender());
                 self.held.advance(length);
                 Ok(Some(message))
             }

@@ -14,8 +14,8 @@ use crate::WireFault;
 use crate::kind::FrameKind;
 use crate::lengths::configuration_length;
 use crate::reading::{
-    ID_BYTES, any_process, classic_of, ended, id_in, read_answer, read_batch, read_byte, read_cut,
-    read_front, read_numbers, read_process, read_report,
+    ID_BYTES, classic_of, ended, id_in, read_answer, read_batch, read_byte, read_cut, read_front,
+    read_numbers, read_report, read_shared,
 };
 use rapid_config::{ConfigError, ConfigId, Configuration, Cut};
 use rapid_endpoint::Process;
@@ -35,13 +35,13 @@ fn read_id(bytes: &[u8]) -> Result<ConfigId, WireFault>
 
 /// A batch of this observer.
 #[tactic(auto, unfolding(crate::specs::Reading::id_at))]
-fn read_batch_body(alloc: Global, sender: Process, bytes: &[u8]) -> Result<Body, WireFault>
+fn read_batch_body(alloc: Global, sender: &Process, bytes: &[u8]) -> Result<Body, WireFault>
     ensures value { Gives body_of result (all_of (made (λ x. model.Batch x.0 x.1) (both id_at items_at)) bytes.now) }
-    ensures said { IfOk result (CanSay sender) }
+    ensures said { IfOk result (CanSay sender.now) }
 {
     let (front, rest) = read_front(bytes, ID_BYTES)?;
     let id = id_in(front);
-    let batch = read_batch(alloc, &sender, id, rest)?;
+    let batch = read_batch(alloc, sender, id, rest)?;
     Ok(Body::Batch(id, batch))
 }
 
@@ -100,8 +100,7 @@ fn read_reply(alloc: Global, bytes: &[u8]) -> Result<Body, WireFault>
     ensures value { Gives body_of result (all_of (made (λ x. model.Reply x.0 x.1) (both process_at answer_at)) bytes.now) }
     ensures said { IfOk result (λ b. (sender : process.Process) → CanSay sender b) }
 {
-    let mut joiner = any_process();
-    let length = read_process(&mut joiner, bytes)?;
+    let (joiner, length) = read_shared(alloc, None, bytes)?;
     let answer = read_answer(alloc, &bytes[length..])?;
     Ok(Body::Reply(joiner, answer))
 }
@@ -179,12 +178,12 @@ fn read_confirm(
 pub(crate) fn read_body(
     alloc: Global,
     near: Option<&Configuration>,
-    sender: Process,
+    sender: &Process,
     kind: FrameKind,
     bytes: &[u8],
 ) -> Result<Body, WireFault>
     ensures value { Gives body_of result (body_in (number_of kind) bytes.now) }
-    ensures said { IfOk result (CanSay sender) }
+    ensures said { IfOk result (CanSay sender.now) }
 {
     match kind {
         FrameKind::Batch => read_batch_body(alloc, sender, bytes),

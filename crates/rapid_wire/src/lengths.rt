@@ -128,7 +128,7 @@ fn body_length(body: &Body) -> usize
             ID_BYTES + BALLOT_BYTES + cut_length(cut)
         }
         Body::PreJoin => 0,
-        Body::Reply(joiner, answer) => joiner.length() + answer_length(answer),
+        Body::Reply(joiner, answer) => joiner.get().length() + answer_length(answer),
         Body::JoinRequest(..) | Body::Leave(..) => ID_BYTES + 1,
         Body::Confirm(configuration) => configuration_length(configuration),
         Body::Probe(_) | Body::ProbeAck(_) => ID_BYTES,

@@ -18,7 +18,7 @@ use crate::WireFault;
 use crate::numbers::number_in;
 use rapid_alerts::{AlertList, Batch, BatchError, Kind, SpeltError};
 use rapid_config::{ConfigError, ConfigId, Cut};
-use rapid_endpoint::{Endpoint, Process, ProcessId, ProcessList};
+use rapid_endpoint::{Endpoint, Process, ProcessId, ProcessList, SharedProcess};
 use rapid_join::{Reply, RingObservers};
 use rapid_paxos::Ballot;
 use std::alloc::{AllocError, Global};
@@ -85,6 +85,37 @@ pub(crate) fn read_process(process: &mut Process, bytes: &[u8]) -> Result<usize,
     match process.read_over(bytes) {
         Ok(length) => Ok(length),
         Err(_) => Err(WireFault::BadBody),
+    }
+}
+
+/// The process in front of the bytes, to be shared, and how many bytes it takes. It stands apart:
+/// room for a process takes time at each call of the function that has it.
+#[inline(never)]
+fn read_anew(alloc: Global, bytes: &[u8]) -> Result<(SharedProcess, usize), WireFault>
+    ensures value { Gives (λ x. (x.0, drop x.1 bytes.now)) result (process_at bytes.now) }
+    ensures within { IfOk result (λ x. x.1 ≤ length bytes.now) }
+{
+    let mut process = any_process();
+    let length = read_process(&mut process, bytes)?;
+    Ok((SharedProcess::new(alloc, &process)?, length))
+}
+
+/// The process in front of the bytes, to be shared, and how many bytes it takes. One that is near
+/// is shared if it is spelt there.
+#[tactic(auto, unfolding(crate::specs::Reading::process_at))]
+pub(crate) fn read_shared(
+    alloc: Global,
+    near: Option<&SharedProcess>,
+    bytes: &[u8],
+) -> Result<(SharedProcess, usize), WireFault>
+    ensures value { Gives (λ x. (x.0, drop x.1 bytes.now)) result (process_at bytes.now) }
+    ensures within { IfOk result (λ x. x.1 ≤ length bytes.now) }
+{
+    match near {
+        Some(shared) if shared.get().is_spelt_at(bytes) => {
+            Ok((shared.share()?, shared.get().length()))
+        }
+        _ => read_anew(alloc, bytes),
     }
 }
 

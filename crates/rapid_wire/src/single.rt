@@ -22,7 +22,7 @@ pub fn read_frame(
     requires { (m : ModelMessage) × IsFrame frame.now m }
     ensures { (m : ModelMessage) → IsFrame frame.now m → IfOk result (λ message. message ≡ m) }
 {
-    match front(alloc, near, frame) {
+    match front(alloc, near, None, frame) {
         Ok(Some((message, _length))) => Ok(message),
         Ok(None) => unreachable!(),
         Err(WireFault::OutOfMemory) => Err(AllocError),

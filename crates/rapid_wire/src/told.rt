@@ -104,7 +104,7 @@ fn tell_body(sender: &Process, body: &Body)
             cut.tell();
         }
         Body::Reply(joiner, answer) => {
-            joiner.tell();
+            joiner.get().tell();
             tell_answer(answer);
         }
         Body::JoinRequest(id, ring) | Body::Leave(id, ring) => {

@@ -170,7 +170,7 @@ pub(crate) fn put_body(alloc: Global, out: &mut Vec<u8>, body: &Body) -> Result<
         }
         Body::PreJoin => Ok(()),
         Body::Reply(joiner, answer) => {
-            joiner.append_to(out)?;
+            joiner.get().append_to(out)?;
             put_answer(out, answer)
         }
         Body::JoinRequest(id, ring) | Body::Leave(id, ring) => {

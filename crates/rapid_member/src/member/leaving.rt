@@ -36,8 +36,8 @@ impl MemberState {
     fn leave_on(&self, out: &mut Vec<Output>, ring: u8) -> Result<(), AllocError>
         ensures { OnOk result (out.new.items ≡ out.old.items ++ outputs self.now.me (flat_map (λ k. member.leave_to self.now k ((observers_of self.now.config).observer k self.now.me)) (ring ∷ []))) }
     {
-        let me = self.me();
-        let Some(observer) = self.context.rings.observer(ring, me) else {
+        let me = self.shared_me();
+        let Some(observer) = self.context.rings.observer(ring, me.get()) else {
             return Ok(());
         };
         let id = self.configuration().id();

@@ -27,7 +27,7 @@ use crate::shared_rings::SharedRings;
 use rapid_alerts::{Alert, Batch, Outbox, RaiseError, Raising};
 use rapid_config::{Configuration, Cut};
 use rapid_cut::Detector;
-use rapid_endpoint::Process;
+use rapid_endpoint::{Process, SharedProcess};
 use rapid_fast::FastRound;
 use rapid_join::Host;
 use rapid_paxos::{Acceptor, Ballot, Coordinator, Learner, Promise, PromiseError};
@@ -40,7 +40,7 @@ use std::sync::Arc;
 pub(crate) struct Context {
     pub(crate) configuration: Configuration,
     pub(crate) rings: SharedRings,
-    pub(crate) me: Process,
+    pub(crate) me: SharedProcess,
     // the own position
     pub(crate) place: usize,
 }
@@ -298,7 +298,7 @@ impl Waiting {
         ensures { IfOk result (λ w. w ≡ record { host = fresh_host context.now.configuration context.now.me; ages = map.empty }) }
     {
         let rings = context.rings.get();
-        let host = Host::with_rings(alloc, &context.configuration, rings, &context.me)?;
+        let host = Host::with_rings(alloc, &context.configuration, rings, context.me.get())?;
         let ages = Ages::new(alloc);
         Ok(Waiting { host, ages })
     }
@@ -334,7 +334,8 @@ impl Rest {
     {
         let size = context.configuration.members().len();
         let ballots = Arc::new(alloc, Ballots::new(alloc, size, context.place))?;
-        let raised = Arc::new(alloc, Raised::new(alloc, &context.rings, context.me)?)?;
+        let me = *context.me.get();
+        let raised = Arc::new(alloc, Raised::new(alloc, &context.rings, me)?)?;
         let detection = Arc::new(alloc, Detection::new(alloc, &context.rings)?)?;
         let waiting = Arc::new(alloc, Waiting::new(alloc, context)?)?;
         Ok(Rest {

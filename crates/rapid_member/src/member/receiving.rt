@@ -16,7 +16,7 @@ use crate::decisions::Decisions;
 use crate::joining::say_answer;
 use crate::sending::answer;
 use rapid_config::{ConfigId, Cut};
-use rapid_endpoint::Process;
+use rapid_endpoint::{Process, SharedProcess};
 use rapid_join::HostAnswer;
 use rapid_message::{Body, Message, Output};
 use rapid_paxos::Ballot;
@@ -109,7 +109,7 @@ impl MemberState {
                 if id == self.configuration().id() {
                     self.take_message(out, from, body)
                 } else {
-                    decisions.catch_up(self.alloc(), out, self.me(), from, id)?;
+                    decisions.catch_up(self.alloc(), out, self.shared_me(), from, id)?;
                     Ok(None)
                 }
             }
@@ -121,7 +121,7 @@ impl MemberState {
     fn answer_joiner(
         &mut self,
         out: &mut Vec<Output>,
-        joiner: &Process,
+        joiner: &SharedProcess,
         ring: u8,
         answered: &HostAnswer,
     ) -> Result<(), AllocError>
@@ -130,23 +130,23 @@ impl MemberState {
         ensures out { OnOk result (out.new.items ≡ out.old.items ++ outputs self.old.me (receive.answer_to joiner.now (host_answer_of answered.now))) }
         ensures same { IsSameMember self.old self.new }
     {
-        say_answer(self.alloc(), out, self.me(), joiner, answered)?;
+        say_answer(self.alloc(), out, self.shared_me(), joiner, answered)?;
         match answered {
             HostAnswer::Nothing => Ok(()),
             HostAnswer::Reply(_) => Ok(()),
             HostAnswer::Confirm(_) => Ok(()),
-            HostAnswer::Raise => self.raise(self.alert_on(joiner, ring)),
+            HostAnswer::Raise => self.raise(self.alert_on(joiner.get(), ring)),
         }
     }
 
     /// A joiner's first question.
     #[tactic(auto, using(crate::proofs::Hosts::pre_join_keeps))]
-    fn pre_join(&mut self, out: &mut Vec<Output>, joiner: &Process) -> Result<(), AllocError>
+    fn pre_join(&mut self, out: &mut Vec<Output>, joiner: &SharedProcess) -> Result<(), AllocError>
         ensures state { OnOk result (self.new ≡ (receive.host_work self.old joiner.now 0 (host.pre_join self.old.config self.old.pending joiner.now)).state) }
         ensures out { OnOk result (out.new.items ≡ out.old.items ++ outputs self.old.me (receive.host_work self.old joiner.now 0 (host.pre_join self.old.config self.old.pending joiner.now)).effects) }
         ensures same { IsSameMember self.old self.new }
     {
-        let answered = self.first_answer(joiner)?;
+        let answered = self.first_answer(joiner.get())?;
         self.answer_joiner(out, joiner, 0, &answered)
     }
 
@@ -155,7 +155,7 @@ impl MemberState {
     fn join_request(
         &mut self,
         out: &mut Vec<Output>,
-        joiner: &Process,
+        joiner: &SharedProcess,
         id: ConfigId,
         ring: u8,
     ) -> Result<(), AllocError>
@@ -165,7 +165,7 @@ impl MemberState {
     {
         let rest = Arc::make_mut(&mut self.rest)?;
         let waiting = Arc::make_mut(&mut rest.waiting)?;
-        let answered = waiting.host.join_request(joiner, id, ring)?;
+        let answered = waiting.host.join_request(joiner.get(), id, ring)?;
         self.answer_joiner(out, joiner, ring, &answered)
     }
 
@@ -187,7 +187,7 @@ impl MemberState {
         ensures decided { IfOk result (λ d. d ≡ (receive.receive_as_member decisions.now self.old message.now.sender message.now.body).decided) }
         ensures same { IsSameMember self.old self.new }
     {
-        self.receive_from(out, decisions, message.sender(), message.body())
+        self.receive_from(out, decisions, message.shared_sender(), message.body())
     }
 
     /// What a process that can say this says to a member.
@@ -197,7 +197,7 @@ impl MemberState {
         &mut self,
         out: &mut Vec<Output>,
         decisions: &Decisions,
-        from: &Process,
+        from: &SharedProcess,
         body: &Body,
     ) -> Result<Option<Cut>, AllocError>
         requires { CanSay from.now body.now }
@@ -217,15 +217,15 @@ impl MemberState {
             }
             Body::Decision(id, _) => {
                 if *id == self.configuration().id() {
-                    self.take_message(out, from, body)
+                    self.take_message(out, from.get(), body)
                 } else {
                     Ok(None)
                 }
             }
             Body::Probe(_) => {
                 let own = self.configuration().id();
-                answer(out, self.me(), from, Body::ProbeAck(own))?;
-                self.take_or_catch_up(out, decisions, from, body)
+                answer(out, self.shared_me(), from.get(), Body::ProbeAck(own))?;
+                self.take_or_catch_up(out, decisions, from.get(), body)
             }
             Body::Batch(..)
             | Body::FastVote(..)
@@ -236,7 +236,7 @@ impl MemberState {
             | Body::Reply(..)
             | Body::Confirm(_)
             | Body::ProbeAck(_)
-            | Body::Leave(..) => self.take_or_catch_up(out, decisions, from, body),
+            | Body::Leave(..) => self.take_or_catch_up(out, decisions, from.get(), body),
         }
     }
 }

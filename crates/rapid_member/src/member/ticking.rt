@@ -179,7 +179,7 @@ impl MemberState {
         let id = self.configuration().id();
         say(
             out,
-            self.me(),
+            self.shared_me(),
             Body::FastVote(id, cut.try_copy(self.alloc)?),
         )
     }
@@ -227,7 +227,7 @@ impl MemberState {
     {
         let id = self.configuration().id();
         let said = batch.try_copy(self.alloc())?;
-        say(out, self.me(), Body::Batch(id, said))?;
+        say(out, self.shared_me(), Body::Batch(id, said))?;
         self.take_batch(out, batch.alerts())
     }
 
@@ -265,7 +265,7 @@ impl MemberState {
         self.begin_ballot(out)
     }
 
-    /// Begins a ballot: the Prepare goes out and is taken. It stands apart: room for a process takes
+    /// Begins a ballot: the Prepare goes out and is taken. It stands apart: room for a message takes
     /// time at each call of the function that has it, and a ballot is seldom due.
     #[inline(never)]
     fn begin_ballot(&mut self, out: &mut Vec<Output>) -> Result<Option<Cut>, AllocError>
@@ -278,9 +278,9 @@ impl MemberState {
             return Ok(None);
         };
         let id = self.configuration().id();
-        say(out, self.me(), Body::Prepare(id, ballot))?;
-        let me = *self.me();
-        self.take_prepare(out, &me, ballot)
+        say(out, self.shared_me(), Body::Prepare(id, ballot))?;
+        let me = self.shared_me().share()?;
+        self.take_prepare(out, me.get(), ballot)
     }
 
     /// The clock and the ages move on, and what is due again goes out.

@@ -109,7 +109,7 @@ impl MemberState {
         let id = self.configuration().id();
         say(
             out,
-            self.me(),
+            self.shared_me(),
             Body::Accepted(id, ballot, cut.try_copy(self.alloc)?),
         )?;
         let place = self.place();
@@ -133,7 +133,7 @@ impl MemberState {
         let id = self.configuration().id();
         say(
             out,
-            self.me(),
+            self.shared_me(),
             Body::Accept(id, ballot, cut.try_copy(self.alloc())?),
         )?;
         self.take_accept(out, ballot, cut)
@@ -211,7 +211,7 @@ impl MemberState {
         let id = self.configuration().id();
         answer(
             out,
-            self.me(),
+            self.shared_me(),
             from,
             Body::Promise(id, promise.ballot, promise.vote),
         )?;
@@ -240,7 +240,7 @@ impl MemberState {
         let id = self.configuration().id();
         say(
             out,
-            self.me(),
+            self.shared_me(),
             Body::FastVote(id, cut.try_copy(self.alloc)?),
         )?;
         let place = self.place();

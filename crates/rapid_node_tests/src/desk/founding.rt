@@ -2,10 +2,10 @@
 
 ghost use Rattle.std.specs.Prelude.{◌≤◌, ◌<◌};
 
-use crate::numbered::{cut, process};
+use crate::numbered::{cut, process, shared};
 use rapid_config::{ConfigId, Configuration, Params};
 use rapid_desk::{Desk, DeskError};
-use rapid_message::{Body, Message, MessageError};
+use rapid_message::{Body, Message};
 use rapid_node::Event;
 use std::alloc::{AllocError, Global};
 use std::process::Abort;
@@ -30,13 +30,15 @@ pub(crate) fn after(
 /// Process 2 says that in the configuration with this identifier the cut of this process was
 /// decided.
 pub(crate) fn decision(alloc: Global, id: ConfigId, number: u16) -> Result<Event, Fail> {
-    let message = Message::new(process(2), Body::Decision(id, cut(alloc, number)?))?;
+    let sender = shared(alloc, &process(2))?;
+    let message = Message::new(sender, Body::Decision(id, cut(alloc, number)?))?;
     Ok(Event::Receive(message))
 }
 
 /// Process 1 confirms that the configuration was installed.
-pub(crate) fn confirmation(configuration: Configuration) -> Result<Event, MessageError> {
-    let message = Message::new(process(1), Body::Confirm(configuration))?;
+pub(crate) fn confirmation(alloc: Global, configuration: Configuration) -> Result<Event, Fail> {
+    let sender = shared(alloc, &process(1))?;
+    let message = Message::new(sender, Body::Confirm(configuration))?;
     Ok(Event::Receive(message))
 }
 

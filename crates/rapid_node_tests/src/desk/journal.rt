@@ -1,7 +1,7 @@
 // The journal of a desk, and the numbers of its errors.
 
 use crate::desk::founding::{alone, decision, edge_down, founding, step};
-use crate::numbered::process;
+use crate::numbered::{process, shared};
 use rapid_config::ConfigId;
 use rapid_desk::{Desk, DeskError};
 use rapid_message::{Body, Message};
@@ -71,15 +71,21 @@ fn successive_ticks_share_a_record(rt: HostRuntime) -> Result<(), Fail> {
 }
 
 /// How many messages the desk sends if it is probed.
-fn probe<R: Wait>(desk: &mut Desk<&R>) -> Result<usize, Fail> {
-    let message = Message::new(process(2), Body::Probe(ConfigId::zero()))?;
+fn probe<R: Wait>(alloc: Global, desk: &mut Desk<&R>) -> Result<usize, Fail> {
+    let sender = shared(alloc, &process(2))?;
+    let message = Message::new(sender, Body::Probe(ConfigId::zero()))?;
     Ok(desk.step(Event::Receive(message))?.len())
 }
 
 /// The desk answers each of this many probes.
-fn answers_probes<R: Wait + Abort>(rt: &R, desk: &mut Desk<&R>, count: usize) -> Result<(), Fail> {
+fn answers_probes<R: Wait + Abort>(
+    rt: &R,
+    alloc: Global,
+    desk: &mut Desk<&R>,
+    count: usize,
+) -> Result<(), Fail> {
     for _ in 0..count {
-        assert!(rt; probe(desk)? == 1);
+        assert!(rt; probe(alloc, desk)? == 1);
     }
     Ok(())
 }
@@ -87,7 +93,7 @@ fn answers_probes<R: Wait + Abort>(rt: &R, desk: &mut Desk<&R>, count: usize) ->
 #[test]
 fn probes_are_not_kept(rt: HostRuntime) -> Result<(), Fail> {
     let mut desk = alone(&rt, rt.alloc(), 1)?;
-    answers_probes(&rt, &mut *desk, 65_600)
+    answers_probes(&rt, rt.alloc(), &mut *desk, 65_600)
 }
 
 #[test]

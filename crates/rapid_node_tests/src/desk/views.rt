@@ -102,7 +102,7 @@ fn is_let_in<R: Wait + Abort>(rt: &R, alloc: Global, desk: &mut Desk<&R>) -> Res
 
 /// Process 1 confirms to the desk that it is let in.
 fn confirm<R: Wait>(alloc: Global, desk: &mut Desk<&R>) -> Result<(), Fail> {
-    let event = confirmation(after(alloc, &founding(alloc)?, 2)?)?;
+    let event = confirmation(alloc, after(alloc, &founding(alloc)?, 2)?)?;
     step(desk, event)?;
     Ok(())
 }

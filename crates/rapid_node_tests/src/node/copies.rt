@@ -4,7 +4,7 @@ use crate::node::assertions::{assert_halted, assert_shows};
 use crate::node::founding::member;
 use crate::node::said::{Said, To, said_by, whom};
 use crate::node::steps::{Step, Which, Word, take_all};
-use crate::numbered::{cut, process};
+use crate::numbered::{cut, process, shared};
 use rapid_config::ConfigId;
 use rapid_message::{Body, Destination, Message, Output};
 use rapid_node::{Event, Node, NodeFault};
@@ -111,7 +111,7 @@ fn a_node_is_made_to_halt(rt: HostRuntime) -> Result<(), Fail> {
 /// A fast vote of the first process for the second.
 fn vote(alloc: Global) -> Result<Message, Fail> {
     let body = Body::FastVote(ConfigId::zero(), cut(alloc, 2)?);
-    Ok(Message::new(process(1), body)?)
+    Ok(Message::new(shared(alloc, &process(1))?, body)?)
 }
 
 /// Checks that a message is that vote.
@@ -130,7 +130,7 @@ fn assert_made(rt: &impl Abort, message: Message) {
 fn assert_copies(rt: &impl Abort, alloc: Global, message: &Message) -> Result<(), Fail> {
     assert_made(rt, message.try_copy(alloc)?);
     let body = message.body().try_copy(alloc)?;
-    assert_made(rt, Message::new(*message.sender(), body)?);
+    assert_made(rt, Message::new(message.shared_sender().share()?, body)?);
     Ok(())
 }
 

@@ -1,6 +1,6 @@
 // Configurations and nodes to begin with.
 
-use crate::numbered::{cut, process};
+use crate::numbered::{cut, process, shared};
 use rapid_config::{ConfigId, Configuration, Params};
 use rapid_message::{Body, Message};
 use rapid_node::{Event, Node};
@@ -64,5 +64,6 @@ pub fn shown(rt: &impl Abort, node: &Node) -> ConfigId {
 /// decided in its configuration.
 pub fn decision(rt: &impl Abort, alloc: Global, node: &Node, number: u16) -> Result<Event, Fail> {
     let body = Body::Decision(shown(rt, node), cut(alloc, number)?);
-    Ok(Event::Receive(Message::new(process(number), body)?))
+    let sender = shared(alloc, &process(number))?;
+    Ok(Event::Receive(Message::new(sender, body)?))
 }

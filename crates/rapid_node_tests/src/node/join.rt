@@ -5,7 +5,7 @@ use crate::node::founding::{founding, joiner, member};
 use crate::node::network::Action;
 use crate::node::plays::{Line, plays};
 use crate::node::said::{Said, To};
-use crate::numbered::{process, tagged};
+use crate::numbered::{process, shared, tagged};
 use rapid_config::Configuration;
 use rapid_endpoint::Process;
 use rapid_join::Reply;
@@ -129,7 +129,7 @@ fn is_in_use(outputs: &Outputs, joiner: &Process) -> bool {
     match outputs.as_slice() {
         [output] => match output.message().body() {
             Body::Reply(named, Reply::EndpointInUse) => {
-                named == joiner && output.to() == Destination::To(joiner.endpoint())
+                named.is(joiner) && output.to() == Destination::To(joiner.endpoint())
             }
             _ => false,
         },
@@ -138,14 +138,19 @@ fn is_in_use(outputs: &Outputs, joiner: &Process) -> bool {
 }
 
 /// Asks a node to let a process in.
-fn asked(node: &mut Node, joiner: Process) -> Result<Outputs, Fail> {
-    let question = Event::Receive(Message::new(joiner, Body::PreJoin)?);
+fn asked(alloc: Global, node: &mut Node, joiner: &Process) -> Result<Outputs, Fail> {
+    let question = Event::Receive(Message::new(shared(alloc, joiner)?, Body::PreJoin)?);
     Ok(told(node, question)?)
 }
 
 /// Checks that a node refuses a process.
-fn assert_refuses(rt: &impl Abort, node: &mut Node, joiner: Process) -> Result<(), Fail> {
-    let outputs = asked(node, joiner)?;
+fn assert_refuses(
+    rt: &impl Abort,
+    alloc: Global,
+    node: &mut Node,
+    joiner: Process,
+) -> Result<(), Fail> {
+    let outputs = asked(alloc, node, &joiner)?;
     assert!(rt; is_in_use(&outputs, &joiner));
     Ok(())
 }
@@ -154,24 +159,25 @@ fn assert_refuses(rt: &impl Abort, node: &mut Node, joiner: Process) -> Result<(
 fn an_endpoint_in_use_is_refused(rt: HostRuntime) -> Result<(), Fail> {
     let mut node = member(&rt, rt.alloc(), (3, 3, 1), &[1], 1)?;
     let joiner = Process::new(process(9).id(), process(1).endpoint());
-    assert_refuses(&rt, &mut *node, joiner)
+    assert_refuses(&rt, rt.alloc(), &mut *node, joiner)
 }
 
 #[test]
 fn a_member_with_other_tags_is_refused(rt: HostRuntime) -> Result<(), Fail> {
     let mut node = member(&rt, rt.alloc(), (3, 3, 1), &[1, 2], 1)?;
-    assert_refuses(&rt, &mut *node, tagged(1, &[b"db"])?)?;
-    assert_refuses(&rt, &mut *node, tagged(2, &[b"db"])?)
+    assert_refuses(&rt, rt.alloc(), &mut *node, tagged(1, &[b"db"])?)?;
+    assert_refuses(&rt, rt.alloc(), &mut *node, tagged(2, &[b"db"])?)
 }
 
 /// The first process confirms a configuration.
-fn confirmation(configuration: Configuration) -> Result<Event, Fail> {
-    Ok(Event::Receive(Message::new(process(1), Body::Confirm(configuration))?))
+fn confirmation(alloc: Global, configuration: Configuration) -> Result<Event, Fail> {
+    let sender = shared(alloc, &process(1))?;
+    Ok(Event::Receive(Message::new(sender, Body::Confirm(configuration))?))
 }
 
 /// Confirms the configuration of these founders to a node.
 fn confirm(rt: &impl Abort, alloc: Global, node: &mut Node, founders: &[u16]) -> Result<(), Fail> {
-    let confirmation = confirmation(founding(rt, alloc, (3, 3, 1), founders)?)?;
+    let confirmation = confirmation(alloc, founding(rt, alloc, (3, 3, 1), founders)?)?;
     assert_answers(rt, node, &confirmation, &[])
 }
 

@@ -3,7 +3,7 @@
 use crate::node::assertions::{assert_answers, told};
 use crate::node::founding::{decision, member, shown};
 use crate::node::said::{Said, To};
-use crate::numbered::{cut, process};
+use crate::numbered::{cut, process, shared};
 use rapid_config::ConfigId;
 use rapid_message::{Body, Message};
 use rapid_node::{Event, Node};
@@ -32,7 +32,8 @@ fn leave_often(rt: &impl Abort, alloc: Global, node: &mut Node, count: usize) ->
 /// Process 3 votes in the configuration with this identifier.
 fn vote(alloc: Global, id: ConfigId) -> Result<Event, Fail> {
     let body = Body::FastVote(id, cut(alloc, 3)?);
-    Ok(Event::Receive(Message::new(process(3), body)?))
+    let sender = shared(alloc, &process(3))?;
+    Ok(Event::Receive(Message::new(sender, body)?))
 }
 
 /// What is answered to process 3 that is behind by no more than 64 views.

@@ -5,7 +5,7 @@ ghost use Rattle.std.specs.Prelude.{◌<◌, length, IfSome};
 use crate::node::assertions::told_of;
 use crate::node::founding::{decision, founder, founding, joiner};
 use crate::node::said::{Said, To, said_by, whom};
-use crate::numbered::process;
+use crate::numbered::{process, shared};
 use rapid_alerts::{Alert, Batch, Kind};
 use rapid_config::Configuration;
 use rapid_endpoint::{Endpoint, Process};
@@ -134,7 +134,7 @@ fn joining(
     };
     let batch = Batch::new(alloc, &[alert])?;
     let body = Body::Batch(configuration.id(), batch);
-    Ok(Message::new(observer, body)?)
+    Ok(Message::new(shared(alloc, &observer)?, body)?)
 }
 
 impl Network {

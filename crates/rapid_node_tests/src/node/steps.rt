@@ -3,7 +3,7 @@
 use crate::node::assertions::{assert_answers, assert_outputs, assert_phase, assert_shows, told};
 use crate::node::founding::{member, shown};
 use crate::node::said::{Said, To};
-use crate::numbered::{cut, process, tagged};
+use crate::numbered::{cut, process, shared, tagged};
 use rapid_config::ConfigId;
 use rapid_message::{Body, Message, Outputs};
 use rapid_node::{Event, Node, Phase};
@@ -73,13 +73,15 @@ fn identifier(rt: &impl Abort, node: &Node, first: ConfigId, which: Which) -> Co
 }
 
 /// A message of a process reaches a node.
-fn heard(number: u16, body: Body) -> Result<Event, Fail> {
-    Ok(Event::Receive(Message::new(process(number), body)?))
+fn heard(alloc: Global, number: u16, body: Body) -> Result<Event, Fail> {
+    let sender = shared(alloc, &process(number))?;
+    Ok(Event::Receive(Message::new(sender, body)?))
 }
 
 /// A message of a process with the tag `db` reaches a node.
-fn heard_tagged(number: u16, body: Body) -> Result<Event, Fail> {
-    Ok(Event::Receive(Message::new(tagged(number, &[b"db"])?, body)?))
+fn heard_tagged(alloc: Global, number: u16, body: Body) -> Result<Event, Fail> {
+    let sender = shared(alloc, &tagged(number, &[b"db"])?)?;
+    Ok(Event::Receive(Message::new(sender, body)?))
 }
 
 /// The event of what a node hears that showed this configuration at first.
@@ -96,28 +98,28 @@ fn event(
             let id = identifier(rt, node, first, which);
             Ok(Event::EdgeDown(id, ring, process(number)))
         }
-        Word::Probe(which) => heard(3, Body::Probe(identifier(rt, node, first, which))),
-        Word::ProbeAck(which) => heard(3, Body::ProbeAck(identifier(rt, node, first, which))),
+        Word::Probe(which) => heard(alloc, 3, Body::Probe(identifier(rt, node, first, which))),
+        Word::ProbeAck(which) => heard(alloc, 3, Body::ProbeAck(identifier(rt, node, first, which))),
         Word::Decision(number) => {
             let cut = cut(alloc, number)?;
-            heard(number, Body::Decision(shown(rt, node), cut))
+            heard(alloc, number, Body::Decision(shown(rt, node), cut))
         }
         Word::Leave => Ok(Event::Leave),
         Word::Leaves(which, ring, number) => {
             let id = identifier(rt, node, first, which);
-            heard(number, Body::Leave(id, ring))
+            heard(alloc, number, Body::Leave(id, ring))
         }
         Word::Vote(number) => {
             let cut = cut(alloc, number)?;
-            heard(number, Body::FastVote(shown(rt, node), cut))
+            heard(alloc, number, Body::FastVote(shown(rt, node), cut))
         }
         Word::LeavesTagged(which, ring, number) => {
             let id = identifier(rt, node, first, which);
-            heard_tagged(number, Body::Leave(id, ring))
+            heard_tagged(alloc, number, Body::Leave(id, ring))
         }
         Word::VoteTagged(number) => {
             let cut = cut(alloc, number)?;
-            heard_tagged(number, Body::FastVote(shown(rt, node), cut))
+            heard_tagged(alloc, number, Body::FastVote(shown(rt, node), cut))
         }
     }
 }

@@ -5,6 +5,7 @@ use crate::uses::frames::over_a_stream;
 use crate::uses::world::joins;
 use rapid_config::{ConfigId, Cut};
 use rapid_desk::{Desk, Subscription};
+use rapid_endpoint::SharedProcess;
 use rapid_message::{Body, Message};
 use rapid_node::Event;
 use rapid_view::ViewSeat;
@@ -28,15 +29,16 @@ fn a_world_alone(rt: HostRuntime) -> Result<(), Fail> {
 }
 
 /// Puts the wish of a process to join to these messages.
-fn wish(said: &mut Vec<Message>, number: u8) -> Result<(), Fail> {
-    said.push(Message::new(process(number), Body::PreJoin)?)?;
+fn wish(alloc: Global, said: &mut Vec<Message>, number: u8) -> Result<(), Fail> {
+    let sender = SharedProcess::new(alloc, &process(number))?;
+    said.push(Message::new(sender, Body::PreJoin)?)?;
     Ok(())
 }
 
 /// The wishes of two processes to join.
-fn wishes(said: &mut Vec<Message>) -> Result<(), Fail> {
-    wish(said, 1)?;
-    wish(said, 2)
+fn wishes(alloc: Global, said: &mut Vec<Message>) -> Result<(), Fail> {
+    wish(alloc, said, 1)?;
+    wish(alloc, said, 2)
 }
 
 /// How many messages come over a stream to which these are written.
@@ -47,7 +49,7 @@ fn come(alloc: Global, said: &[Message]) -> Result<usize, Fail> {
 #[test]
 fn frames_alone(rt: HostRuntime) -> Result<(), Fail> {
     let mut said = Vec::new(rt.alloc());
-    wishes(&mut said)?;
+    wishes(rt.alloc(), &mut said)?;
     assert!(&rt; come(rt.alloc(), said.as_slice())? == 2);
     Ok(())
 }
@@ -90,7 +92,8 @@ fn take_seat<R: Wait + Copy + Drop>(rt: &impl Abort, desk: &mut Desk<R>) -> View
 /// That the cut of process 2 is decided in a configuration.
 fn decision(alloc: Global, id: ConfigId) -> Result<Event, Fail> {
     let cut = Cut::new(Vec::from_array(alloc, [process(2)])?)?;
-    let message = Message::new(process(2), Body::Decision(id, cut))?;
+    let sender = SharedProcess::new(alloc, &process(2))?;
+    let message = Message::new(sender, Body::Decision(id, cut))?;
     Ok(Event::Receive(message))
 }
 

@@ -1,6 +1,6 @@
 // Cuts that are read from frames.
 
-use crate::numbered::process;
+use crate::numbered::{process, shared};
 use crate::short_lists::{LISTS, list, seven};
 use rapid_config::{ConfigId, Cut};
 use rapid_endpoint::Process;
@@ -12,7 +12,7 @@ use std::test::Fail;
 /// Whether a cut that is voted for equals the one that is read from the vote's frame.
 fn comes_back(alloc: Global, cut: &Cut) -> Result<bool, Fail> {
     let vote = Body::FastVote(ConfigId::zero(), cut.try_copy(alloc)?);
-    let frame = encode(alloc, &Message::new(process(1), vote)?)?;
+    let frame = encode(alloc, &Message::new(shared(alloc, &process(1))?, vote)?)?;
     let read = read_frame(alloc, None, frame.as_slice())?;
     match read.body() {
         Body::FastVote(_, found) => Ok(*found == *cut && found.cmp(cut).is_eq()),

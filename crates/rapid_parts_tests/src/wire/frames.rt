@@ -1,6 +1,6 @@
 // Worked frames, and what is refused.
 
-use crate::numbered::{process, tagged};
+use crate::numbered::{process, shared, tagged};
 use rapid_config::{ConfigId, Configuration};
 use rapid_join::Reply;
 use rapid_message::{Body, Message};
@@ -105,7 +105,7 @@ fn asks_to_join(message: &Message) -> bool {
 fn tells_in_use(message: &Message) -> bool {
     match message.body() {
         Body::Reply(joiner, Reply::EndpointInUse) => {
-            *message.sender() == process(1) && *joiner == process(2)
+            *message.sender() == process(1) && joiner.is(&process(2))
         }
         _ => false,
     }
@@ -221,7 +221,8 @@ fn configuration_with(alloc: Global, other: &[u8]) -> Result<Configuration, Fail
 fn a_configuration_near_changes_no_message(rt: HostRuntime) -> Result<(), Fail> {
     let said = configuration_with(rt.alloc(), &TWO)?;
     let other = configuration_with(rt.alloc(), &THREE)?;
-    let message = Message::new(process(1), Body::Confirm(said.try_copy(rt.alloc())?))?;
+    let sender = shared(rt.alloc(), &process(1))?;
+    let message = Message::new(sender, Body::Confirm(said.try_copy(rt.alloc())?))?;
     for near in [None, Some(&said), Some(&other)] {
         assert!(rt; stands_alone(rt.alloc(), near, &message)?);
     }
@@ -395,13 +396,18 @@ fn a_question_to_join_comes_byte_by_byte(rt: HostRuntime) -> Result<(), Fail> {
 
 #[test]
 fn worked_messages_are_written(rt: HostRuntime) -> Result<(), Fail> {
-    let question = Message::new(process(2), Body::PreJoin)?;
+    let (one, two) = (
+        shared(rt.alloc(), &process(1))?,
+        shared(rt.alloc(), &process(2))?,
+    );
+    let question = Message::new(two.share()?, Body::PreJoin)?;
     assert!(rt; writes(rt.alloc(), &question, &PRE_JOIN)?);
-    let answer = Message::new(process(1), Body::Reply(process(2), Reply::EndpointInUse))?;
+    let answer = Message::new(one.share()?, Body::Reply(two, Reply::EndpointInUse))?;
     assert!(rt; writes(rt.alloc(), &answer, &IN_USE)?);
-    let tagged = Message::new(tagged(2, &[b"db"])?, Body::PreJoin)?;
+    let tagged = shared(rt.alloc(), &tagged(2, &[b"db"])?)?;
+    let tagged = Message::new(tagged, Body::PreJoin)?;
     assert!(rt; writes(rt.alloc(), &tagged, &PRE_JOIN_TAGGED)?);
-    let leave = Message::new(process(1), Body::Leave(ConfigId::new(ID), 5))?;
+    let leave = Message::new(one, Body::Leave(ConfigId::new(ID), 5))?;
     let frame = frame(rt.alloc(), &(14, &[&ID, &[5]]))?;
     assert!(rt; writes(rt.alloc(), &leave, &frame)?);
     Ok(())
@@ -409,7 +415,11 @@ fn worked_messages_are_written(rt: HostRuntime) -> Result<(), Fail> {
 
 #[test]
 fn a_message_of_what_a_sender_can_say_is_written_too(rt: HostRuntime) -> Result<(), Fail> {
-    let answer = Message::of(process(1), Body::Reply(process(2), Reply::EndpointInUse));
+    let (one, two) = (
+        shared(rt.alloc(), &process(1))?,
+        shared(rt.alloc(), &process(2))?,
+    );
+    let answer = Message::of(one, Body::Reply(two, Reply::EndpointInUse));
     assert!(rt; tells_in_use(&answer));
     assert!(rt; writes(rt.alloc(), &answer, &IN_USE)?);
     Ok(())

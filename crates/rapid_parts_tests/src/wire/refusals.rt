@@ -1,6 +1,6 @@
 // What a process cannot say.
 
-use crate::numbered::process;
+use crate::numbered::{process, shared};
 use rapid_alerts::{Alert, Batch, Kind};
 use rapid_config::{ConfigId, Cut};
 use rapid_join::{Reply, RingObservers};
@@ -10,8 +10,8 @@ use std::alloc::Global;
 use std::test::Fail;
 
 /// What is refused of a body that the process with the number 1 says.
-fn refusal(body: Body) -> Option<MessageError> {
-    Message::new(process(1), body).err()
+fn refusal(alloc: Global, body: Body) -> Result<Option<MessageError>, Fail> {
+    Ok(Message::new(shared(alloc, &process(1))?, body).err())
 }
 
 /// A batch under an identifier of zeros with an alert of this observer for this configuration.
@@ -38,7 +38,7 @@ const BATCHES: [(u16, u8, Option<MessageError>); 4] = [
 fn a_batch_has_its_senders_alerts_for_what_it_names(rt: HostRuntime) -> Result<(), Fail> {
     for (observer, config, expected) in &BATCHES {
         assert!(rt;
-            refusal(batch(rt.alloc(), *observer, *config)?) == *expected,
+            refusal(rt.alloc(), batch(rt.alloc(), *observer, *config)?)? == *expected,
             "at {observer}, {config}"
         );
     }
@@ -58,10 +58,10 @@ fn all_refused(
 ) -> Result<bool, Fail> {
     let id = ConfigId::zero();
     Ok(
-        refusal(Body::Prepare(id, ballot)) == expected
-            && refusal(Body::Promise(id, ballot, None)) == expected
-            && refusal(Body::Accept(id, ballot, cut(alloc)?)) == expected
-            && refusal(Body::Accepted(id, ballot, cut(alloc)?)) == expected,
+        refusal(alloc, Body::Prepare(id, ballot))? == expected
+            && refusal(alloc, Body::Promise(id, ballot, None))? == expected
+            && refusal(alloc, Body::Accept(id, ballot, cut(alloc)?))? == expected
+            && refusal(alloc, Body::Accepted(id, ballot, cut(alloc)?))? == expected,
     )
 }
 
@@ -78,10 +78,10 @@ fn nothing_is_asked_at_the_fast_ballot(rt: HostRuntime) -> Result<(), Fail> {
 #[test]
 fn a_vote_at_the_fast_ballot_is_said_and_reported(rt: HostRuntime) -> Result<(), Fail> {
     let id = ConfigId::zero();
-    assert!(rt; refusal(Body::FastVote(id, cut(rt.alloc())?)).is_none());
+    assert!(rt; refusal(rt.alloc(), Body::FastVote(id, cut(rt.alloc())?))?.is_none());
     if let Some(ballot) = Ballot::classic(250, 1023) {
         let vote = Some((Ballot::FAST, cut(rt.alloc())?));
-        assert!(rt; refusal(Body::Promise(id, ballot, vote)).is_none());
+        assert!(rt; refusal(rt.alloc(), Body::Promise(id, ballot, vote))?.is_none());
     }
     Ok(())
 }
@@ -93,14 +93,15 @@ fn safe(alloc: Global, is_named: bool) -> Result<Body, Fail> {
         observers.push(process(1))?;
     }
     let reply = Reply::Safe(ConfigId::zero(), RingObservers::new(observers)?);
-    Ok(Body::Reply(process(3), reply))
+    Ok(Body::Reply(shared(alloc, &process(3))?, reply))
 }
 
 #[test]
 fn a_reply_safe_names_an_observer(rt: HostRuntime) -> Result<(), Fail> {
-    assert!(rt; refusal(safe(rt.alloc(), false)?) == Some(MessageError::NoObserver));
-    assert!(rt; refusal(safe(rt.alloc(), true)?).is_none());
-    assert!(rt; refusal(Body::Reply(process(3), Reply::TooManyJoiners)).is_none());
+    assert!(rt; refusal(rt.alloc(), safe(rt.alloc(), false)?)? == Some(MessageError::NoObserver));
+    assert!(rt; refusal(rt.alloc(), safe(rt.alloc(), true)?)?.is_none());
+    let full = Body::Reply(shared(rt.alloc(), &process(3))?, Reply::TooManyJoiners);
+    assert!(rt; refusal(rt.alloc(), full)?.is_none());
     Ok(())
 }
 

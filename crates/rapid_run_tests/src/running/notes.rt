@@ -2,12 +2,12 @@
 
 use bytes::Bytes;
 use rapid_config::{Configuration, Cut, Params};
-use rapid_endpoint::{Endpoint, Process, ProcessId};
+use rapid_endpoint::{Endpoint, Process, ProcessId, SharedProcess};
 use rapid_join::Reply;
 use rapid_lines::{Answer, InVain, Note};
 use rapid_message::{Body, Message};
 use rapid_service::{Post, RunningFault, Service};
-use std::alloc::Global;
+use std::alloc::{AllocError, Global};
 use std::process::Abort;
 use std::sync::Wait;
 use std::test::Fail;
@@ -19,6 +19,11 @@ fn process(number: u8) -> Process {
         ProcessId::new(id),
         Endpoint::new([127, 0, 0, 1], 7_600 + u16::from(number)),
     )
+}
+
+/// The process of this number, to be shared.
+fn shared(alloc: Global, number: u8) -> Result<SharedProcess, AllocError> {
+    SharedProcess::new(alloc, &process(number))
 }
 
 /// Takes no frames.
@@ -45,9 +50,9 @@ fn in_vain(question: u64, answer: Answer) -> Note {
 }
 
 /// What process 2 replies to a joiner.
-fn reply(joiner: u8, reply: Reply) -> Result<Message, Fail> {
-    let said = Body::Reply(process(joiner), reply);
-    Ok(Message::new(process(2), said)?)
+fn reply(alloc: Global, joiner: u8, reply: Reply) -> Result<Message, Fail> {
+    let said = Body::Reply(shared(alloc, joiner)?, reply);
+    Ok(Message::new(shared(alloc, 2)?, said)?)
 }
 
 /// Ticks a service this often, and takes what is to be reported.
@@ -78,21 +83,21 @@ fn questions_in_vain_are_told(rt: HostRuntime) -> Result<(), Fail> {
     );
     // the answer to each question, also if more is reported at once
     assert!(rt; ticked(&mut service, 99)?.is_empty());
-    service.receive(reply(1, Reply::TooManyJoiners)?)?;
-    service.receive(reply(1, Reply::EndpointInUse)?)?;
-    service.receive(reply(3, Reply::ConfigurationChanged)?)?;
+    service.receive(reply(alloc, 1, Reply::TooManyJoiners)?)?;
+    service.receive(reply(alloc, 1, Reply::EndpointInUse)?)?;
+    service.receive(reply(alloc, 3, Reply::ConfigurationChanged)?)?;
     assert_eq!(rt;
         ticked(&mut service, 101)?.as_slice(),
         [in_vain(20, Answer::InUse), in_vain(30, Answer::Nothing)].as_slice()
     );
     assert!(rt; ticked(&mut service, 95)?.is_empty());
-    service.receive(reply(1, Reply::ConfigurationChanged)?)?;
+    service.receive(reply(alloc, 1, Reply::ConfigurationChanged)?)?;
     assert_eq!(rt;
         ticked(&mut service, 5)?.as_slice(),
         [in_vain(40, Answer::Changed)].as_slice()
     );
     assert!(rt; ticked(&mut service, 95)?.is_empty());
-    service.receive(reply(1, Reply::TooManyJoiners)?)?;
+    service.receive(reply(alloc, 1, Reply::TooManyJoiners)?)?;
     assert_eq!(rt;
         ticked(&mut service, 5)?.as_slice(),
         [in_vain(50, Answer::TooMany)].as_slice()
@@ -112,7 +117,7 @@ fn a_joiner_that_is_let_in_asks_no_more(rt: HostRuntime) -> Result<(), Fail> {
     let seed = process(2).endpoint();
     let mut service = Service::join(&rt, alloc, process(1), seed, Nowhere)?;
     assert_eq!(rt; ticked(&mut service, 11)?.len(), 1);
-    service.receive(Message::new(process(2), Body::Confirm(both(alloc)?))?)?;
+    service.receive(Message::new(shared(alloc, 2)?, Body::Confirm(both(alloc)?))?)?;
     assert!(rt; ticked(&mut service, 500)?.is_empty());
     assert_eq!(rt;
         service.take_lines().as_slice(),
@@ -128,12 +133,12 @@ fn a_node_that_is_removed_says_so_once(rt: HostRuntime) -> Result<(), Fail> {
     let mut service = Service::join(&rt, alloc, process(1), seed, Nowhere)?;
     let configuration = both(alloc)?;
     let id = configuration.id();
-    service.receive(Message::new(process(2), Body::Confirm(configuration))?)?;
+    service.receive(Message::new(shared(alloc, 2)?, Body::Confirm(configuration))?)?;
     assert!(rt; service.take_notes().is_empty());
     let mut removed = Vec::new(alloc);
     removed.push(process(1))?;
     let decision = Body::Decision(id, Cut::new(removed)?);
-    service.receive(Message::new(process(2), decision)?)?;
+    service.receive(Message::new(shared(alloc, 2)?, decision)?)?;
     assert_eq!(rt;
         service.take_notes().as_slice(),
         [Note::Removed(1)].as_slice()

@@ -4,12 +4,12 @@
 use bytes::Bytes;
 use rapid_alerts::{Alert, Batch, Kind};
 use rapid_config::{ConfigId, Configuration, Cut, Params};
-use rapid_endpoint::{Endpoint, Process, ProcessId};
+use rapid_endpoint::{Endpoint, Process, ProcessId, SharedProcess};
 use rapid_join::Reply;
 use rapid_message::{Body, Message};
 use rapid_repeats::Repeats;
 use rapid_service::{Post, Received, Service};
-use std::alloc::Global;
+use std::alloc::{AllocError, Global};
 use std::process::Abort;
 use std::sync::Wait;
 use std::test::Fail;
@@ -21,6 +21,11 @@ fn process(number: u8) -> Process {
         ProcessId::new(id),
         Endpoint::new([127, 0, 0, 1], 7_600 + u16::from(number)),
     )
+}
+
+/// The process of this number, to be shared.
+fn shared(alloc: Global, number: u8) -> Result<SharedProcess, AllocError> {
+    SharedProcess::new(alloc, &process(number))
 }
 
 /// The configuration of the processes 1 to 3.
@@ -35,7 +40,7 @@ fn vote(alloc: Global, sender: u8, id: ConfigId, joiner: u8) -> Result<Message, 
     let mut processes = Vec::new(alloc);
     processes.push(process(joiner))?;
     let vote = Body::FastVote(id, Cut::new(processes)?);
-    Ok(Message::new(process(sender), vote)?)
+    Ok(Message::new(shared(alloc, sender)?, vote)?)
 }
 
 /// A batch of a process with an alert on another.
@@ -48,7 +53,7 @@ fn batch(alloc: Global, sender: u8, id: ConfigId, joiner: u8) -> Result<Message,
         config: id,
     };
     let batch = Body::Batch(id, Batch::new(alloc, &[alert])?);
-    Ok(Message::new(process(sender), batch)?)
+    Ok(Message::new(shared(alloc, sender)?, batch)?)
 }
 
 /// A fast vote or a batch of a process that speaks of another.
@@ -61,13 +66,13 @@ fn said(alloc: Global, votes: bool, sender: u8, id: ConfigId, joiner: u8) -> Res
 }
 
 /// The request of a process on a ring.
-fn request(sender: u8, id: ConfigId, ring: u8) -> Result<Message, Fail> {
-    Ok(Message::new(process(sender), Body::JoinRequest(id, ring))?)
+fn request(alloc: Global, sender: u8, id: ConfigId, ring: u8) -> Result<Message, Fail> {
+    Ok(Message::new(shared(alloc, sender)?, Body::JoinRequest(id, ring))?)
 }
 
 /// The question of a process whether it may join.
-fn question(sender: u8) -> Result<Message, Fail> {
-    Ok(Message::new(process(sender), Body::PreJoin)?)
+fn question(alloc: Global, sender: u8) -> Result<Message, Fail> {
+    Ok(Message::new(shared(alloc, sender)?, Body::PreJoin)?)
 }
 
 #[test]
@@ -104,23 +109,23 @@ fn requests_are_taken_once_and_questions_each_tenth_tick(rt: HostRuntime) -> Res
     let (here, elsewhere) = (configuration.id(), ConfigId::zero());
     let mut repeats = Repeats::new(alloc, &configuration)?;
     for ring in 0..2 {
-        assert!(rt; repeats.admits(&request(7, here, ring)?), "at {ring}");
-        assert!(rt; !repeats.admits(&request(7, here, ring)?), "at {ring}");
+        assert!(rt; repeats.admits(&request(alloc, 7, here, ring)?), "at {ring}");
+        assert!(rt; !repeats.admits(&request(alloc, 7, here, ring)?), "at {ring}");
         for time in 0..2 {
             assert!(rt;
-                repeats.admits(&request(7, elsewhere, ring)?),
+                repeats.admits(&request(alloc, 7, elsewhere, ring)?),
                 "at {ring}, {time}"
             );
         }
     }
     for time in 0..3 {
-        assert!(rt; repeats.admits(&question(7)?), "at {time}");
+        assert!(rt; repeats.admits(&question(alloc, 7)?), "at {time}");
         for ticks in 0..10 {
-            assert!(rt; !repeats.admits(&question(7)?), "at {time}, {ticks}");
+            assert!(rt; !repeats.admits(&question(alloc, 7)?), "at {time}, {ticks}");
             repeats.tick();
         }
     }
-    assert!(rt; repeats.admits(&question(8)?));
+    assert!(rt; repeats.admits(&question(alloc, 8)?));
     Ok(())
 }
 
@@ -132,10 +137,11 @@ fn joiners_that_differ_in_tags_are_no_repeats(rt: HostRuntime) -> Result<(), Fai
     let bare = process(7);
     let tagged = Process::tagged(bare.id(), bare.endpoint(), &[b"db"])?;
     for joiner in [bare, tagged] {
+        let asking = SharedProcess::new(rt.alloc(), &joiner)?;
         for is_taken in [true, false] {
-            let question = Message::new(joiner, Body::PreJoin)?;
+            let question = Message::new(asking.share()?, Body::PreJoin)?;
             assert_eq!(rt; repeats.admits(&question), is_taken, "at {joiner:?}");
-            let request = Message::new(joiner, Body::JoinRequest(here, 0))?;
+            let request = Message::new(asking.share()?, Body::JoinRequest(here, 0))?;
             assert_eq!(rt; repeats.admits(&request), is_taken, "at {joiner:?}");
         }
     }
@@ -143,11 +149,11 @@ fn joiners_that_differ_in_tags_are_no_repeats(rt: HostRuntime) -> Result<(), Fai
 }
 
 /// The question of the joiner of this number.
-fn question_of(number: u16) -> Result<Message, Fail> {
+fn question_of(alloc: Global, number: u16) -> Result<Message, Fail> {
     let [high, low] = number.to_be_bytes();
     let id = [1, 0, 0, 0, 0, 0, 0, 0, 0, 0, 0, 0, 0, 0, high, low];
     let joiner = Process::new(ProcessId::new(id), Endpoint::new([127, 0, 0, 1], 7_600));
-    Ok(Message::new(joiner, Body::PreJoin)?)
+    Ok(Message::new(SharedProcess::new(alloc, &joiner)?, Body::PreJoin)?)
 }
 
 #[test]
@@ -155,11 +161,11 @@ fn questions_of_4096_joiners_are_kept(rt: HostRuntime) -> Result<(), Fail> {
     let configuration = three(rt.alloc())?;
     let mut repeats = Repeats::new(rt.alloc(), &configuration)?;
     for number in 0..4_096 {
-        assert!(rt; repeats.admits(&question_of(number)?));
+        assert!(rt; repeats.admits(&question_of(rt.alloc(), number)?));
     }
     for _ in 0..2 {
-        assert!(rt; repeats.admits(&question_of(4_096)?));
-        assert!(rt; !repeats.admits(&question_of(4_095)?));
+        assert!(rt; repeats.admits(&question_of(rt.alloc(), 4_096)?));
+        assert!(rt; !repeats.admits(&question_of(rt.alloc(), 4_095)?));
     }
     Ok(())
 }
@@ -170,9 +176,9 @@ fn other_messages_are_taken_each_time(rt: HostRuntime) -> Result<(), Fail> {
     let mut repeats = Repeats::new(rt.alloc(), &configuration)?;
     let here = configuration.id();
     for _ in 0..2 {
-        let probe = Message::new(process(2), Body::Probe(here))?;
+        let probe = Message::new(shared(rt.alloc(), 2)?, Body::Probe(here))?;
         assert!(rt; repeats.admits(&probe));
-        let answer = Message::new(process(2), Body::ProbeAck(here))?;
+        let answer = Message::new(shared(rt.alloc(), 2)?, Body::ProbeAck(here))?;
         assert!(rt; repeats.admits(&answer));
     }
     Ok(())
@@ -201,7 +207,7 @@ fn member<R: Wait + Copy + Drop>(rt: R, alloc: Global) -> Result<Service<R, Coun
     let seed = process(2).endpoint();
     let mut service = Service::join(rt, alloc, process(1), seed, Count { frames: 0 })?;
     let confirm = Body::Confirm(three(alloc)?);
-    service.receive(Message::new(process(2), confirm)?)?;
+    service.receive(Message::new(shared(alloc, 2)?, confirm)?)?;
     Ok(service)
 }
 
@@ -210,9 +216,9 @@ fn repeats_by_the_hundred_thousand_leave_a_running_node(rt: HostRuntime) -> Resu
     let alloc = rt.alloc();
     let here = three(alloc)?.id();
     let mut service = member(&rt, alloc)?;
-    assert_eq!(rt; service.receive(question(4)?), Ok(Received::Taken));
+    assert_eq!(rt; service.receive(question(alloc, 4)?), Ok(Received::Taken));
     for _ in 1..200_000 {
-        assert_eq!(rt; service.receive(question(4)?), Ok(Received::Dropped));
+        assert_eq!(rt; service.receive(question(alloc, 4)?), Ok(Received::Dropped));
     }
     assert_eq!(rt; service.post().frames, 1);
     assert_eq!(rt;
@@ -236,7 +242,7 @@ fn before_the_first_view_nothing_is_dropped(rt: HostRuntime) -> Result<(), Fail>
     let seed = process(2).endpoint();
     let mut service = Service::join(&rt, alloc, process(1), seed, Count { frames: 0 })?;
     for _ in 0..3 {
-        assert_eq!(rt; service.receive(question(4)?), Ok(Received::Taken));
+        assert_eq!(rt; service.receive(question(alloc, 4)?), Ok(Received::Taken));
     }
     Ok(())
 }
@@ -246,33 +252,34 @@ fn removal(alloc: Global, id: ConfigId) -> Result<Message, Fail> {
     let mut removed = Vec::new(alloc);
     removed.push(process(3))?;
     let decision = Body::Decision(id, Cut::new(removed)?);
-    Ok(Message::new(process(2), decision)?)
+    Ok(Message::new(shared(alloc, 2)?, decision)?)
 }
 
 #[test]
 fn a_later_view_has_a_new_filter(rt: HostRuntime) -> Result<(), Fail> {
     let alloc = rt.alloc();
     let mut service = member(&rt, alloc)?;
-    assert_eq!(rt; service.receive(question(4)?), Ok(Received::Taken));
-    assert_eq!(rt; service.receive(question(4)?), Ok(Received::Dropped));
+    assert_eq!(rt; service.receive(question(alloc, 4)?), Ok(Received::Taken));
+    assert_eq!(rt; service.receive(question(alloc, 4)?), Ok(Received::Dropped));
     service.receive(removal(alloc, three(alloc)?.id())?)?;
     assert_eq!(rt;
         service.take_lines().as_slice(),
         b"height 0 members 127.0.0.1:7601 127.0.0.1:7602 127.0.0.1:7603\nheight 1 members 127.0.0.1:7601 127.0.0.1:7602\n".as_slice()
     );
-    assert_eq!(rt; service.receive(question(4)?), Ok(Received::Taken));
-    assert_eq!(rt; service.receive(question(4)?), Ok(Received::Dropped));
+    assert_eq!(rt; service.receive(question(alloc, 4)?), Ok(Received::Taken));
+    assert_eq!(rt; service.receive(question(alloc, 4)?), Ok(Received::Dropped));
     Ok(())
 }
 
 #[test]
 fn ticks_of_a_service_count_for_its_filter(rt: HostRuntime) -> Result<(), Fail> {
-    let mut service = member(&rt, rt.alloc())?;
+    let alloc = rt.alloc();
+    let mut service = member(&rt, alloc)?;
     for time in 0..3 {
-        let received = service.receive(question(4)?);
+        let received = service.receive(question(alloc, 4)?);
         assert_eq!(rt; received, Ok(Received::Taken), "at {time}");
         for ticks in 0..10 {
-            let received = service.receive(question(4)?);
+            let received = service.receive(question(alloc, 4)?);
             assert_eq!(rt; received, Ok(Received::Dropped), "at {time}, {ticks}");
             service.tick()?;
         }
@@ -289,8 +296,8 @@ fn a_node_goes_on_past_a_full_journal(rt: HostRuntime) -> Result<(), Fail> {
     let params = Params::new(3, 3, 1)?;
     let mut service = Service::found(&rt, alloc, params, process(1), Count { frames: 0 })?;
     for _ in 0..EVENTS {
-        let reply = Body::Reply(process(3), Reply::TooManyJoiners);
-        let received = service.receive(Message::new(process(2), reply)?);
+        let reply = Body::Reply(shared(alloc, 3)?, Reply::TooManyJoiners);
+        let received = service.receive(Message::new(shared(alloc, 2)?, reply)?);
         assert_eq!(rt; received, Ok(Received::Taken));
     }
     assert!(rt; service.tick().is_ok());

@@ -2,9 +2,10 @@
 
 use bytes::Bytes;
 use rapid_config::{Configuration, Params};
-use rapid_endpoint::{Endpoint, Process, ProcessId};
+use rapid_endpoint::{Endpoint, Process, ProcessId, SharedProcess};
 use rapid_message::{Body, Message};
 use rapid_service::{Post, Service};
+use std::alloc::{AllocError, Global};
 use std::process::Abort;
 use std::sync::Wait;
 use std::test::Fail;
@@ -16,6 +17,11 @@ fn process(number: u8) -> Process {
         ProcessId::new(id),
         Endpoint::new([127, 0, 0, 1], 7_600 + u16::from(number)),
     )
+}
+
+/// The process of this number, to be shared.
+fn shared(alloc: Global, number: u8) -> Result<SharedProcess, AllocError> {
+    SharedProcess::new(alloc, &process(number))
 }
 
 /// Takes no frames.
@@ -62,7 +68,7 @@ fn a_joiner_has_eight_seats_from_its_first_view_on(rt: HostRuntime) -> Result<()
     assert_eq!(rt; seats_of(&mut service), 0);
     let members = [process(1), process(2)];
     let both = Configuration::seed(alloc, Params::new(3, 3, 1)?, &members)?;
-    service.receive(Message::new(process(2), Body::Confirm(both))?)?;
+    service.receive(Message::new(shared(alloc, 2)?, Body::Confirm(both))?)?;
     assert_eq!(rt; seats_of(&mut service), 8);
     Ok(())
 }

@@ -2,7 +2,7 @@
 
 use crate::running::rows::{At, ran};
 use rapid_config::{Configuration, Params};
-use rapid_endpoint::{Endpoint, Process, ProcessId};
+use rapid_endpoint::{Endpoint, Process, ProcessId, SharedProcess};
 use rapid_message::{Body, Message};
 use rapid_run::Polled;
 use rapid_service::RunningFault;
@@ -39,12 +39,14 @@ fn requests(alloc: Global, port: u16, joiner: Endpoint, last: Endpoint) -> Resul
     let me = process(1, Endpoint::new([127, 0, 0, 1], port));
     let founding = Configuration::seed(alloc, Params::new(RINGS, 9, 3)?, &[me])?;
     let mut bytes = Vec::new(alloc);
+    let asking = SharedProcess::new(alloc, &process(2, joiner))?;
     for ring in 0..RINGS {
         let request = Body::JoinRequest(founding.id(), ring);
-        let request = Message::new(process(2, joiner), request)?;
+        let request = Message::new(asking.share()?, request)?;
         bytes.extend_from_slice(encode(alloc, &request)?.as_slice())?;
     }
-    let question = Message::new(process(3, last), Body::PreJoin)?;
+    let last = SharedProcess::new(alloc, &process(3, last))?;
+    let question = Message::new(last, Body::PreJoin)?;
     bytes.extend_from_slice(encode(alloc, &question)?.as_slice())?;
     Ok(bytes)
 }

@@ -8,5 +8,5 @@ use Rattle.rapid_node.proofs.node.Node.try_copy.Goals as goal
 pub invariant_of-result : goal.invariant_of-result
 invariant_of-result c =
     subst (λ (m : Process). IsState m (arc_value c.in_ok-past.past).shown c.in_ok-state.state) (sym c.in_ok-me.ensures)
-    (subst (λ (p : Past). IsState (arc_value c.self.inside.me) p.shown c.in_ok-state.state) (sym c.in_ok-past.ensures)
-    (c.in_ok-state.ensures.state (arc_value c.self.inside.me) (arc_value c.self.inside.past).shown c.self.invariant))
+    (subst (λ (p : Past). IsState c.self.inside.me p.shown c.in_ok-state.state) (sym c.in_ok-past.ensures)
+    (c.in_ok-state.ensures.state c.self.inside.me (arc_value c.self.inside.past).shown c.self.invariant))

@@ -11,7 +11,7 @@ pub returns-in_err-probe_all-clause-unsaid : goal.returns-in_err-probe_all-claus
 returns-in_err-probe_all-clause-unsaid g c =
     let id = c.args.round.now.id in
     let probe = λ (me : Process). let m : Message = record { sender = me; body = Probe id } in m in
-    let bytes = c.in_ok-frame.ensures.1 ∙ ap frame (c.probe_of.ensures ∙ ap probe c.hand_down.ensures.rest.1) in
+    let bytes = c.in_ok-frame.ensures.1 ∙ ap frame (c.probe_of-probe.ensures ∙ ap probe (c.in_ok-share.ensures ∙ c.hand_down.ensures.rest.1)) in
     on_err c.from_residual-in_err-probe_all.result
     (inr (
       c.hand_down.new.self.post,

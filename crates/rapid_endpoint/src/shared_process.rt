@@ -1,9 +1,9 @@
-// Processes that are kept for as long as there are reports on them.
+// Processes that are shared.
 
 ghost use Rattle.std.specs.Prelude.{◌≡◌, IfOk};
 ghost use Rattle.rapid_model.specs.Process.{same_bytes};
 
-use rapid_endpoint::{Process, ProcessId};
+use crate::{Process, ProcessId};
 use std::alloc::{AllocError, Global};
 use std::marker::Model;
 use std::sync::Arc;
@@ -11,29 +11,29 @@ use std::sync::Arc;
 /// A process that all its copies share: it takes much room. Its identifier stands beside it, by
 /// which most others are told apart.
 #[derive(Debug, Drop)]
-pub struct Kept {
+pub struct SharedProcess {
     id: ProcessId,
     process: Arc<Process, Global>,
 }
 
-impl Model for Kept {
+impl Model for SharedProcess {
     ghost use Rattle.std.specs.Prelude.{◌≡◌};
     ghost use Rattle.std.specs.Arc.{arc_value};
     ghost use Rattle.rapid_model.specs.Process.{Process as ModelProcess, identifier};
 
     ghost Value = { ModelProcess };
 
-    ghost view = { λ k. arc_value k.process };
+    ghost view = { λ s. arc_value s.process };
 
-    ghost invariant = { λ k. k.id ≡ identifier (arc_value k.process) };
+    ghost invariant = { λ s. s.id ≡ identifier (arc_value s.process) };
 }
 
-impl Kept {
+impl SharedProcess {
     /// This process, to be shared.
-    pub fn new(alloc: Global, process: &Process) -> Result<Kept, AllocError>
-        ensures { IfOk result (λ kept. kept ≡ process.now) }
+    pub fn new(alloc: Global, process: &Process) -> Result<SharedProcess, AllocError>
+        ensures { IfOk result (λ shared. shared ≡ process.now) }
     {
-        Ok(Kept {
+        Ok(SharedProcess {
             id: process.id(),
             process: Arc::new(alloc, *process)?,
         })
@@ -47,12 +47,12 @@ impl Kept {
         &self.process
     }
 
-    /// The same process, shared.
+    /// The same process, shared. It takes no memory, and fails only if there are too many owners.
     #[inline(always)]
-    pub fn share(&self) -> Result<Kept, AllocError>
-        ensures { IfOk result (λ kept. kept ≡ self.now) }
+    pub fn share(&self) -> Result<SharedProcess, AllocError>
+        ensures { IfOk result (λ shared. shared ≡ self.now) }
     {
-        Ok(Kept {
+        Ok(SharedProcess {
             id: self.id,
             process: Arc::try_clone(&self.process)?,
         })

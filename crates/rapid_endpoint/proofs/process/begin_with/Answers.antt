@@ -1,6 +1,6 @@
 use Rattle.std.proofs.lemmas.Bool.Decides.{Decides-eqb}
 use Rattle.std.proofs.lemmas.Slice.Eq.{starts_is}
-use Rattle.rapid_alerts.proofs.spelling.begin_with.Goals as goal
+use Rattle.rapid_endpoint.proofs.process.begin_with.Goals as goal
 
 pub returns-in_default : goal.returns-in_default
 returns-in_default c =

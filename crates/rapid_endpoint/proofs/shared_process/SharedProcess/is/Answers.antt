@@ -1,7 +1,7 @@
 use Rattle.std.proofs.Common.{◌≡◌, ◌∙◌, Bool, true, false, not, ◌&&◌, ap, sym, refl}
 use Rattle.rapid_model.specs.Process.{Process, same_bytes, identifier, endpoint, tags_bytes_of}
-use Rattle.rapid_cut.proofs.Parts.{by_parts}
-use Rattle.rapid_cut.proofs.kept.Kept.is.Goals as goal
+use Rattle.rapid_endpoint.proofs.Parts.{by_parts}
+use Rattle.rapid_endpoint.proofs.shared_process.SharedProcess.is.Goals as goal
 
 flip : (b : Bool) (c : Bool) → c ≡ not b → c ≡ true → b ≡ false
 flip false c e h = refl
