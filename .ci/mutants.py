@@ -5,12 +5,14 @@ import functools
 import hashlib
 import re
 import shutil
+import threading
 from collections import namedtuple
 
 from crates import LINES, SOURCES, TOP, below, copy_sources, folder_of, rt, side_by_side, tasks_of, told
 from crates import tree_over_libraries
 
 RECORD = TOP / "mutants.txt"
+NOTING = threading.Lock()
 HEAD = "# crate, mutants that the prover refuses, sum of what that rests on; ./check mutants writes it\n"
 COMMENT = re.compile(rb"\s*(//|--)")
 ONLY = re.compile(r"only=\d+ proved=\d+")
@@ -169,17 +171,33 @@ def try_mutants(name, _jobs):
     return len(given) - len(said), len(said), "".join(said)
 
 
+def known_lines():
+    """The lines of the record, by crate."""
+    return {it.split()[0]: it for it in RECORD.read_text().splitlines() if not it.startswith("#")}
+
+
+def try_and_note(line, jobs):
+    """Tries the mutants of a crate, and writes its line at once if all are refused: a run may end early."""
+    tried = try_mutants(line.split()[0], jobs)
+    if not tried[1]:
+        with NOTING:
+            written = {**known_lines(), line.split()[0]: line}
+            RECORD.write_text(HEAD + "".join(f"{written[it]}\n" for it in sorted(written)))
+    return tried
+
+
 def run(words):
     """Tries the mutants of the crates named, of all, or of those whose line no longer agrees; how many are refused, now
     or by their line, and how many not."""
-    known = {it.split()[0]: it for it in RECORD.read_text().splitlines() if not it.startswith("#")}
+    known = known_lines()
     lines = {it: line_of(it) for it in LINES if mutants_of(it)}
     chosen = [it for it in lines if words == ["all"] or it in words or not words and known.get(it) != lines[it]]
     standing = [] if words else [it for it in lines if it not in chosen]
     print(f"check: mutants of {len(chosen)} crates are tried, those of {len(standing)} stand by their line", flush=True)
     tasks = tasks_of({low for name in chosen for low in below(name)})
     for name in chosen:
-        tasks[f"{name} mutants"] = [it for it in below(name) if it in tasks], functools.partial(try_mutants, name)
+        task = functools.partial(try_and_note, lines[name])
+        tasks[f"{name} mutants"] = [it for it in below(name) if it in tasks], task
     passed, failed, bad = side_by_side(tasks)
     refused = [it for it in chosen if f"{it} mutants" not in bad]
     changed = [it for it in refused if words == ["all"] and known.get(it) not in (None, lines[it])]
