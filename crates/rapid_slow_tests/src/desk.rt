@@ -163,7 +163,12 @@ fn has_seats_once_in<R: Wait + Abort>(
 ) -> Result<(), Fail> {
     let configuration = after(alloc, &founding(alloc)?, 2)?;
     let copy = configuration.try_copy(alloc)?;
-    hand_over(rt, desk, confirmation(alloc, configuration)?, confirmation(alloc, copy)?)?;
+    hand_over(
+        rt,
+        desk,
+        confirmation(alloc, configuration)?,
+        confirmation(alloc, copy)?,
+    )?;
     assert!(rt; desk.take_seats().is_some());
     Ok(())
 }

@@ -99,7 +99,11 @@ fn event(
             Ok(Event::EdgeDown(id, ring, process(number)))
         }
         Word::Probe(which) => heard(alloc, 3, Body::Probe(identifier(rt, node, first, which))),
-        Word::ProbeAck(which) => heard(alloc, 3, Body::ProbeAck(identifier(rt, node, first, which))),
+        Word::ProbeAck(which) => heard(
+            alloc,
+            3,
+            Body::ProbeAck(identifier(rt, node, first, which)),
+        ),
         Word::Decision(number) => {
             let cut = cut(alloc, number)?;
             heard(alloc, number, Body::Decision(shown(rt, node), cut))

@@ -109,8 +109,14 @@ fn requests_are_taken_once_and_questions_each_tenth_tick(rt: HostRuntime) -> Res
     let (here, elsewhere) = (configuration.id(), ConfigId::zero());
     let mut repeats = Repeats::new(alloc, &configuration)?;
     for ring in 0..2 {
-        assert!(rt; repeats.admits(&request(alloc, 7, here, ring)?), "at {ring}");
-        assert!(rt; !repeats.admits(&request(alloc, 7, here, ring)?), "at {ring}");
+        assert!(rt;
+            repeats.admits(&request(alloc, 7, here, ring)?),
+            "at {ring}"
+        );
+        assert!(rt;
+            !repeats.admits(&request(alloc, 7, here, ring)?),
+            "at {ring}"
+        );
         for time in 0..2 {
             assert!(rt;
                 repeats.admits(&request(alloc, 7, elsewhere, ring)?),
