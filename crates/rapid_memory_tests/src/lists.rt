@@ -133,7 +133,9 @@ fn list_on(alloc: Global, subjects: &[Process]) -> Result<AlertList, AllocError>
 /// other, and then on both by turns, which are known.
 #[test]
 fn out_of_memory_leaves_the_list_of_alerts_as_it_was(rt: HostRuntime) -> Result<(), Fail> {
-    let ([one, other], first, second) = (two()?, &TWO[..23], &TWO[23..]);
+    let [one, other] = two()?;
+    let first = &TWO[..23];
+    let second = &TWO[23..];
     let mut list = list_on(rt.alloc(), &[])?;
     let subjects = [first, second, first, second, first, second];
     add_all(&mut list, &subjects)?;
