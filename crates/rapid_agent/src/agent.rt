@@ -241,8 +241,8 @@ impl<'a, W: Wait> Agent<'a, W> {
     }
 
     /// The member is to leave: it asks those that observe it to have it removed. It goes on until a
-    /// view comes without it, and is in phase `Removed` then. It is asked again if a view comes that
-    /// still has it.
+    /// view comes without it, and is in phase `Removed` then. In a view that still has it, it has to
+    /// be told again.
     ///
     /// # Errors
     ///

@@ -1,5 +1,6 @@
-//! To which member of a configuration a key belongs. All that have the same configuration agree on it,
-//! and a change of the members moves no key between two that stay.
+//! To which member of a configuration a key belongs. All that have the same configuration agree on it.
+//! That a change of the members moves no key between two that stay follows from the definition; no law
+//! says so.
 #![tactic(auto)]
 
 ghost use Rattle.std.specs.Prelude.{◌≡◌, ◌↔◌, true, Some, IfSome};

@@ -37,9 +37,9 @@ const MOST_SUBSCRIBERS: usize = 64;
 /// How many changes wait for a subscriber at most.
 const MOST_CAPACITY: usize = 1_024;
 
-/// A node at a desk: the node, the journal of what happened since it entered its configuration, and
-/// the views that it has published. Contracts see what is held, and whether the seats at the
-/// published view are still to be taken.
+/// A node at a desk: the node, the journal of what happened since it entered its configuration, or
+/// since a checkpoint after that, and the views that it has published. Contracts see what is held,
+/// and whether the seats at the published view are still to be taken.
 pub struct Desk<R: Wait + Copy + Drop> {
     rt: R,
     alloc: Global,

@@ -1,5 +1,6 @@
-//! A desk: a node with the journal since it entered its configuration, and the views that it
-//! publishes. It is kept under a lock, so that many threads hand it events.
+//! A desk: a node with the journal since it entered its configuration, or since a checkpoint after
+//! that, and the views that it publishes. It is kept under a lock, so that many threads hand it
+//! events.
 #![tactic(auto)]
 
 mod board;

@@ -5,10 +5,11 @@ ghost use Rattle.rapid_endpoint.specs.ReadErrors.{code_of};
 
 use thiserror::Error;
 
-/// Why bytes do not begin with tags: what is met first, from the left.
+/// Why bytes do not begin with tags, with a process or with a number of processes: what is met
+/// first, from the left.
 #[derive(Clone, Copy, Debug, PartialEq, Eq, Error)]
 pub enum ReadError {
-    /// The bytes end before the tags do.
+    /// The bytes end before what is read does.
     #[error("the bytes end too early")]
     Truncated,
     /// There are more than 8 tags, or a tag has a length of 0 or above 64, a byte that no tag may

@@ -40,8 +40,9 @@ impl RoundsUsed {
 /// The coordinator of one member. It keeps the ballot that it began last, who promised it, and how
 /// many reported each cut at the highest ballot of a vote.
 ///
-/// It asks only for what the rule of Fast Paxos lets it ask for, and once a ballot: the contract of
-/// `rapid_agreement::coordinators_ask_lawfully` says so.
+/// It asks only for what the rule of Fast Paxos lets it ask for, and once a ballot, if what it is
+/// given is as it should be: the contract of `rapid_agreement::coordinators_ask_lawfully` names the
+/// conditions.
 #[derive(Debug, Drop)]
 pub struct Coordinator {
     size: usize,

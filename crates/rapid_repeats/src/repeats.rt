@@ -151,8 +151,9 @@ impl Repeats {
 
     /// Whether a message is let through. One that is not let through is equal to one that was since
     /// the view was entered. If it asks whether the sender may join, it is equal to one within ten
-    /// ticks. Each that is equal to the one kept of its sender and kind is not let through. One
-    /// that is let through is kept, unless there is no memory or no room for it.
+    /// ticks. Each that is equal to the one kept of its sender and kind is not let through, such a
+    /// question within ten ticks only. If one is let through of which repeats are looked for, it is
+    /// kept, unless there is no memory or no room for it.
     pub fn admits(&mut self, message: &Message) -> bool
         ensures dropped { (c : ModelConfiguration) (now : ℕ) (passed : List Passed) → Remembers self.old c now passed → result ≡ false → IsRepeat (configuration_id c) now passed message.now }
         ensures repeats { IsRepeatFor self.old message.now → result ≡ false }

@@ -7,8 +7,8 @@ ghost use Rattle.rapid_model.specs.Numbered.{numbered, named};
 use crate::line::number;
 use rapid_endpoint::{Endpoint, Process, ProcessId};
 
-/// The process of a number: it has the number as its identifier and the endpoint 127.0.0.1 with the
-/// number as its port.
+/// The process of a number: it has the number as its identifier, the endpoint 127.0.0.1 with the
+/// number as its port, and no tags.
 pub fn numbered(number: u16) -> Process
     ensures { result ≡ numbered number }
 {
