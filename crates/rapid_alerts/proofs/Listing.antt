@@ -84,7 +84,7 @@ within_items ss xs at l e h =
     let own = length-map xs (item_in ss) in
     omega (arith, h, whole, same, own)
 
-slice_get_map : {A B : Type 0} (f : A → B) (xs : List A) (i : ℕ) (a : A) → slice_get xs i ≡ Some a → slice_get (map f xs) i ≡ Some (f a)
+pub slice_get_map : {A B : Type 0} (f : A → B) (xs : List A) (i : ℕ) (a : A) → slice_get xs i ≡ Some a → slice_get (map f xs) i ≡ Some (f a)
 slice_get_map f [] i a h = cc
 slice_get_map f (x ∷ xs) zero a h = let e : x ≡ a = cc in ap (λ y. Some (f y)) e
 slice_get_map f (x ∷ xs) (suc i) a h = slice_get_map f xs i a h
@@ -110,6 +110,10 @@ listed_items l = items_back l.observer l.config l.items
 -- what an alert says is the item at its place
 pub item_of_alert : (l : ListedAlerts) (i : ℕ) (a : model.Alert) → slice_get (alerts_in l) i ≡ Some a → slice_get l.items i ≡ Some (item_of a)
 item_of_alert l i a h = ap (λ xs. slice_get xs i) (sym (listed_items l)) ∙ slice_get_map item_of (alerts_in l) i a h
+
+-- the subject at a place is that of the alert there
+pub subject_is : (xs : List model.Alert) (i : ℕ) (a : model.Alert) (s : Process) → slice_get (map (λ x. x.subject) xs) i ≡ Some s → slice_get xs i ≡ Some a → s ≡ a.subject
+subject_is xs i a s h k = let e : Some s ≡ Some a.subject = sym h ∙ slice_get_map (λ x. x.subject) xs i a k in cc
 
 -- ---- lists of the same alerts
 

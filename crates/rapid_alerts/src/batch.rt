@@ -9,7 +9,7 @@ ghost use Rattle.rapid_alerts.specs.Refusals.{Reports, ReportsIfAny};
 
 use crate::{Alert, AlertList, BatchError};
 use rapid_config::ConfigId;
-use rapid_endpoint::Process;
+use rapid_endpoint::{Process, SharedProcess};
 use std::alloc::{AllocError, Global};
 use std::marker::Model;
 use std::sync::Arc;
@@ -94,8 +94,9 @@ fn listed(alloc: Global, alerts: &[Alert]) -> Result<AlertList, AllocError>
     requires { batch_fault (map alert_of alerts.now) ≡ None }
     ensures { IfOk result (λ list. alerts_in list ≡ map alert_of alerts.now) }
 {
-    let first = alerts[0];
-    let mut list = AlertList::new(alloc, first.observer, first.config);
+    let first = &alerts[0];
+    let observer = SharedProcess::new(alloc, &first.observer)?;
+    let mut list = AlertList::new(alloc, observer, first.config);
     push_all(&mut list, alerts)?;
     Ok(list)
 }

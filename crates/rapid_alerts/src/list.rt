@@ -1,6 +1,6 @@
 // Lists of alerts in which each names its subject by a place.
 
-ghost use Rattle.std.specs.Prelude.{◌≡◌, ◌<◌, ◌≤◌, ◌+◌, ◌++◌, ◌∷◌, true, [], Some, List, slice_get, length, take, drop, nat_lt, IfOk, IfErr, IfSome, OnOk, OnErr};
+ghost use Rattle.std.specs.Prelude.{◌≡◌, ◌<◌, ◌≤◌, ◌+◌, ◌++◌, ◌∷◌, true, [], None, Some, List, slice_get, is_some, length, map, take, drop, nat_lt, IfOk, IfErr, IfSome, OnOk, OnErr};
 ghost use Rattle.std.specs.List.{list_all};
 ghost use Rattle.rapid_model.specs.Message.{AlertItem, item_of};
 ghost use Rattle.rapid_alerts.specs.Alerts.{ArePlaced, alert_of, alert_of_ref, alerts_in, kind_of};
@@ -9,7 +9,7 @@ ghost use Rattle.rapid_alerts.specs.Spelt.{Adds, Says};
 
 use crate::{Alert, AlertRef, Kind, SpeltError};
 use rapid_config::ConfigId;
-use rapid_endpoint::Process;
+use rapid_endpoint::{Process, SharedProcess};
 use std::alloc::{AllocError, Global};
 use std::marker::Model;
 
@@ -27,13 +27,14 @@ pub(crate) struct Item {
 /// Alerts of one observer and one configuration, in order.
 ///
 /// Observer and configuration stand once, and so does a subject of alerts that follow each other.
-/// An alert more takes 4 bytes.
+/// An alert more takes 4 bytes. Whoever takes these processes from it shares them.
 #[derive(Debug, Drop)]
 pub struct AlertList {
-    observer: Process,
+    observer: SharedProcess,
     config: ConfigId,
-    subjects: Vec<Process>,
+    subjects: Vec<SharedProcess>,
     items: Vec<Item>,
+    alloc: Global,
 }
 
 impl Model for AlertList {
@@ -50,17 +51,17 @@ impl Model for AlertList {
 }
 
 /// Whether this process stands at the place.
-fn is_at(subjects: &[Process], place: usize, subject: &Process) -> bool
+fn is_at(subjects: &[SharedProcess], place: u16, subject: &Process) -> bool
     ensures { result ≡ true → slice_get subjects.now place ≡ Some subject.now }
 {
-    match subjects.get(place) {
-        Some(found) => *found == *subject,
+    match subjects.get(usize::from(place)) {
+        Some(found) => found.is(subject),
         None => false,
     }
 }
 
 /// The place behind this one; behind the last one stands the first.
-fn next_place(subjects: &[Process], near: u16) -> u16 {
+fn next_place(subjects: &[SharedProcess], near: u16) -> u16 {
     if usize::from(near) + 1 < subjects.len() {
         near.saturating_add(1)
     } else {
@@ -69,11 +70,10 @@ fn next_place(subjects: &[Process], near: u16) -> u16 {
 }
 
 /// The place of a subject, if it is this place or the next one.
-fn place_near(subjects: &[Process], near: u16, subject: &Process) -> Option<usize>
+fn place_near(subjects: &[SharedProcess], near: u16, subject: &Process) -> Option<u16>
     ensures { IfSome result (λ place. slice_get subjects.now place ≡ Some subject.now) }
 {
-    let next = usize::from(next_place(subjects, near));
-    let near = usize::from(near);
+    let next = next_place(subjects, near);
     if is_at(subjects, near, subject) {
         Some(near)
     } else if is_at(subjects, next, subject) {
@@ -84,18 +84,18 @@ fn place_near(subjects: &[Process], near: u16, subject: &Process) -> Option<usiz
 }
 
 /// How many bytes the process at this place takes, if it is the one in front of the bytes.
-fn length_spelt(subjects: &[Process], place: u16, bytes: &[u8]) -> Option<usize>
+fn length_spelt(subjects: &[SharedProcess], place: u16, bytes: &[u8]) -> Option<usize>
     ensures { IfSome result (IsSpeltIn subjects.now place bytes.now) }
 {
     match subjects.get(usize::from(place)) {
-        Some(subject) if subject.is_spelt_at(bytes) => Some(subject.length()),
+        Some(subject) if subject.get().is_spelt_at(bytes) => Some(subject.get().length()),
         _ => None,
     }
 }
 
 /// The place of the process in front of the bytes and how many of them it takes, if that is this
 /// place or the next one.
-fn place_spelt(subjects: &[Process], near: u16, bytes: &[u8]) -> Option<(u16, usize)>
+fn place_spelt(subjects: &[SharedProcess], near: u16, bytes: &[u8]) -> Option<(u16, usize)>
     ensures { IfSome result (λ r. IsSpeltIn subjects.now r.0 bytes.now r.1) }
 {
     if let Some(length) = length_spelt(subjects, near, bytes) {
@@ -105,21 +105,6 @@ fn place_spelt(subjects: &[Process], near: u16, bytes: &[u8]) -> Option<(u16, us
     match length_spelt(subjects, next, bytes) {
         Some(length) => Some((next, length)),
         None => None,
-    }
-}
-
-/// The place of a subject, which is added unless it stands at this place or the next one.
-fn place_for(subjects: &mut Vec<Process>, near: u16, subject: &Process) -> Result<usize, AllocError>
-    ensures place { IfOk result (λ place. slice_get subjects.new.items place ≡ Some subject.now) }
-    ensures grows { Grows subjects.old.items subjects.new.items }
-{
-    match place_near(subjects, near, subject) {
-        Some(place) => Ok(place),
-        None => {
-            let place = subjects.len();
-            subjects.push(*subject)?;
-            Ok(place)
-        }
     }
 }
 
@@ -138,7 +123,7 @@ fn all_stand_before(items: &[Item], count: usize) -> bool
 }
 
 /// Takes the last subject out if no alert is on it. It takes no memory.
-fn trim(subjects: &mut Vec<Process>, items: &[Item])
+fn trim(subjects: &mut Vec<SharedProcess>, items: &[Item])
     requires { ArePlaced subjects.old.items items.now }
     ensures placed { ArePlaced subjects.new.items items.now }
     ensures grows { Grows subjects.new.items subjects.old.items }
@@ -150,7 +135,7 @@ fn trim(subjects: &mut Vec<Process>, items: &[Item])
 
 impl AlertList {
     /// No alerts of this observer and this configuration.
-    pub fn new(alloc: Global, observer: Process, config: ConfigId) -> AlertList
+    pub fn new(alloc: Global, observer: SharedProcess, config: ConfigId) -> AlertList
         ensures { result ≡ record { observer = observer; config = config; items = [] } }
     {
         AlertList {
@@ -158,6 +143,7 @@ impl AlertList {
             config,
             subjects: Vec::new(alloc),
             items: Vec::new(alloc),
+            alloc,
         }
     }
 
@@ -191,19 +177,73 @@ impl AlertList {
         ensures pushed { OnOk result (self.new ≡ record self.old { items = self.old.items ++ (record { ring = ring; kind = kind_of kind; subject = subject.now }) ∷ [] }) }
         ensures unchanged { OnErr result (self.new ≡ self.old) }
     {
-        let place = place_for(&mut self.subjects, near, subject)?;
-        if place >= MOST_SUBJECTS {
-            self.forget_unused();
-            return Err(AllocError);
-        }
-        let place = place as u16;
-        match self.items.push(Item { place, ring, kind }) {
-            Ok(()) => Ok(place),
-            Err(_refused) => {
-                self.forget_unused();
-                Err(AllocError)
+        match self.push_if_near(near, subject, ring, kind)? {
+            Some(place) => Ok(place),
+            None => {
+                let subject = SharedProcess::new(self.alloc, subject)?;
+                self.push_behind(subject, ring, kind)
             }
         }
+    }
+
+    /// Adds an alert at the end on a subject that is shared, as [`AlertList::push`] does.
+    fn push_shared(
+        &mut self,
+        subject: &SharedProcess,
+        ring: u8,
+        kind: Kind,
+    ) -> Result<(), AllocError>
+        ensures pushed { OnOk result (self.new ≡ record self.old { items = self.old.items ++ (record { ring = ring; kind = kind_of kind; subject = subject.now }) ∷ [] }) }
+        ensures unchanged { OnErr result (self.new ≡ self.old) }
+    {
+        let near = self.last_place();
+        let found = self.push_if_near(near, subject.get(), ring, kind)?;
+        if found.is_none() {
+            self.push_behind(subject.share()?, ring, kind)?;
+        }
+        Ok(())
+    }
+
+    /// Adds an alert at the end if its subject stands at this place or the next one, and says at
+    /// which. If it does not, or the alert is refused, the list is as it was.
+    fn push_if_near(
+        &mut self,
+        near: u16,
+        subject: &Process,
+        ring: u8,
+        kind: Kind,
+    ) -> Result<Option<u16>, AllocError>
+        ensures pushed { IfOk result (λ found. is_some found ≡ true → self.new ≡ record self.old { items = self.old.items ++ (record { ring = ring; kind = kind_of kind; subject = subject.now }) ∷ [] }) }
+        ensures none { IfOk result (λ found. found ≡ None → self.new ≡ self.old) }
+        ensures unchanged { OnErr result (self.new ≡ self.old) }
+    {
+        let Some(place) = place_near(&self.subjects, near, subject) else {
+            return Ok(None);
+        };
+        self.items.push(Item { place, ring, kind })?;
+        Ok(Some(place))
+    }
+
+    /// Adds an alert at the end on a subject that is put behind all others, and says at which place
+    /// that is. If it is refused the list is as it was.
+    fn push_behind(
+        &mut self,
+        subject: SharedProcess,
+        ring: u8,
+        kind: Kind,
+    ) -> Result<u16, AllocError>
+        ensures pushed { OnOk result (self.new ≡ record self.old { items = self.old.items ++ (record { ring = ring; kind = kind_of kind; subject = subject }) ∷ [] }) }
+        ensures unchanged { OnErr result (self.new ≡ self.old) }
+    {
+        let place = self.subjects.len();
+        if place >= MOST_SUBJECTS {
+            return Err(AllocError);
+        }
+        self.items.reserve(1)?;
+        self.subjects.push(subject)?;
+        let place = place as u16;
+        self.items.push_reserved(Item { place, ring, kind });
+        Ok(place)
     }
 
     /// Adds an alert at the end on the process in front of the bytes, and says how many bytes that
@@ -278,8 +318,8 @@ impl AlertList {
     {
         let item = self.items[at];
         Alert {
-            observer: self.observer,
-            subject: self.subjects[usize::from(item.place)],
+            observer: *self.observer.get(),
+            subject: *self.subjects[usize::from(item.place)].get(),
             ring: item.ring,
             kind: item.kind,
             config: self.config,
@@ -294,19 +334,30 @@ impl AlertList {
     {
         let item = &self.items[at];
         AlertRef {
-            observer: &self.observer,
-            subject: &self.subjects[usize::from(item.place)],
+            observer: self.observer.get(),
+            subject: self.subjects[usize::from(item.place)].get(),
             ring: item.ring,
             kind: item.kind,
             config: &self.config,
         }
     }
 
+    /// The subject of an alert, by its place in the list from 0. It can be shared, which takes no
+    /// memory.
+    #[inline(always)]
+    pub fn shared_subject(&self, at: usize) -> &SharedProcess
+        requires { at < length (alerts_in self.now) }
+        ensures { slice_get (map (λ a. a.subject) (alerts_in self.now)) at ≡ Some result.now }
+    {
+        let kept = &self.items[at];
+        &self.subjects[usize::from(kept.place)]
+    }
+
     /// The observer of all alerts.
     pub(crate) fn observer(&self) -> &Process
         ensures { result.now ≡ self.now.observer }
     {
-        &self.observer
+        self.observer.get()
     }
 
     /// The identifier of the configuration of all alerts.
@@ -351,7 +402,7 @@ impl AlertList {
         true
     }
 
-    /// This many alerts from a place on, in a list of their own.
+    /// This many alerts from a place on, in a list of their own, which shares their processes.
     pub(crate) fn part(
         &self,
         alloc: Global,
@@ -361,23 +412,25 @@ impl AlertList {
         requires { from + count ≤ length self.now.items }
         ensures { IfOk result (λ part. part ≡ record self.now { items = take count (drop from self.now.items) }) }
     {
-        let mut part = AlertList::new(alloc, self.observer, self.config);
+        let mut part = AlertList::new(alloc, self.observer.share()?, self.config);
         for done in 0..count {
-            let alert = self.alert_ref(from + done);
-            part.push(alert.subject, alert.ring, alert.kind)?;
+            let at = from + done;
+            let alert = self.alert_ref(at);
+            part.push_shared(self.shared_subject(at), alert.ring, alert.kind)?;
         }
         Ok(part)
     }
 
-    /// An equal list.
+    /// An equal list, which shares the processes.
     pub(crate) fn try_copy(&self) -> Result<AlertList, AllocError>
         ensures { IfOk result (λ copy. copy ≡ self.now) }
     {
         Ok(AlertList {
-            observer: self.observer,
+            observer: self.observer.share()?,
             config: self.config,
             subjects: self.subjects.clone()?,
             items: self.items.clone()?,
+            alloc: self.alloc,
         })
     }
 }

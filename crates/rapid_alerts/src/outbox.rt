@@ -12,7 +12,7 @@ ghost use Rattle.rapid_alerts.specs.Refusals.{Refuses, RefusesIfAny, answer_of};
 use crate::index::Index;
 use crate::mark::Marks;
 use crate::{Alert, AlertList, Batch, Kind, RaiseError};
-use rapid_endpoint::Process;
+use rapid_endpoint::{Process, SharedProcess};
 use rapid_rings::ObserverTable;
 use std::alloc::{AllocError, Global};
 use std::marker::Model;
@@ -95,7 +95,7 @@ fn verdict_of<T: ObserverTable>(
 #[derive(Debug, Drop)]
 pub struct Outbox<T: ObserverTable> {
     table: T,
-    owner: Process,
+    // its observer is the owner
     raised: AlertList,
     index: Index,
     flushed: usize,
@@ -111,14 +111,14 @@ impl<T: ObserverTable> Model for Outbox<T> {
 
     ghost coded = { owned_code T.code };
 
-    ghost view = { λ o. record { table = o.table; owner = o.owner; outbox = record { raised = alerts_in o.raised; flushed = o.flushed } } };
+    ghost view = { λ o. record { table = o.table; owner = o.raised.observer; outbox = record { raised = alerts_in o.raised; flushed = o.flushed } } };
 
-    ghost invariant = { λ o. IsOutbox (T.observers o.table) o.owner (record { raised = alerts_in o.raised; flushed = o.flushed }) o.index × (o.raised.observer ≡ o.owner) × (o.raised.config ≡ (T.observers o.table).id) };
+    ghost invariant = { λ o. IsOutbox (T.observers o.table) o.raised.observer (record { raised = alerts_in o.raised; flushed = o.flushed }) o.index × (o.raised.config ≡ (T.observers o.table).id) };
 }
 
 impl<T: ObserverTable> Outbox<T> {
     /// The outbox of an observer in the configuration of this table; nothing is raised.
-    pub fn new(alloc: Global, table: T, owner: Process) -> Outbox<T>
+    pub fn new(alloc: Global, table: T, owner: SharedProcess) -> Outbox<T>
         ensures table { result.table ≡ table }
         ensures owner { result.owner ≡ owner }
         ensures empty { result.outbox ≡ model.empty_outbox }
@@ -126,7 +126,6 @@ impl<T: ObserverTable> Outbox<T> {
         let raised = AlertList::new(alloc, owner, table.id());
         Outbox {
             table,
-            owner,
             raised,
             index: Index::new(alloc),
             flushed: 0,
@@ -167,7 +166,7 @@ impl<T: ObserverTable> Outbox<T> {
         ensures marks { IfOk result (λ found. IfSome found (IsOn (index_of self.now.outbox.raised) alert.now.subject)) }
         ensures refused { IfErr result (Refuses (model.raising (T.observers self.now.table) self.now.owner self.now.outbox (alert_of alert.now))) }
     {
-        verdict_of(&self.table, &self.owner, &self.index, alert)
+        verdict_of(&self.table, self.raised.observer(), &self.index, alert)
     }
 
     /// Keeps an alert that is to be raised, on a subject of these marks. If out of memory the
@@ -242,7 +241,6 @@ impl<T: ObserverTable> Outbox<T> {
     {
         Ok(Outbox {
             table,
-            owner: self.owner,
             raised: self.raised.try_copy()?,
             index: self.index.try_copy()?,
             flushed: self.flushed,

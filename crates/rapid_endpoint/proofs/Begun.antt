@@ -32,6 +32,13 @@ has_room p bytes rest h e =
     let parts = length-append p rest in
     omega (arith, h.long, whole, parts)
 
+-- they are no shorter than it
+pub no_longer : (p bytes rest : List ℕ) → process_at bytes ≡ Ok (p, rest) → length p ≤ length bytes
+no_longer p bytes rest e =
+    let whole = ap length (process_taken bytes (p, rest) e).spelt in
+    let parts = length-append p rest in
+    omega (arith, whole, parts)
+
 -- and begin with it
 pub has_key : (p bytes rest : List ℕ) → IsProcess p → process_at bytes ≡ Ok (p, rest) → take 22 bytes ≡ take 22 p
 has_key p bytes rest h e = ap (take 22) (process_taken bytes (p, rest) e).spelt ∙ take-append-le 22 p rest h.long

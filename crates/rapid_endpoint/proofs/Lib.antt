@@ -1,4 +1,5 @@
 pub mod Ascents
+pub mod Below
 pub mod Begun
 pub mod Commas
 pub mod Fronts

@@ -202,6 +202,7 @@ impl Process {
     }
 
     /// How many bytes the process in front of the bytes takes. The error is that of `read`.
+    #[inline(always)]
     pub fn length_at(bytes: &[u8]) -> Result<usize, ReadError>
         ensures read { Gives (λ n. (take n bytes.now, drop n bytes.now)) result (process_at bytes.now) }
         ensures within { IfOk result (λ n. n ≤ length bytes.now) }
@@ -236,10 +237,10 @@ impl Process {
         ensures within { result ≡ true → length self.now ≤ length bytes.now }
     {
         self.tell();
-        let Some((key, rest)) = bytes.split_first_chunk::<22>() else {
+        let Some(key) = Key::read(bytes) else {
             return false;
         };
-        *key == self.key_bytes() && begin_with(rest, self.tags().as_bytes())
+        key == self.key && begin_with(&bytes[KEY_LENGTH..], self.tags().as_bytes())
     }
 
     /// The value is a process. It does nothing: what it ensures is for proofs.

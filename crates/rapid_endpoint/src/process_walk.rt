@@ -2,6 +2,7 @@
 
 ghost use Rattle.std.specs.Prelude.{◌≡◌, ◌-◌, ◌≤◌, [], All, length, take, drop, IfOk, OnOk};
 ghost use Rattle.std.specs.List.{concat};
+ghost use Rattle.rapid_model.specs.Tags as model;
 ghost use Rattle.rapid_model.specs.Tags.{ascend_from};
 ghost use Rattle.rapid_model.specs.Process.{IsProcess, process_at};
 ghost use Rattle.rapid_model.specs.Reading.{processes_at};
@@ -10,7 +11,7 @@ ghost use Rattle.rapid_endpoint.specs.ProcessesIn.{processes_in};
 ghost use Rattle.rapid_endpoint.specs.ReadErrors.{Gives};
 
 use crate::tag_list::is_below;
-use crate::{Process, ReadError};
+use crate::{Process, ReadError, bytes};
 use std::alloc::{AllocError, Global};
 
 /// How many bytes a process without tags has.
@@ -53,6 +54,28 @@ pub(crate) fn end_in(count: usize, bytes: &[u8]) -> Result<usize, ReadError>
     Ok(at)
 }
 
+/// Whether the bytes of a process are below those of another. Mostly their identifiers tell, which
+/// are compared as numbers.
+#[inline(always)]
+fn is_process_below(process: &[u8], other: &[u8]) -> bool
+    ensures { result ≡ model.is_below process.now other.now }
+{
+    bytes::tell(process);
+    bytes::tell(other);
+    let Some((mine, _)) = process.split_first_chunk::<16>() else {
+        return is_below(process, other);
+    };
+    let Some((others, _)) = other.split_first_chunk::<16>() else {
+        return is_below(process, other);
+    };
+    let mine = u128::from_be_bytes(*mine);
+    let others = u128::from_be_bytes(*others);
+    if mine == others {
+        return is_below(process, other);
+    }
+    mine < others
+}
+
 /// Whether each process is above the one before it, and the first above the empty string.
 pub(crate) fn ascend_in(count: usize, bytes: &[u8]) -> bool
     ensures { result ≡ ascend_from [] (processes_in count bytes.now) }
@@ -64,7 +87,7 @@ pub(crate) fn ascend_in(count: usize, bytes: &[u8]) -> bool
             return true;
         };
         let (process, others) = rest.split_at(length);
-        if !is_below(before, process) {
+        if !is_process_below(before, process) {
             return false;
         }
         before = process;

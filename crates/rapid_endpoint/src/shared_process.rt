@@ -1,6 +1,8 @@
 // Processes that are shared.
 
 ghost use Rattle.std.specs.Prelude.{◌≡◌, IfOk};
+ghost use Rattle.std.specs.Cmp.{partial_equiv_from_equiv};
+ghost use Rattle.std.proofs.lemmas.Cmp.{nat_list_cmp_total, eq_by_cmp_equiv};
 ghost use Rattle.rapid_model.specs.Process.{same_bytes};
 
 use crate::{Process, ProcessId};
@@ -30,6 +32,8 @@ impl Model for SharedProcess {
 
 impl SharedProcess {
     /// This process, to be shared.
+    // it stands apart: room for a process is cleared at each call of the function that has it
+    #[inline(never)]
     pub fn new(alloc: Global, process: &Process) -> Result<SharedProcess, AllocError>
         ensures { IfOk result (λ shared. shared ≡ process.now) }
     {
@@ -70,5 +74,25 @@ impl SharedProcess {
             return false;
         }
         *self.process.tags() == *process.tags()
+    }
+}
+
+impl PartialEq for SharedProcess {
+    ghost eq = { same_bytes };
+
+    ghost laws = { partial_equiv_from_equiv (eq_by_cmp_equiv nat_list_cmp_total) };
+
+    #[inline(always)]
+    fn eq(&self, other: &SharedProcess) -> bool {
+        other.is(self.get())
+    }
+}
+
+impl Clone for SharedProcess {
+    ghost is_clone = { λ a b. b ≡ a };
+
+    #[inline(always)]
+    fn clone(&self) -> Result<SharedProcess, AllocError> {
+        self.share()
     }
 }

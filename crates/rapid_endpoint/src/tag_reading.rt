@@ -36,6 +36,7 @@ fn read_tag<'a>(before: &[u8], bytes: &'a [u8]) -> Result<(&'a [u8], &'a [u8]), 
 }
 
 /// What follows this many tags.
+#[inline(never)]
 fn read_some(count: u8, bytes: &[u8]) -> Result<&[u8], ReadError>
     ensures { Gives (λ rest. rest.now) result (model.after_some count [] bytes.now) }
 {
@@ -50,13 +51,18 @@ fn read_some(count: u8, bytes: &[u8]) -> Result<&[u8], ReadError>
 }
 
 /// What follows the tags in front of the bytes.
-#[tactic(auto, unfolding(rapid_model::specs::Tags::after_tags))]
+#[tactic(auto, unfolding(rapid_model::specs::Tags::after_tags, rapid_model::specs::Tags::after_some))]
+#[inline(always)]
 pub(crate) fn read_tags(bytes: &[u8]) -> Result<&[u8], ReadError>
     ensures { Gives (λ rest. rest.now) result (model.after_tags bytes.now) }
 {
     let Some((&count, rest)) = bytes.split_first() else {
         return Err(ReadError::Truncated);
     };
+    // as is most common
+    if count == 0 {
+        return Ok(rest);
+    }
     if usize::from(count) > Tags::MOST {
         return Err(ReadError::BadTags);
     }

@@ -9,7 +9,7 @@ push_all-requires c k d m =
     let h = alike_first c.args.alerts.now c.index-alerts-0.result c.requires k d m in
     let first = sym c.index-alerts-0.is in
     let list = sym c.new-list.ensures in
-    (h.0 ∙ ap (λ (x : Alert). x.observer) first ∙ ap (λ (l : ListedAlerts). l.observer) list, h.1 ∙ ap (λ (x : Alert). x.config) first ∙ ap (λ (l : ListedAlerts). l.config) list)
+    (h.0 ∙ ap (λ (x : Alert). x.observer) first ∙ sym c.in_ok-observer.ensures ∙ ap (λ (l : ListedAlerts). l.observer) list, h.1 ∙ ap (λ (x : Alert). x.config) first ∙ ap (λ (l : ListedAlerts). l.config) list)
 
 pub returns : goal.returns
 returns c = c.in_ok-push_all.ensures ∙ ap (λ (l : ListedAlerts). alerts_in l ++ map alert_of c.args.alerts.now) c.new-list.ensures

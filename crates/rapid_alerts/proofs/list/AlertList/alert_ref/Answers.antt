@@ -1,6 +1,7 @@
-use Rattle.std.proofs.Common.{◌<◌, length, map, get_or, refl, ap, sym, subst, ◌∙◌}
+use Rattle.std.proofs.Common.{◌<◌, Some, length, map, get_or, refl, ap, sym, subst, ◌∙◌}
 use Rattle.std.specs.Prelude.{slice_get}
 use Rattle.std.proofs.lemmas.Option.{slice_get_read}
+use Rattle.rapid_model.specs.Alert as model
 use Rattle.rapid_model.specs.Message.{AlertItem}
 use Rattle.rapid_alerts.specs.Alerts.{ListedAlerts, alerts_in, item_in, kind_of}
 use Rattle.rapid_alerts.specs.declared.list.Item.{Item}
@@ -21,3 +22,4 @@ returns c =
     ∙ alert_at_place seen c.args.at said
     (item_at_place ss xs c.args.at x s (slice_get_read xs (length xs) c.args.at x refl within c.index-item.ensures)
     (slice_get_read ss (length ss) x.place s refl placed (c.index.ensures ∙ ap (λ n. get_or ss n s) c.from.ensures)))
+    ∙ (λ i. let a : model.Alert = record { observer = sym c.get.ensures i; subject = sym c.get-2.ensures i; ring = x.ring; kind = kind_of x.kind; config = c.self.inside.config } in Some a)

@@ -13,7 +13,7 @@ of-requires g c =
     as_many o.raised o.flushed c.min-count.result (c.len.result - o.flushed) (ap (λ k. k - o.flushed) c.len.ensures.alerts) c.min-count.ensures in
     let some : 1 ≤ length (unflushed o) = grind (arith, many, c.if-count-eq0.false) in
     ap batch_fault (stretch_is c.self.inside.raised c.in_ok-alerts.alerts o.flushed c.min-count.result c.in_ok-alerts.ensures many)
-    ∙ unflushed_batch (g.T.ObserverTable.observers c.self.inside.table) c.self.inside.owner o c.self.inside.index c.self.invariant.0 some
+    ∙ unflushed_batch (g.T.ObserverTable.observers c.self.inside.table) c.self.inside.raised.observer o c.self.inside.index c.self.invariant.0 some
 
 pub returns-clause-flushed : goal.returns-clause-flushed
 returns-clause-flushed g c =

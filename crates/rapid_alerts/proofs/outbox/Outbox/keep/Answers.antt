@@ -2,7 +2,8 @@ use Rattle.std.proofs.Common.{[], ◌∷◌, ◌++◌, List, ap, sym, subst, ◌
 use Rattle.rapid_model.specs.Alert.{Alert}
 use Rattle.rapid_model.specs.Outbox.{Outbox}
 use Rattle.rapid_alerts.specs.Alerts.{ListedAlerts, alert_of, alerts_in}
-use Rattle.rapid_alerts.specs.Outboxes.{Index, index_of}
+use Rattle.rapid_model.specs.Process.{Process}
+use Rattle.rapid_alerts.specs.Outboxes.{Index, IsOutbox, index_of}
 use Rattle.rapid_alerts.specs.Marks.{IsOn}
 use Rattle.rapid_alerts.proofs.Listing.{listed_more}
 use Rattle.rapid_alerts.proofs.Raisings.{raised_parts, raised_ring, parts_of, kept_seen, raising_along, outbox_along}
@@ -13,7 +14,7 @@ add-requires-clause-ring g c =
     let observers = g.T.ObserverTable.observers in
     let a = alert_of c.args.alert.now in
     let o : Outbox = record { raised = alerts_in c.self.inside.raised; flushed = c.self.inside.flushed } in
-    raised_ring (observers c.self.inside.table) c.self.inside.owner o c.self.inside.index a c.self.invariant.0 (raising_along observers a c.self.view_is ∙ c.requires.raised) c.params.ensures.rules.params.few
+    raised_ring (observers c.self.inside.table) c.self.inside.raised.observer o c.self.inside.index a c.self.invariant.0 (raising_along observers a c.self.view_is ∙ c.requires.raised) c.params.ensures.rules.params.few
 
 pub add-requires-clause-marks : goal.add-requires-clause-marks
 add-requires-clause-marks g c =
@@ -25,7 +26,7 @@ add-requires-clause-room g c =
     let observers = g.T.ObserverTable.observers in
     let a = alert_of c.args.alert.now in
     let o : Outbox = record { raised = alerts_in c.self.inside.raised; flushed = c.self.inside.flushed } in
-    (raised_parts (observers c.self.inside.table) c.self.inside.owner o c.self.inside.index a c.self.invariant.0 (raising_along observers a c.self.view_is ∙ c.requires.raised)).2
+    (raised_parts (observers c.self.inside.table) c.self.inside.raised.observer o c.self.inside.index a c.self.invariant.0 (raising_along observers a c.self.view_is ∙ c.requires.raised)).2
 
 pub invariant_of-self-in-Ok : goal.invariant_of-self-in-Ok
 invariant_of-self-in-Ok g c =
@@ -34,13 +35,14 @@ invariant_of-self-in-Ok g c =
     let a = alert_of c.args.alert.now in
     let o : Outbox = record { raised = alerts_in c.self.inside.raised; flushed = c.self.inside.flushed } in
     let raised = raising_along observers a c.self.view_is ∙ c.requires.raised in
-    let parts = parts_of t c.self.inside.owner a (raised_parts t c.self.inside.owner o c.self.inside.index a c.self.invariant.0 raised).0 in
-    let pushed = c.in_ok-place.ensures.pushed in (
-      kept_seen t c.self.inside.owner o c.self.inside.index c.add.new.self a (alerts_in c.push_near.new.self) c.self.invariant.0 raised
-          (listed_more c.self.inside.raised c.push_near.new.self a pushed (parts.observer ∙ sym c.self.invariant.1) (parts.config ∙ sym c.self.invariant.2))
-          c.in-Ok.ensures.added,
-      ap (λ (l : ListedAlerts). l.observer) pushed ∙ c.self.invariant.1,
-      ap (λ (l : ListedAlerts). l.config) pushed ∙ c.self.invariant.2,
+    let parts = parts_of t c.self.inside.raised.observer a (raised_parts t c.self.inside.raised.observer o c.self.inside.index a c.self.invariant.0 raised).0 in
+    let pushed = c.in_ok-place.ensures.pushed in
+    let xs = alerts_in c.push_near.new.self in (
+      subst (λ (p : Process). IsOutbox t p (record { raised = xs; flushed = c.self.inside.flushed }) c.add.new.self) (sym (ap (λ (l : ListedAlerts). l.observer) pushed))
+          (kept_seen t c.self.inside.raised.observer o c.self.inside.index c.add.new.self a (alerts_in c.push_near.new.self) c.self.invariant.0 raised
+          (listed_more c.self.inside.raised c.push_near.new.self a pushed parts.observer (parts.config ∙ sym c.self.invariant.1))
+          c.in-Ok.ensures.added),
+      ap (λ (l : ListedAlerts). l.config) pushed ∙ c.self.invariant.1,
     )
 
 pub returns-in-Ok-clause-kept : goal.returns-in-Ok-clause-kept
@@ -50,7 +52,7 @@ returns-in-Ok-clause-kept g c =
     let a = alert_of c.args.alert.now in
     let o : Outbox = record { raised = alerts_in c.self.inside.raised; flushed = c.self.inside.flushed } in
     let raised = raising_along observers a c.self.view_is ∙ c.requires.raised in
-    let parts = parts_of t c.self.inside.owner a (raised_parts t c.self.inside.owner o c.self.inside.index a c.self.invariant.0 raised).0 in
+    let parts = parts_of t c.self.inside.raised.observer a (raised_parts t c.self.inside.raised.observer o c.self.inside.index a c.self.invariant.0 raised).0 in
     ap (λ (xs : List Alert). let p : Outbox = record { raised = xs; flushed = c.self.inside.flushed } in p)
-    (listed_more c.self.inside.raised c.push_near.new.self a c.in_ok-place.ensures.pushed (parts.observer ∙ sym c.self.invariant.1) (parts.config ∙ sym c.self.invariant.2))
+    (listed_more c.self.inside.raised c.push_near.new.self a c.in_ok-place.ensures.pushed parts.observer (parts.config ∙ sym c.self.invariant.1))
     ∙ ap (λ (x : Outbox). let p : Outbox = record { raised = x.raised ++ a ∷ []; flushed = x.flushed } in p) (outbox_along c.self.view_is)

@@ -1,26 +1,34 @@
-use Rattle.std.proofs.Common.{◌<◌, length, sym, ◌∙◌, arith}
-use Rattle.std.proofs.lemmas.Bool.Decides.{Decides-eqb}
-use Rattle.std.proofs.lemmas.Slice.Eq.{slice_eq-Decides}
-use Rattle.rapid_endpoint.proofs.Begun.{has_room, has_key, tags_decide}
+use Rattle.std.proofs.Common.{◌≡◌, ◌<◌, length, take, refl, sym, ap, ◌∙◌, arith}
+use Rattle.rapid_model.proofs.Orders.{same_bytes_decides}
+use Rattle.rapid_endpoint.specs.Joined.{first_part}
+use Rattle.rapid_endpoint.proofs.Begun.{has_room, has_key, no_longer, tags_decide}
+use Rattle.rapid_endpoint.proofs.Keys.{all_behind}
 use Rattle.rapid_endpoint.proofs.process.Process.is_spelt_at.Goals as goal
 
 pub returns-in_default-clause-read : goal.returns-in_default-clause-read
 returns-in_default-clause-read c = (
   λ e. cc,
-  λ e. let short : length c.args.bytes.now < 22 = c.in_default.ensures.cases in
+  λ e. let short : length c.args.bytes.now < 22 = c.in_default.ensures.short.0 refl in
       let long = has_room c.args.self.now c.args.bytes.now _ c.tell.ensures e in
       absurd (omega (arith, short, long)),
 )
 
 pub returns-then-eq-clause-read : goal.returns-then-eq-clause-read
 returns-then-eq-clause-read c =
-    let same = (slice_eq-Decides Decides-eqb _ _ _ c.eq.ensures).0 c.if-eq.true in
-    tags_decide c.args.self.now c.args.bytes.now c.in-Some.key.now c.in-Some.rest.now c.as_bytes.result.now c.begin_with.result c.tell.ensures
-    c.in-Some.ensures.cases.0 (same ∙ c.key_bytes.ensures.value) c.in-Some.ensures.cases.1 (c.as_bytes.ensures ∙ c.tags.ensures) c.begin_with.ensures
+    let own : take 22 c.args.self.now ≡ c.self.inside.key =
+    ap (take 22) (sym c.self.view_is) ∙ first_part 22 c.self.inside.key c.self.inside.tags c.self.invariant.0 in
+    let same : c.in-Some.key ≡ c.self.inside.key = (same_bytes_decides _ _).0 (sym c.eq.ensures ∙ c.if-eq.true) in
+    tags_decide c.args.self.now c.args.bytes.now c.in-Some.key _ c.as_bytes.result.now c.begin_with.result c.tell.ensures
+    c.in-Some.ensures.front (same ∙ sym own) (all_behind 22 c.args.bytes.now) (c.as_bytes.ensures ∙ c.tags.ensures) c.begin_with.ensures
+
+pub returns-then-eq-clause-within : goal.returns-then-eq-clause-within
+returns-then-eq-clause-within c e = no_longer c.args.self.now c.args.bytes.now _ ((returns-then-eq-clause-read c).0 e)
 
 pub returns-else-eq-clause-read : goal.returns-else-eq-clause-read
-returns-else-eq-clause-read c = (
-  λ e. cc,
-  λ e. (slice_eq-Decides Decides-eqb _ _ _ c.eq.ensures).1
-      (c.in-Some.ensures.cases.0 ∙ has_key c.args.self.now c.args.bytes.now _ c.tell.ensures e ∙ sym c.key_bytes.ensures.value),
-)
+returns-else-eq-clause-read c =
+    let own : take 22 c.args.self.now ≡ c.self.inside.key =
+    ap (take 22) (sym c.self.view_is) ∙ first_part 22 c.self.inside.key c.self.inside.tags c.self.invariant.0 in (
+      λ e. cc,
+      λ e. c.eq.ensures ∙ (same_bytes_decides _ _).1
+          (c.in-Some.ensures.front ∙ has_key c.args.self.now c.args.bytes.now _ c.tell.ensures e ∙ own),
+    )
