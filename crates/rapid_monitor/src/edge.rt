@@ -1,6 +1,6 @@
 //! The probe window of one edge.
 ghost use Rattle.std.specs.Prelude.{◌≡◌, ◌↔◌, ◌++◌, [], ◌∷◌, List, Bool, IfOk, if◌then◌else◌};
-ghost use Rattle.rapid_model.specs.Edge.{fresh_edge, probed, edge_after, HasDownStretch};
+ghost use Rattle.rapid_model.specs.Edge.{failures, next_window, fresh_edge, probed, edge_after, HasDownStretch};
 ghost use Rattle.rapid_monitor.specs.declared.edge.Verdict.TheVariants.{Up, Down};
 
 use circular_buffer::HeapCircularBuffer;
@@ -74,11 +74,28 @@ impl Edge {
         ensures verdict { result ≡ (if self.new.is_down then Down else Up) }
         ensures so_far { (oks : List Bool) → self.old ≡ edge_after fresh_edge oks → (result ≡ Down) ↔ HasDownStretch (oks ++ ok ∷ []) }
     {
-        let failed = !ok;
-        let oldest_failed = self.window.push_front(failed).unwrap_or(false);
-        self.failures = self.failures + u8::from(failed) - u8::from(oldest_failed);
+        let failures = self.failures_after(ok);
+        self.failures = failures;
+        let _ = self.window.push_front(!ok);
         self.is_down |= self.failures >= FAILURES;
         Verdict::of(self.is_down)
+    }
+
+    /// How many failures the window holds after one more result.
+    fn failures_after(&self, ok: bool) -> u8
+        ensures { result ≡ failures (next_window self.now.window ok) }
+    {
+        let failed = !ok;
+        // the result that then leaves the window, if one does
+        let oldest_failed = self.window.get(WINDOW - 1).copied().unwrap_or(false);
+        self.failures + u8::from(failed) - u8::from(oldest_failed)
+    }
+
+    /// Whether the edge is down after one more result, which is not taken: what [`Edge::probe`] would say.
+    pub fn is_down_after(&self, ok: bool) -> bool
+        ensures { result ≡ (probed self.now ok).is_down }
+    {
+        self.is_down || self.failures_after(ok) >= FAILURES
     }
 
     /// Copies the edge: an equal value with a window of its own.

@@ -103,6 +103,18 @@ impl Monitors {
         }
         probe_slot(&mut self.edges[place], ok)
     }
+
+    /// Whether the edge on a ring is down after one more result, which is not taken. It gives none
+    /// exactly if no process is observed on it.
+    pub fn is_down_after(&self, ring: u8, ok: bool) -> Option<bool>
+        ensures { result ≡ is_down_after self.now ring ok }
+    {
+        let at = usize::from(ring);
+        if at >= self.edges.len() {
+            return None;
+        }
+        is_slot_down_after(&self.edges[at], ok)
+    }
 }
 
 /// Copies an edge, if there is one.
@@ -122,6 +134,16 @@ fn probe_slot(slot: &mut Option<Edge>, ok: bool) -> Option<Verdict>
 {
     match slot {
         Some(edge) => Some(edge.probe(ok)),
+        None => None,
+    }
+}
+
+/// Whether an edge is down after one more result, if there is an edge.
+fn is_slot_down_after(slot: &Option<Edge>, ok: bool) -> Option<bool>
+    ensures { result ≡ option_map (λ e. (probed e ok).is_down) slot.now }
+{
+    match slot {
+        Some(edge) => Some(edge.is_down_after(ok)),
         None => None,
     }
 }

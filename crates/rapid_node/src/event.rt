@@ -1,7 +1,7 @@
 // What happens to a node.
 
 use rapid_config::ConfigId;
-use rapid_endpoint::Process;
+use rapid_endpoint::SharedProcess;
 use rapid_message::Message;
 
 /// What happens to a node.
@@ -9,7 +9,7 @@ use rapid_message::Message;
 pub enum Event {
     /// In the configuration with this identifier, the edge to this process on this ring, from 0,
     /// went down.
-    EdgeDown(ConfigId, u8, Process),
+    EdgeDown(ConfigId, u8, SharedProcess),
     /// A tick of its clock.
     Tick,
     /// A message comes.

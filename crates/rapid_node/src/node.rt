@@ -588,7 +588,7 @@ impl Node {
                 Event::Tick => self.member_tick(views, out, member),
                 Event::Receive(message) => self.member_receive(views, out, member, message),
                 Event::EdgeDown(config, ring, subject) => {
-                    Ok(self.member_edge_down(member, *config, *ring, subject)?)
+                    Ok(self.member_edge_down(member, *config, *ring, subject.get())?)
                 }
                 Event::Leave => Ok(self.member_leave(out, member)?),
             },

@@ -10,22 +10,22 @@ use std::sync::Wait;
 use std::test::*;
 
 /// Gives this many events that are kept to the desk.
-fn keep<R: Wait>(desk: &mut Desk<&R>, count: usize) -> Result<(), DeskError> {
+fn keep<R: Wait>(alloc: Global, desk: &mut Desk<&R>, count: usize) -> Result<(), DeskError> {
     for _ in 0..count {
-        step(desk, edge_down())?;
+        step(desk, edge_down(alloc)?)?;
     }
     Ok(())
 }
 
 /// The journal has what came since the checkpoint.
-fn begins_anew<R: Wait + Abort>(rt: &R, desk: &mut Desk<&R>) -> Result<(), Fail> {
-    keep(desk, 10)?;
+fn begins_anew<R: Wait + Abort>(rt: &R, alloc: Global, desk: &mut Desk<&R>) -> Result<(), Fail> {
+    keep(alloc, desk, 10)?;
     assert_eq!(rt; desk.journal_len(), 10);
     desk.checkpoint()?;
     assert_eq!(rt; desk.journal_len(), 0);
     step(desk, Event::Tick)?;
     step(desk, Event::Tick)?;
-    keep(desk, 2)?;
+    keep(alloc, desk, 2)?;
     assert_eq!(rt; desk.journal_len(), 3);
     Ok(())
 }
@@ -46,7 +46,7 @@ fn goes_on<R: Wait + Abort>(
     seat: &mut ViewSeat,
 ) -> Result<(), Fail> {
     let mut subscription = desk.subscribe(2)?;
-    begins_anew(rt, desk)?;
+    begins_anew(rt, alloc, desk)?;
     assert_eq!(rt; seat.stamp().height(), 0);
     assert!(rt; matches!(subscription.take(rt), Taken::Empty));
     decide(alloc, desk, founding(alloc)?.id(), 2)?;
@@ -68,6 +68,7 @@ fn a_desk_goes_on_after_a_checkpoint(rt: HostRuntime) -> Result<(), Fail> {
 /// Gives this many events to the desk, with a checkpoint each time that the journal has this many
 /// records.
 fn keep_with_checkpoints<R: Wait>(
+    alloc: Global,
     desk: &mut Desk<&R>,
     count: usize,
     records: usize,
@@ -76,7 +77,7 @@ fn keep_with_checkpoints<R: Wait>(
         if desk.journal_len() >= records {
             desk.checkpoint()?;
         }
-        step(desk, edge_down())?;
+        step(desk, edge_down(alloc)?)?;
     }
     Ok(())
 }
@@ -86,14 +87,18 @@ fn keep_with_checkpoints<R: Wait>(
 #[test]
 fn checkpoints_keep_a_journal_short(rt: HostRuntime) -> Result<(), Fail> {
     let mut desk = alone(&rt, rt.alloc(), 1)?;
-    keep_with_checkpoints(&mut *desk, 2_050, 1_000)?;
+    keep_with_checkpoints(rt.alloc(), &mut *desk, 2_050, 1_000)?;
     assert_eq!(rt; desk.journal_len(), 50);
     Ok(())
 }
 
 /// A checkpoint that finds no memory leaves the journal, and the next one succeeds.
-fn is_made_at_last<R: Wait + Abort>(rt: &R, desk: &mut Desk<&R>) -> Result<(), Fail> {
-    keep(desk, 3)?;
+fn is_made_at_last<R: Wait + Abort>(
+    rt: &R,
+    alloc: Global,
+    desk: &mut Desk<&R>,
+) -> Result<(), Fail> {
+    keep(alloc, desk, 3)?;
     if let Err(error) = desk.checkpoint() {
         assert!(rt; matches!(error, DeskError::OutOfMemory));
         assert_eq!(rt; desk.journal_len(), 3);
@@ -106,5 +111,5 @@ fn is_made_at_last<R: Wait + Abort>(rt: &R, desk: &mut Desk<&R>) -> Result<(), F
 #[test]
 fn out_of_memory_at_a_checkpoint(rt: HostRuntime) -> Result<(), Fail> {
     let mut desk = alone(&rt, rt.alloc(), 1)?;
-    is_made_at_last(&rt, &mut *desk)
+    is_made_at_last(&rt, rt.alloc(), &mut *desk)
 }

@@ -43,8 +43,9 @@ pub(crate) fn confirmation(alloc: Global, configuration: Configuration) -> Resul
 }
 
 /// An event that the journal keeps.
-pub(crate) fn edge_down() -> Event {
-    Event::EdgeDown(ConfigId::zero(), 0, process(2))
+pub(crate) fn edge_down(alloc: Global) -> Result<Event, AllocError> {
+    let subject = shared(alloc, &process(2))?;
+    Ok(Event::EdgeDown(ConfigId::zero(), 0, subject))
 }
 
 /// The desk of process 1 alone, with this many seats. If its first view was not published, memory

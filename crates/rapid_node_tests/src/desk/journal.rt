@@ -12,9 +12,9 @@ use std::sync::Wait;
 use std::test::*;
 
 /// Gives this many events that are kept to the desk.
-fn keep<R: Wait>(desk: &mut Desk<&R>, count: usize) -> Result<(), DeskError> {
+fn keep<R: Wait>(alloc: Global, desk: &mut Desk<&R>, count: usize) -> Result<(), DeskError> {
     for _ in 0..count {
-        step(desk, edge_down())?;
+        step(desk, edge_down(alloc)?)?;
     }
     Ok(())
 }
@@ -51,18 +51,31 @@ fn assert_stays<R: Wait + Abort>(rt: &R, desk: &mut Desk<&R>) {
 #[test]
 fn a_full_journal_refuses_for_good(rt: HostRuntime) -> Result<(), Fail> {
     let mut desk = alone(&rt, rt.alloc(), 1)?;
-    keep(&mut *desk, 65_536)?;
-    assert!(rt; is_full_for(&mut *desk, edge_down()));
+    keep(rt.alloc(), &mut *desk, 65_536)?;
+    assert!(rt; matches!(desk.refuse_edge(), DeskError::JournalFull));
+    assert!(rt; is_full_for(&mut *desk, edge_down(rt.alloc())?));
     assert!(rt; is_full_for(&mut *desk, Event::Tick));
     assert!(rt; is_full_for_a_view(rt.alloc(), &mut *desk)?);
     assert_stays(&rt, &mut *desk);
     Ok(())
 }
 
+/// An edge for whose event there is no memory is refused, and the desk goes on.
+#[test]
+fn an_edge_is_refused_for_memory(rt: HostRuntime) -> Result<(), Fail> {
+    let mut desk = alone(&rt, rt.alloc(), 1)?;
+    keep(rt.alloc(), &mut *desk, 2)?;
+    assert!(rt; matches!(desk.refuse_edge(), DeskError::OutOfMemory));
+    assert_eq!(rt; desk.journal_len(), 2);
+    keep(rt.alloc(), &mut *desk, 1)?;
+    assert_eq!(rt; desk.journal_len(), 3);
+    Ok(())
+}
+
 #[test]
 fn successive_ticks_share_a_record(rt: HostRuntime) -> Result<(), Fail> {
     let mut desk = alone(&rt, rt.alloc(), 1)?;
-    keep(&mut *desk, 65_535)?;
+    keep(rt.alloc(), &mut *desk, 65_535)?;
     tick(&mut *desk, 100)?;
     assert!(rt; is_full_for_a_view(rt.alloc(), &mut *desk)?);
     assert!(rt; is_full_for(&mut *desk, Event::Tick));

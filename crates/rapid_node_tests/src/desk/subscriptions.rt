@@ -99,7 +99,7 @@ fn takes_all<R: Wait + Abort>(
     subscription: &mut Subscription,
 ) -> Result<(), Fail> {
     assert!(rt; next(rt, subscription) == Told::Empty);
-    step(desk, edge_down())?;
+    step(desk, edge_down(alloc)?)?;
     assert!(rt; next(rt, subscription) == Told::Empty);
     let_one_in(alloc, desk)?;
     desk.close();

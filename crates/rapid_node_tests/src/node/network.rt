@@ -256,7 +256,8 @@ impl Network {
     /// An edge of a node went down, in the founding configuration.
     fn down(&mut self, node: u16, ring: u8, subject: u16) -> Result<(), Fail> {
         let id = self.founding.id();
-        self.reach_node(node, Event::EdgeDown(id, ring, process(subject)))
+        let subject = shared(self.alloc, &process(subject))?;
+        self.reach_node(node, Event::EdgeDown(id, ring, subject))
     }
 
     /// All edges to a process went down, in the founding configuration.

@@ -96,7 +96,7 @@ fn event(
         Word::Tick => Ok(Event::Tick),
         Word::Down(which, ring, number) => {
             let id = identifier(rt, node, first, which);
-            Ok(Event::EdgeDown(id, ring, process(number)))
+            Ok(Event::EdgeDown(id, ring, shared(alloc, &process(number))?))
         }
         Word::Probe(which) => heard(alloc, 3, Body::Probe(identifier(rt, node, first, which))),
         Word::ProbeAck(which) => heard(

@@ -10,10 +10,11 @@ use std::test::Fail;
 /// A result, how often it comes, and the verdict each time.
 type Run = (bool, u8, Verdict);
 
-/// Whether an edge has its verdict each time.
+/// Whether an edge has its verdict each time, and says so before.
 fn runs(edge: &mut Edge, (ok, count, verdict): &Run) -> bool {
     for _ in 0..*count {
-        if edge.probe(*ok) != *verdict {
+        let will_be_down = edge.is_down_after(*ok);
+        if will_be_down != (*verdict == DOWN) || edge.probe(*ok) != *verdict {
             return false;
         }
     }
@@ -81,10 +82,14 @@ fn a_copy_goes_on_by_itself(rt: HostRuntime) {
 /// A probe of the edge on a ring: its result and the verdict, none if there is no edge.
 type Probe = (u8, bool, Option<Verdict>);
 
-/// Whether all probes have their verdicts, in order.
+/// Whether all probes have their verdicts, in order, each of which is said before.
 fn all_probe(monitors: &mut Monitors, rows: &[Probe]) -> bool {
     for (ring, ok, verdict) in rows {
-        if monitors.probe(*ring, *ok) != *verdict {
+        let will_be_down = monitors.is_down_after(*ring, *ok);
+        if will_be_down.is_some() != verdict.is_some()
+            || will_be_down.unwrap_or(false) != (*verdict == Some(DOWN))
+            || monitors.probe(*ring, *ok) != *verdict
+        {
             return false;
         }
     }

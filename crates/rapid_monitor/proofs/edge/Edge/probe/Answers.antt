@@ -1,30 +1,26 @@
-use Rattle.std.proofs.Common.{◌≡◌, ◌↔◌, ◌++◌, [], ◌∷◌, Bool, ◌-◌, ◌+◌, ◌≤◌, ◌||◌, take, not, nat_le, sym, ap, subst, ◌∙◌}
+use Rattle.std.proofs.Common.{◌≡◌, ◌↔◌, ◌++◌, [], ◌∷◌, Bool, ◌||◌, take, not, nat_le, sym, ap, subst, ◌∙◌}
 use Rattle.std.specs.Prelude.{if◌then◌else◌}
-use mir.Val.{bool_byte}
 use Rattle.circular_buffer.specs.Buffer.{Buffer}
-use Rattle.rapid_model.specs.Edge.{Edge, failures, probed, HasDownStretch}
+use Rattle.rapid_model.specs.Edge.{Edge, failures, next_window, probed, HasDownStretch}
 use Rattle.rapid_monitor.specs.declared.edge.Verdict.{Verdict}
 use Rattle.rapid_monitor.specs.declared.edge.Verdict.TheVariants.{Up, Down}
-use Rattle.rapid_monitor.proofs.Windows.{failures_next, probed_is, verdict_so_far, length_take}
+use Rattle.rapid_monitor.proofs.Windows.{probed_is, verdict_so_far, length_take}
 use Rattle.rapid_monitor.proofs.edge.Edge.probe.Goals as goal
 
-next : (c : goal.After-of) → (c.from-2.result ≤ c.self.inside.failures + c.from.result) × (c.self.inside.failures + c.from.result - c.from-2.result ≡ failures (take 10 (not c.args.ok ∷ c.self.inside.window.items)))
-next c = failures_next (not c.args.ok) c.self.inside.window.items c.self.invariant.0 c.self.invariant.1 c.self.invariant.2 c.from.ensures (c.from-2.ensures ∙ ap bool_byte c.unwrap_or-oldest_failed.ensures) c.push_front.ensures.value
+next : (c : goal.After-of) → c.failures_after-failures.result ≡ failures (take 10 (not c.args.ok ∷ c.self.inside.window.items))
+next c = c.failures_after-failures.ensures ∙ ap (λ (e : Edge). failures (next_window e.window c.args.ok)) (sym c.self.view_is)
 
 items_are : (c : goal.After-of) → c.push_front.new.self.items ≡ take 10 (not c.args.ok ∷ c.self.inside.window.items)
 items_are c = ap (λ (b : Buffer Bool). b.items) c.push_front.ensures.items ∙ ap (λ n. take n (not c.args.ok ∷ c.self.inside.window.items)) c.self.invariant.0
 
-after_is : (c : goal.After-of) → record { window = c.push_front.new.self.items; is_down = c.self.inside.is_down || nat_le 4 (c.self.inside.failures + c.from.result - c.from-2.result) } ≡ probed c.args.self.now c.args.ok
-after_is c = probed_is c.args.ok c.self.inside.window.items c.push_front.new.self.items c.self.inside.is_down c.self.view_is (items_are c) (next c).1
-
-pub overflow_sub-self : goal.overflow_sub-self
-overflow_sub-self c = (failures_next (not c.args.ok) c.self.inside.window.items c.self.invariant.0 c.self.invariant.1 c.self.invariant.2 c.from.ensures (c.from-2.ensures ∙ ap bool_byte c.unwrap_or-oldest_failed.ensures) c.push_front.ensures.value).0
+after_is : (c : goal.After-of) → record { window = c.push_front.new.self.items; is_down = c.self.inside.is_down || nat_le 4 c.failures_after-failures.result } ≡ probed c.args.self.now c.args.ok
+after_is c = probed_is c.args.ok c.self.inside.window.items c.push_front.new.self.items c.self.inside.is_down c.self.view_is (items_are c) (next c)
 
 pub invariant_of-self : goal.invariant_of-self
 invariant_of-self c = (
   ap (λ (b : Buffer Bool). b.capacity) c.push_front.ensures.items ∙ c.self.invariant.0,
   rw (items_are c) (length_take 10 (not c.args.ok ∷ c.self.inside.window.items)),
-  (next c).1 ∙ ap failures (sym (items_are c)),
+  next c ∙ ap failures (sym (items_are c)),
 )
 
 pub returns-clause-after : goal.returns-clause-after
