@@ -111,6 +111,9 @@ noted_for part xs ys s p rings e h q = h q ∙ ap (λ (r : Process). is_added pa
 pub puts_for : (s p : Process) (mask : ℕ) (old new : Reports) → s ≡ p → PutsMask s mask old new → PutsMask p mask old new
 puts_for s p mask old new e h q = h q ∙ ap (λ (r : Process). cond (same_bytes r q.0) (has_ring mask q.1) (set.contains old q)) e
 
+pub adds_for : (s p : Process) (mask : ℕ) (old new : Reports) → s ≡ p → AddsRings s mask old new → AddsRings p mask old new
+adds_for s p mask old new e h q = h q ∙ ap (λ (r : Process). is_for r mask q || set.contains old q) e
+
 pub takes_for : (s p : Process) (mask : ℕ) (old new : Reports) → s ≡ p → TakesOut s mask old new → TakesOut p mask old new
 takes_for s p mask old new e h q = h q ∙ ap (λ (r : Process). not (is_for r mask q) && set.contains old q) e
 

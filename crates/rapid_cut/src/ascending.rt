@@ -10,7 +10,20 @@ use rapid_endpoint::Process;
 use std::alloc::{AllocError, Global};
 
 /// The same processes ascending, each once.
-pub fn ascending(mut processes: Vec<Process>) -> Vec<Process>
+pub fn ascending(processes: Vec<Process>) -> Vec<Process>
+    ensures { result.items ≡ in_order process_cmp processes.items }
+{
+    // as at most batches
+    if processes.is_empty() {
+        return processes;
+    }
+    sorted(processes)
+}
+
+/// The same processes ascending, each once. It stands apart: room for processes takes time at each
+/// call of the function that has it.
+#[inline(never)]
+fn sorted(mut processes: Vec<Process>) -> Vec<Process>
     ensures { result.items ≡ in_order process_cmp processes.items }
 {
     processes.sort_unstable();

@@ -15,6 +15,7 @@ use crate::ascending::merged;
 use crate::growing::GrowingReports;
 use crate::mask::{Masks, count, with};
 use crate::reports::KnownReports;
+use crate::subject::Subject;
 use rapid_alerts::{bit, has_bit};
 use rapid_endpoint::Process;
 use rapid_rings::ObserverTable;
@@ -29,6 +30,7 @@ pub fn tally<T: ObserverTable>(table: &T, reports: &KnownReports, subject: &Proc
 
 /// The processes with at least L direct reports, ascending: those of before and those that came to
 /// it, both ascending.
+#[inline(never)]
 pub fn active_with<T: ObserverTable>(
     alloc: Global,
     table: &T,
@@ -130,7 +132,8 @@ fn add_implied<T: ObserverTable>(
     if all == 0 {
         return Ok(());
     }
-    known.add(subject, so_far, Masks { direct: 0, all })?;
+    let subject = Subject::new(subject, None);
+    known.add(&subject, so_far, Masks { direct: 0, all })?;
     Ok(())
 }
 
@@ -176,7 +179,9 @@ fn is_alone<T: ObserverTable>(table: &T, processes: &[Process]) -> bool
 
 /// Adds all that the direct reports imply once these processes came to L. `active` are all that
 /// have as many. If there is one alone, which does not observe itself, nothing is implied. If those
-/// that came to L observe nobody, only reports on them are missing.
+/// that came to L observe nobody, only reports on them are missing. It stands apart, as `active_with`
+/// does: most batches bring nobody to L, and need no room for processes.
+#[inline(never)]
 pub fn close_grown<T: ObserverTable>(
     table: &T,
     active: &[Process],

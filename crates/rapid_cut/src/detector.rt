@@ -36,6 +36,23 @@ fn stable_ones<T: ObserverTable>(
 ) -> Result<Vec<Process>, AllocError>
     ensures { IfOk result (λ found. found.items ≡ filter (model.is_stable (T.observers table.now) reports.now.all) subjects.now) }
 {
+    // as after most batches
+    if subjects.is_empty() {
+        return Ok(Vec::new(alloc));
+    }
+    stable_among(alloc, table, reports, subjects)
+}
+
+/// The stable ones of these processes. It stands apart, as `unstable_among` does.
+#[inline(never)]
+fn stable_among<T: ObserverTable>(
+    alloc: Global,
+    table: &T,
+    reports: &KnownReports,
+    subjects: &[Process],
+) -> Result<Vec<Process>, AllocError>
+    ensures { IfOk result (λ found. found.items ≡ filter (model.is_stable (T.observers table.now) reports.now.all) subjects.now) }
+{
     let stable = usize::from(table.params().h());
     subjects
         .iter()

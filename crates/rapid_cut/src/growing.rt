@@ -9,7 +9,8 @@ ghost use Rattle.rapid_cut.specs.Growing.{AddsRings, is_for, is_added, all_added
 
 use crate::mask::Masks;
 use crate::reports::KnownReports;
-use rapid_endpoint::{Process, SharedProcess};
+use crate::subject::Subject;
+use rapid_endpoint::SharedProcess;
 use std::alloc::{AllocError, Global};
 
 /// Rings for which reports on a process were added.
@@ -45,7 +46,12 @@ impl GrowingReports {
     }
 
     /// Adds the reports on a process for these rings; those on it so far are for the others.
-    pub fn add(&mut self, subject: &Process, so_far: Masks, rings: Masks) -> Result<(), AllocError>
+    pub fn add(
+        &mut self,
+        subject: &Subject<'_>,
+        so_far: Masks,
+        rings: Masks,
+    ) -> Result<(), AllocError>
         requires direct { (k : ℕ) → set.contains self.old.reports.direct (subject.now, k) ≡ has_ring so_far.direct k }
         requires all { (k : ℕ) → set.contains self.old.reports.all (subject.now, k) ≡ has_ring so_far.all k }
         ensures direct { OnOk result (AddsRings subject.now rings.direct self.old.reports.direct self.new.reports.direct) }
@@ -68,7 +74,9 @@ impl GrowingReports {
         self.others.clear();
     }
 
-    /// Takes out what was added. That needs no memory.
+    /// Takes out what was added. That needs no memory. It stands apart: room for the key of a
+    /// process takes time at each call of the function that has it.
+    #[inline(never)]
     pub fn undo(&mut self)
         ensures reports { self.new.reports ≡ before self.old }
         ensures kept { before self.new ≡ self.new.reports }

@@ -1,10 +1,18 @@
 // Alerts that are taken one after another, however they are kept.
 
-ghost use Rattle.std.specs.Prelude.{◌≡◌, ◌<◌, List, Some, length, map, slice_get};
+ghost use Rattle.std.specs.Prelude.{◌≡◌, ◌<◌, List, Some, length, map, slice_get, IfSome};
 ghost use Rattle.rapid_model.specs.Alert.{Alert as ModelAlert};
 ghost use Rattle.rapid_alerts.specs.Alerts.{alert_of, alert_of_ref, alerts_in};
 
 use rapid_alerts::{Alert, AlertList, AlertRef};
+use rapid_endpoint::SharedProcess;
+
+/// An alert, and its subject if that is shared already.
+#[derive(Clone, Copy)]
+pub struct Turn<'a> {
+    pub alert: AlertRef<'a>,
+    pub shared: Option<&'a SharedProcess>,
+}
 
 /// Alerts, in order.
 pub trait InTurn {
@@ -16,9 +24,10 @@ pub trait InTurn {
         ensures { result ≡ length (alerts self.now) };
 
     /// An alert, by its place from 0.
-    fn at(&self, place: usize) -> AlertRef<'_>
+    fn at(&self, place: usize) -> Turn<'_>
         requires { place < length (alerts self.now) }
-        ensures { slice_get (alerts self.now) place ≡ Some (alert_of_ref result) };
+        ensures alert { slice_get (alerts self.now) place ≡ Some (alert_of_ref result.alert) }
+        ensures shared { IfSome result.shared (λ shared. shared.now ≡ result.alert.subject.now) };
 }
 
 /// Alerts of any observers and configurations, one by one.
@@ -34,14 +43,17 @@ impl InTurn for EachAlert<'_> {
         self.alerts.len()
     }
 
-    fn at(&self, place: usize) -> AlertRef<'_> {
+    fn at(&self, place: usize) -> Turn<'_> {
         let alert = &self.alerts[place];
-        AlertRef {
-            observer: &alert.observer,
-            subject: &alert.subject,
-            ring: alert.ring,
-            kind: alert.kind,
-            config: &alert.config,
+        Turn {
+            alert: AlertRef {
+                observer: &alert.observer,
+                subject: &alert.subject,
+                ring: alert.ring,
+                kind: alert.kind,
+                config: &alert.config,
+            },
+            shared: None,
         }
     }
 }
@@ -54,7 +66,10 @@ impl InTurn for AlertList {
     }
 
     #[inline(always)]
-    fn at(&self, place: usize) -> AlertRef<'_> {
-        self.alert_ref(place)
+    fn at(&self, place: usize) -> Turn<'_> {
+        Turn {
+            alert: self.alert_ref(place),
+            shared: Some(self.shared_subject(place)),
+        }
     }
 }

@@ -13,6 +13,7 @@ mod in_turn;
 mod mask;
 mod reports;
 mod shared_list;
+mod subject;
 mod taken;
 
 pub use detector::Detector;

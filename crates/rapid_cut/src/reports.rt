@@ -7,6 +7,7 @@ ghost use Rattle.rapid_alerts.specs.RingMasks.{has_ring};
 
 use crate::few::{copy_of, map_of, masks_in, place_in, push_to, put_in};
 use crate::mask::Masks;
+use crate::subject::Subject;
 use rapid_endpoint::{Process, SharedProcess};
 use rapid_rings::ProcessKey;
 use std::alloc::{AllocError, Global};
@@ -68,13 +69,16 @@ impl KnownReports {
         masks_in(&self.many, subject).unwrap_or(NONE)
     }
 
-    /// The process. The list shares it if it is there.
-    pub fn kept(&self, subject: &Process) -> Result<SharedProcess, AllocError>
+    /// The process, to be kept. Unless it is shared already, the list shares it if it is there.
+    pub fn kept(&self, subject: &Subject<'_>) -> Result<SharedProcess, AllocError>
         ensures { IfOk result (λ kept. kept ≡ subject.now) }
     {
-        match place_in(self.few.as_slice(), subject) {
+        if subject.is_shared() {
+            return subject.share(self.alloc);
+        }
+        match place_in(self.few.as_slice(), subject.get()) {
             Some(place) => self.few[place].0.share(),
-            None => SharedProcess::new(self.alloc, subject),
+            None => subject.share(self.alloc),
         }
     }
 

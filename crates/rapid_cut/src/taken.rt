@@ -1,6 +1,6 @@
 // The alerts that are taken.
 
-ghost use Rattle.std.specs.Prelude.{◌≡◌, ◌≤◌, ◌<◌, ℕ, true, not, ◌&&◌, ◌||◌, ◌∷◌, [], ◌++◌, length, count_by, nat_le, IfOk, OnOk, if◌then◌else◌};
+ghost use Rattle.std.specs.Prelude.{◌≡◌, ◌≤◌, ◌<◌, ℕ, true, not, ◌&&◌, ◌||◌, ◌∷◌, [], ◌++◌, length, count_by, nat_le, IfOk, IfSome, OnOk, if◌then◌else◌};
 ghost use Rattle.std.specs.FinSet as set;
 ghost use Rattle.rapid_model.specs.Alert as model;
 ghost use Rattle.rapid_model.specs.Process.{is_in};
@@ -15,9 +15,10 @@ ghost use Rattle.rapid_alerts.specs.RingMasks.{has_ring};
 
 use crate::closure::is_low;
 use crate::growing::GrowingReports;
-use crate::in_turn::InTurn;
+use crate::in_turn::{InTurn, Turn};
 use crate::mask::{Masks, has_any, with};
 use crate::reports::KnownReports;
+use crate::subject::Subject;
 use rapid_alerts::{AlertRef, Kind, bit, has_bit};
 use rapid_config::Cut;
 use rapid_endpoint::Process;
@@ -119,12 +120,22 @@ fn list(grown: &mut Vec<Process>, comes_to_low: bool, subject: &Process) -> Resu
     ensures { OnOk result (grown.new.items ≡ (if comes_to_low then grown.old.items ++ subject.now ∷ [] else grown.old.items)) }
 {
     if comes_to_low {
-        // mostly one alone comes to it
-        if grown.is_empty() {
-            grown.reserve_exact(1)?;
-        }
-        grown.push(*subject)?;
+        add_to(grown, subject)?;
     }
+    Ok(())
+}
+
+/// Adds a process at the end. It stands apart: room for a process takes time at each call of the
+/// function that has it.
+#[inline(never)]
+fn add_to(grown: &mut Vec<Process>, subject: &Process) -> Result<(), AllocError>
+    ensures { OnOk result (grown.new.items ≡ grown.old.items ++ subject.now ∷ []) }
+{
+    // mostly one alone comes to L reports
+    if grown.is_empty() {
+        grown.reserve_exact(1)?;
+    }
+    grown.push(*subject)?;
     Ok(())
 }
 
@@ -134,7 +145,7 @@ fn put<T: ObserverTable>(
     table: &T,
     known: &mut GrowingReports,
     grown: &mut Vec<Process>,
-    subject: &Process,
+    subject: &Subject<'_>,
     ring: u8,
     so_far: Masks,
 ) -> Result<(), AllocError>
@@ -153,7 +164,7 @@ fn put<T: ObserverTable>(
         all: one,
     };
     known.add(subject, so_far, rings)?;
-    list(grown, comes_to_low, subject)?;
+    list(grown, comes_to_low, subject.get())?;
     Ok(())
 }
 
@@ -164,18 +175,20 @@ fn take<T: ObserverTable>(
     joiners: &mut usize,
     grown: &mut Vec<Process>,
     place: &mut usize,
-    alert: &AlertRef<'_>,
+    turn: &Turn<'_>,
 ) -> Result<bool, AllocError>
+    requires shared { IfSome turn.now.shared (λ shared. shared.now ≡ turn.now.alert.subject.now) }
     requires joiners { joiners.old ≡ length (detector.joiners (T.observers table.now) known.old.reports.direct) }
     requires room { joiners.old ≤ most_joiners }
     requires known { Includes known.old.reports.all known.old.reports.direct }
-    ensures taken { IfOk result (λ taken. taken ≡ detector.is_taken (T.observers table.now) known.old.reports.direct (alert_of_ref alert.now)) }
-    ensures direct { IfOk result (λ taken. known.new.reports.direct ≡ (if taken then set.insert known.old.reports.direct (report_of (alert_of_ref alert.now)) else known.old.reports.direct)) }
-    ensures all { IfOk result (λ taken. known.new.reports.all ≡ (if taken then set.insert known.old.reports.all (report_of (alert_of_ref alert.now)) else known.old.reports.all)) }
+    ensures taken { IfOk result (λ taken. taken ≡ detector.is_taken (T.observers table.now) known.old.reports.direct (alert_of_ref turn.now.alert)) }
+    ensures direct { IfOk result (λ taken. known.new.reports.direct ≡ (if taken then set.insert known.old.reports.direct (report_of (alert_of_ref turn.now.alert)) else known.old.reports.direct)) }
+    ensures all { IfOk result (λ taken. known.new.reports.all ≡ (if taken then set.insert known.old.reports.all (report_of (alert_of_ref turn.now.alert)) else known.old.reports.all)) }
     ensures joiners { OnOk result (joiners.new ≡ length (detector.joiners (T.observers table.now) known.new.reports.direct)) }
     ensures grown { OnOk result ((start : Reports) → HaveGrown (T.observers table.now) start known.old.reports.direct grown.old.items → HaveGrown (T.observers table.now) start known.new.reports.direct grown.new.items) }
     ensures before { before known.new ≡ before known.old }
 {
+    let alert = &turn.alert;
     let (well_formed, member) = check(table, alert, place);
     if !well_formed {
         return Ok(false);
@@ -190,7 +203,8 @@ fn take<T: ObserverTable>(
         return Ok(false);
     }
     *joiners = joiners_with(table, &known.reports, *joiners, subject, counted);
-    put(table, known, grown, subject, alert.ring, so_far)?;
+    let subject = Subject::new(subject, turn.shared);
+    put(table, known, grown, &subject, alert.ring, so_far)?;
     Ok(true)
 }
 
@@ -231,8 +245,8 @@ pub fn take_all<T: ObserverTable, A: InTurn>(
     // where the last subject was found: alerts on one subject mostly come one after the other
     let mut found = usize::MAX;
     for place in 0..alerts.count() {
-        let alert = alerts.at(place);
-        if take(table, known, &mut joiners, &mut grown, &mut found, &alert)? {
+        let turn = alerts.at(place);
+        if take(table, known, &mut joiners, &mut grown, &mut found, &turn)? {
             count += 1;
         }
     }

@@ -39,7 +39,7 @@ fn read_message(
     ensures { Gives (λ m. m) result (message_in (number_of kind) bytes.now) }
 {
     let (sender, length) = read_shared(alloc, sender, bytes)?;
-    let body = read_body(alloc, near, sender.get(), kind, &bytes[length..])?;
+    let body = read_body(alloc, near, &sender, kind, &bytes[length..])?;
     Ok(Message::of(sender, body))
 }
 

@@ -18,7 +18,7 @@ use crate::reading::{
     read_numbers, read_report, read_shared,
 };
 use rapid_config::{ConfigError, ConfigId, Configuration, Cut};
-use rapid_endpoint::Process;
+use rapid_endpoint::SharedProcess;
 use rapid_message::Body;
 use rapid_paxos::Ballot;
 use std::alloc::{AllocError, Global};
@@ -35,7 +35,7 @@ fn read_id(bytes: &[u8]) -> Result<ConfigId, WireFault>
 
 /// A batch of this observer.
 #[tactic(auto, unfolding(crate::specs::Reading::id_at))]
-fn read_batch_body(alloc: Global, sender: &Process, bytes: &[u8]) -> Result<Body, WireFault>
+fn read_batch_body(alloc: Global, sender: &SharedProcess, bytes: &[u8]) -> Result<Body, WireFault>
     ensures value { Gives body_of result (all_of (made (λ x. model.Batch x.0 x.1) (both id_at items_at)) bytes.now) }
     ensures said { IfOk result (CanSay sender.now) }
 {
@@ -178,7 +178,7 @@ fn read_confirm(
 pub(crate) fn read_body(
     alloc: Global,
     near: Option<&Configuration>,
-    sender: &Process,
+    sender: &SharedProcess,
     kind: FrameKind,
     bytes: &[u8],
 ) -> Result<Body, WireFault>

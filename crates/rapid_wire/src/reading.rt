@@ -280,10 +280,10 @@ fn add_alert(alerts: &mut AlertList, bytes: &[u8]) -> Result<usize, WireFault>
     }
 }
 
-/// This many alerts of an observer for a configuration, and the rest.
+/// This many alerts of an observer for a configuration, and the rest. They share the observer.
 fn read_alerts<'a>(
     alloc: Global,
-    observer: &Process,
+    observer: &SharedProcess,
     config: ConfigId,
     count: usize,
     bytes: &'a [u8],
@@ -291,7 +291,7 @@ fn read_alerts<'a>(
     ensures value { Gives (λ x. (map item_of (alerts_in x.0), x.1.now)) result (many count item_at bytes.now) }
     ensures from { IfOk result (λ x. All (IsFrom observer.now config) (alerts_in x.0)) }
 {
-    let mut alerts = AlertList::new(alloc, *observer, config);
+    let mut alerts = AlertList::new(alloc, observer.share()?, config);
     let mut rest = bytes;
     for _ in 0..count {
         let length = add_alert(&mut alerts, rest)?;
@@ -319,11 +319,11 @@ fn may_have(count: usize, most: usize) -> bool
     1 <= count && count <= most
 }
 
-/// The alerts of a batch. If a batch cannot have as many as are announced, none of them is read.
+/// The alerts of a batch, which share the observer. If a batch cannot have as many as are announced, none of them is read.
 #[tactic(auto, unfolding(crate::specs::Reading::items_at))]
 pub(crate) fn read_batch(
     alloc: Global,
-    observer: &Process,
+    observer: &SharedProcess,
     config: ConfigId,
     bytes: &[u8],
 ) -> Result<Batch, WireFault>

@@ -1,12 +1,21 @@
 use Rattle.std.proofs.Common.{refl}
-use Rattle.rapid_cut.proofs.Fresh.{adds_none}
+use Rattle.rapid_cut.proofs.Fresh.{adds_for, adds_none}
 use Rattle.rapid_cut.proofs.Passing.{adds_implied}
 use Rattle.rapid_cut.proofs.closure.add_implied.Goals as goal
 
 pub returns-clause-direct : goal.returns-clause-direct
-returns-clause-direct g c = adds_none c.args.known.now.reports.direct c.add.new.self.reports.direct c.args.subject.now 0 refl c.in_ok-add.ensures.direct
+returns-clause-direct g c =
+    let r = c.args.known.now.reports.direct in
+    let added = c.add.new.self.reports.direct in
+    let s = c.args.subject.now in
+    adds_none r added s 0 refl (adds_for c.new-subject.result s 0 r added c.new-subject.ensures c.in_ok-add.ensures.direct)
 
 pub returns-clause-added : goal.returns-clause-added
 returns-clause-added g c =
-    adds_implied (g.T.ObserverTable.observers c.args.table.now) c.args.known.now.reports.direct c.args.subject.now c.args.known.now.reports.all c.add.new.self.reports.all
-    c.on-so_far.result.all c.implied_rings-all.result c.on-so_far.ensures.all c.implied_rings-all.ensures c.in_ok-add.ensures.all
+    let r = c.args.known.now.reports.all in
+    let added = c.add.new.self.reports.all in
+    let s = c.args.subject.now in
+    let rings = c.implied_rings-all.result in
+    adds_implied (g.T.ObserverTable.observers c.args.table.now) c.args.known.now.reports.direct s r added
+    c.on-so_far.result.all rings c.on-so_far.ensures.all c.implied_rings-all.ensures
+    (adds_for c.new-subject.result s rings r added c.new-subject.ensures c.in_ok-add.ensures.all)

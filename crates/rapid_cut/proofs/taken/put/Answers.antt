@@ -19,4 +19,5 @@ returns-clause-grown g c start grown =
     (grown_more t start c.args.known.now.reports.direct c.args.subject.now c.args.ring c.args.so_far.direct c.with.result c.args.grown.now.items c.list.new.grown.items
     (nat_le t.params.l (count_by (has_ring c.args.so_far.direct) (rings t))) (nat_le t.params.l (count_by (has_ring c.with.result) (rings t)))
     c.requires.direct (λ j. c.with.ensures j ∙ ap (λ b. has_ring c.args.so_far.direct j || b) (c.bit-one.ensures j)) refl refl
-    (c.in_ok-list.ensures ∙ ap (λ b. cond b (c.args.grown.now.items ++ c.args.subject.now ∷ []) c.args.grown.now.items) c.comes_to_low-comes_to_low.ensures) grown)
+    (c.in_ok-list.ensures
+    ∙ (λ i. cond (c.comes_to_low-comes_to_low.ensures i) (c.args.grown.now.items ++ c.get.ensures i ∷ []) c.args.grown.now.items)) grown)

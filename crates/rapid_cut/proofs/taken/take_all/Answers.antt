@@ -14,20 +14,20 @@ loop-place-preserved g c =
       | then-branch w ↦ w.count-is ∙ sym (ap (λ b. cond b (c.loop-place.count + 1) c.loop-place.count) w.if-branch.true)
       | else-branch w ↦ w.count-is ∙ sym (ap (λ b. cond b (c.loop-place.count + 1) c.loop-place.count) w.if-branch.false)
     ] in
-    let at = drop_at (g.A.InTurn.alerts c.args.alerts.now) c.loop-place.place (alert_of_ref c.at-alert.result) c.at-alert.ensures in
+    let at = drop_at (g.A.InTurn.alerts c.args.alerts.now) c.loop-place.place (alert_of_ref c.at-turn.result.alert) c.at-turn.ensures.alert in
     record {
       known =
-          includes_when c.in_ok-take.field-0 c.loop-place.known.reports.all c.loop-place.known.reports.direct c.take.new.known.reports.all c.take.new.known.reports.direct (report_of (alert_of_ref c.at-alert.result))
+          includes_when c.in_ok-take.field-0 c.loop-place.known.reports.all c.loop-place.known.reports.direct c.take.new.known.reports.all c.take.new.known.reports.direct (report_of (alert_of_ref c.at-turn.result.alert))
           c.in_ok-take.ensures.all c.in_ok-take.ensures.direct c.loop-place.invariant.known;
       grown = c.in_ok-take.ensures.grown c.args.known.now.reports.direct c.loop-place.invariant.grown;
       before = c.take.ensures.before ∙ c.loop-place.invariant.before;
       taking =
           taking_more t c.args.known.now.reports.direct (g.A.InTurn.alerts c.args.alerts.now) c.loop-place.place c.loop-place.known.reports.direct c.take.new.known.reports.direct
-          c.loop-place.joiners c.take.new.joiners c.loop-place.count c.if-branch.count (alert_of_ref c.at-alert.result) c.in_ok-take.field-0
+          c.loop-place.joiners c.take.new.joiners c.loop-place.count c.if-branch.count (alert_of_ref c.at-turn.result.alert) c.in_ok-take.field-0
           at c.in_ok-take.ensures.taken c.in_ok-take.ensures.direct c.in_ok-take.ensures.joiners counted c.loop-place.invariant.taking;
       into =
           into_more t c.args.known.now.reports.direct (g.A.InTurn.alerts c.args.alerts.now) c.loop-place.place c.loop-place.known.reports.direct c.take.new.known.reports.direct c.args.known.now.reports.all c.loop-place.known.reports.all c.take.new.known.reports.all
-          (alert_of_ref c.at-alert.result) c.in_ok-take.field-0 at c.in_ok-take.ensures.taken c.in_ok-take.ensures.direct c.in_ok-take.ensures.all c.loop-place.invariant.into;
+          (alert_of_ref c.at-turn.result.alert) c.in_ok-take.field-0 at c.in_ok-take.ensures.taken c.in_ok-take.ensures.direct c.in_ok-take.ensures.all c.loop-place.invariant.into;
     }
 
 pub returns-clause-direct : goal.returns-clause-direct

@@ -10,7 +10,7 @@ use Rattle.rapid_wire.proofs.reading.read_alerts.Goals as goal
 
 pub returns-in_err-length-clause-value : goal.returns-in_err-length-clause-value
 returns-in_err-length-clause-value c =
-    let p = err_from_is_err_and c.from_residual.result c.from_residual.ensures.1 in
+    let p = err_from_is_err_and c.from_residual-in_err-length.result c.from_residual-in_err-length.ensures.1 in
     rw (p.1, p.2) (ends c.in_err-length.field-0.0 item_at _ _ _ _ _ c.loop-test.true c.in_err-length.ensures.refused c.loop.invariant.0)
 
 pub returns-clause-value : goal.returns-clause-value

@@ -1,7 +1,7 @@
 use Rattle.std.proofs.lemmas.List.Filters.{dedup_is}
 use Rattle.rapid_model.specs.Process.{same_bytes}
 use Rattle.rapid_cut.proofs.InTurn.{put_in_order}
-use Rattle.rapid_cut.proofs.ascending.ascending.Goals as goal
+use Rattle.rapid_cut.proofs.ascending.sorted.Goals as goal
 
 pub returns : goal.returns
 returns c =
