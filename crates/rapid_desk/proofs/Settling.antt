@@ -1,16 +1,16 @@
 -- What is held and published after each outcome of a step.
-use Rattle.std.proofs.Common.{◌≡◌, ◌<◌, length, Bool, true, false, List, [], ◌∷◌, refl, sym, ap, ◌∙◌, subst}
-use Rattle.std.specs.Prelude.{◌&&◌, ◌||◌, not, Option, Some, None, Result, Ok, Err, IsSome, OnOk, OnErr, IfErr}
+use Rattle.std.proofs.Common.{◌≡◌, ℕ, ◌<◌, length, Bool, true, false, List, [], ◌∷◌, refl, sym, ap, ◌∙◌, subst}
+use Rattle.std.specs.Prelude.{◌&&◌, ◌||◌, not, Option, Some, None, Result, Ok, Err, nat_le, IsSome, OnOk, OnErr, IfErr}
 use Rattle.rapid_model.specs.Configuration.{Configuration, Stamp}
 use Rattle.rapid_model.specs.Node.{Node, Event, configuration_of, has_installed, halt}
 use Rattle.rapid_model.specs.Journal.{with_event}
 use Rattle.rapid_desk.specs.declared.error.DeskError.{DeskError}
 use Rattle.rapid_desk.specs.declared.error.DeskError.TheVariants as error
 use Rattle.rapid_desk.specs.States.{DeskState}
-use Rattle.rapid_desk.specs.Desks.{HeldValue, BoardValue, NotTaken, Refused, state_with, state_of, is_blank, Keeps, Advances, Tried, Installs, Grown, Shown, NotEntered}
+use Rattle.rapid_desk.specs.Desks.{HeldValue, BoardValue, NotTaken, TakesNoEdge, Refused, state_with, state_of, is_blank, Keeps, Advances, Tried, Installs, Grown, Shown, NotEntered}
 use Rattle.rapid_desk.proofs.Moving.{enters_shows}
 use Rattle.rapid_desk.proofs.Keeping.{enters, has_room}
-use Rattle.rapid_desk.proofs.Stepping.{Well, goes_on, begins, not_shown, stays_full, halts}
+use Rattle.rapid_desk.proofs.Stepping.{Well, edge_full, goes_on, begins, not_shown, stays_full, halts}
 
 -- what is held is by its parts
 pub by_parts : (g : HeldValue) (entry n : Node) (j : List _) (full : Bool) (published : List Stamp) → g.entry ≡ entry → g.journal ≡ j → g.full ≡ full → g.node ≡ n → state_of entry j full n published ≡ state_with g published
@@ -127,3 +127,18 @@ after_refusal (error.Node f) h g published e not same k =
 after_refusal error.TooManySubscribers h g published e not same k = absurd not
 after_refusal error.BadCapacity h g published e not same k = absurd not
 after_refusal error.Unpublished h g published e not same k = absurd not
+
+-- ---- an edge that went down, for whose event there was no memory
+
+or_false : (a b : Bool) → (a || b) ≡ false → a ≡ false
+or_false true b h = h
+or_false false b h = refl
+
+-- the journal has no room for it either
+pub edge_full_for : (h g : HeldValue) (n : ℕ) → n ≡ length h.journal → g.full ≡ (h.full || nat_le 65536 n) → g.node ≡ h.node → g.full ≡ true → TakesNoEdge h g error.JournalFull
+edge_full_for h g n len full node is id k p = (edge_full h.full h.journal n len id k p ∙ sym full ∙ is, is, node)
+
+-- the journal has room for it
+pub edge_unmade : (h g : HeldValue) (n : ℕ) → n ≡ length h.journal → g.full ≡ (h.full || nat_le 65536 n) → g.node ≡ h.node → g.full ≡ false → TakesNoEdge h g error.OutOfMemory
+edge_unmade h g n len full node is id k p =
+    (edge_full h.full h.journal n len id k p ∙ sym full ∙ is, is ∙ sym (or_false h.full (nat_le 65536 n) (sym full ∙ is)), node)

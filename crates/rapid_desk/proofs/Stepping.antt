@@ -1,6 +1,6 @@
 -- What a desk is after each outcome of a step.
-use Rattle.std.proofs.Common.{◌≡◌, ℕ, ◌+◌, ◌≤◌, Bool, true, false, cond, List, [], ◌∷◌, ◌++◌, length, refl, sym, ap, ◌∙◌, subst, arith}
-use Rattle.std.specs.Prelude.{Option, Some, None, nat_lt}
+use Rattle.std.proofs.Common.{◌≡◌, ℕ, ◌+◌, ◌≤◌, ◌||◌, Bool, true, false, cond, List, [], ◌∷◌, ◌++◌, length, refl, sym, ap, ◌∙◌, subst, arith}
+use Rattle.std.specs.Prelude.{Option, Some, None, nat_lt, nat_le}
 use Rattle.rapid_model.specs.Configuration.{Configuration, Stamp, stamp}
 use Rattle.rapid_model.specs.Node.{Node, Event, EdgeDown, Tick, Receive, Leave, Outcome, Output, configuration_of, has_installed, is_halted, halt}
 use Rattle.rapid_model.specs.NodeStep.{node_step}
@@ -33,6 +33,14 @@ added_few j (Receive m) = by (is_kept m.body)
 
 pub full_is : (j : List JournalRecord) (e : Event) (n a : ℕ) → n ≡ length j → a ≡ added_by j e → is_full_for j e ≡ nat_lt 65536 (n + a)
 full_is j e n a len added = ap (nat_lt 65536) (event_length j e ∙ omega (arith, len, added))
+
+-- an edge that went down needs a record
+pub edge_full : (full : Bool) (j : List JournalRecord) (n : ℕ) → n ≡ length j → (id : List ℕ) (k : ℕ) (p : Process) → is_refused full j (EdgeDown id k p) ≡ (full || nat_le 65536 n)
+edge_full full j n len id k p = ap (λ b. full || b) (full_is j (EdgeDown id k p) n 1 len refl ∙ same (nat_le 65536 n) refl)
+  where
+    same : (b : Bool) → nat_le 65536 n ≡ b → nat_lt 65536 (n + 1) ≡ b
+    same true h = grind (arith, h)
+    same false h = grind (arith, h)
 
 -- ---- a step that went well
 

@@ -3,6 +3,7 @@
 use Rattle.std.specs.Prelude.{◌≡◌, ◌≢◌, ◌⊎◌, ℕ, ◌+◌, ◌≤◌, ◌<◌, ◌||◌, Bool, true, false, List, [], ◌∷◌, ◌++◌, length, map, Option, Some, None, MatchOption}
 use Rattle.std.specs.List.{AllZip}
 use Rattle.atomic_table.specs.Seated.{TableId}
+use Rattle.rapid_model.specs.Bytes.{ConfigurationId}
 use Rattle.rapid_model.specs.Process.{Process}
 use Rattle.rapid_model.specs.Configuration.{Configuration, Stamp, stamp}
 use Rattle.rapid_model.specs.Node as model
@@ -152,6 +153,10 @@ NotTaken old event new TooManySubscribers = ⊥
 NotTaken old event new BadCapacity = ⊥
 NotTaken old event new Unpublished = ⊥
 
+-- Why an edge that went down was not tried, whichever it is, and what is held then.
+abbrev pub TakesNoEdge : HeldValue → HeldValue → DeskError → Type 0
+TakesNoEdge old new error = (id : ConfigurationId) (ring : ℕ) (subject : Process) → NotTaken old (model.EdgeDown id ring subject) new error
+
 -- Only the room for an event was asked.
 abbrev pub HasNoRoom : Bool → List JournalRecord → model.Event → Bool → DeskError → Type 0
 HasNoRoom full journal event new JournalFull = (is_refused full journal event ≡ true) × (new ≡ true)
@@ -203,6 +208,10 @@ Refused old event new Unpublished = (is_journal_full old event ≡ false) × (le
     × ((n : model.Node) × Installs old.node event n × (new ≡ record old { node = model.halt n }))
 Refused old event new TooManySubscribers = ⊥
 Refused old event new BadCapacity = ⊥
+
+-- Why an edge that went down was refused, whichever it is, and what the desk is then.
+abbrev pub RefusesEdge : DeskState → DeskState → DeskError → Type 0
+RefusesEdge old new error = (id : ConfigurationId) (ring : ℕ) (subject : Process) → Refused old (model.EdgeDown id ring subject) new error
 
 -- The number of an error.
 abbrev pub code_of : DeskError → ℕ

@@ -14,7 +14,7 @@ ghost use Rattle.rapid_model.specs.Limits.{most_seats, most_subscriptions, most_
 ghost use Rattle.rapid_desk.specs.declared.error.DeskError.TheVariants.{OutOfMemory, Unpublished};
 ghost use Rattle.rapid_desk.specs.Notices.{Offered, Ended};
 ghost use Rattle.rapid_desk.specs.States.{IsDesk, at_checkpoint};
-ghost use Rattle.rapid_desk.specs.Desks.{no_installs_in, shown_height, Announced, seed_state, joiner_state, is_blank, state_with, Await, AreMarked, Shown, Grown, Keeps, Tried, NotEntered, Advances, Refused, NotSubscribed, NoCheckpoint, queues_of, with_known};
+ghost use Rattle.rapid_desk.specs.Desks.{no_installs_in, shown_height, Announced, seed_state, joiner_state, is_blank, state_with, Await, AreMarked, Shown, Grown, Keeps, Tried, NotEntered, Advances, Refused, RefusesEdge, NotSubscribed, NoCheckpoint, queues_of, with_known};
 
 use crate::DeskError;
 use crate::board::Board;
@@ -334,6 +334,20 @@ impl<R: Wait + Copy + Drop> Desk<R> {
                 Err(error)
             }
         }
+    }
+
+    /// Refuses an edge that went down, for whose event there is no memory: the error is the one that
+    /// [`Desk::step`] answers if it has none for what it keeps of the event. So whoever makes the
+    /// event need not ask whether the journal is full.
+    ///
+    /// It is `JournalFull` if 65,536 records are kept, and from then on, else `OutOfMemory`. Both
+    /// leave node, journal and published list.
+    pub fn refuse_edge(&mut self) -> DeskError
+        ensures refused { RefusesEdge self.old.state self.new.state result }
+        ensures same { (self.new.seats ≡ self.old.seats) × (self.new.count ≡ self.old.count) × (self.new.subscriptions ≡ self.old.subscriptions) }
+        ensures cell { self.new.cell ≡ self.old.cell }
+    {
+        self.held.refuse_edge()
     }
 
     /// The seats at the published view, once, from when a view is published. They are of the cell

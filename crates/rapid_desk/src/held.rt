@@ -6,7 +6,7 @@ ghost use Rattle.rapid_model.specs.Node as model;
 ghost use Rattle.rapid_model.specs.NodeStep.{node_step};
 ghost use Rattle.rapid_model.specs.Limits.{most_entries};
 ghost use Rattle.rapid_node.specs.Steps.{event_of, HasOutcome};
-ghost use Rattle.rapid_desk.specs.Desks.{is_refused, HasNoRoom, NotTaken, NoCheckpoint};
+ghost use Rattle.rapid_desk.specs.Desks.{is_refused, HasNoRoom, NotTaken, TakesNoEdge, NoCheckpoint};
 
 use crate::DeskError;
 use crate::journal::{Journal, MOST_RECORDS};
@@ -106,6 +106,19 @@ impl Held {
                 Err(DeskError::Node(fault))
             }
         }
+    }
+
+    /// Refuses an edge that went down, for whose event there was no memory. It needs a record, so a
+    /// full journal is the reason if it has no room for one.
+    pub(crate) fn refuse_edge(&mut self) -> DeskError
+        ensures same { (self.new.entry ≡ self.old.entry) × (self.new.journal ≡ self.old.journal) }
+        ensures refused { TakesNoEdge self.old self.new result }
+    {
+        self.full |= self.journal.len() >= MOST_RECORDS;
+        if self.full {
+            return DeskError::JournalFull;
+        }
+        DeskError::OutOfMemory
     }
 
     /// Whether the step has installed a configuration.

@@ -286,7 +286,7 @@ fn edge_in(entry: &Node, event: &Event) -> Option<(Which, u16, u8)>
 {
     match event {
         Event::EdgeDown(id, ring, subject) => {
-            let (which, place) = place_about(entry, Some(*id), subject)?;
+            let (which, place) = place_about(entry, Some(*id), subject.get())?;
             Some((which, place, *ring))
         }
         Event::Tick | Event::Receive(_) | Event::Leave => None,
@@ -398,27 +398,49 @@ impl Journal {
         }
     }
 
+    /// A tick more.
+    fn add_tick(&mut self) -> Result<(), AllocError>
+        ensures added { OnOk result (self.new ≡ record { entry = self.old.entry; records = model.with_tick self.old.records }) }
+        ensures unchanged { OnErr result (self.new ≡ self.old) }
+    {
+        if self.joins_last() {
+            self.join_tick();
+            return Ok(());
+        }
+        self.push(JournalRecord::Ticks(1))
+    }
+
+    /// A message more, if it is kept.
+    fn add_message(&mut self, alloc: Global, message: Message) -> Result<(), AllocError>
+        ensures added { OnOk result (self.new ≡ record { entry = self.old.entry; records = model.with_event self.old.records (Receive message) }) }
+        ensures unchanged { OnErr result (self.new ≡ self.old) }
+    {
+        if !is_kept(message.body()) {
+            return Ok(());
+        }
+        let record = record_of(alloc, &self.entry, message)?;
+        self.push(record)
+    }
+
+    /// An edge more that went down.
+    fn add_edge(&mut self, alloc: Global, event: Event) -> Result<(), AllocError>
+        ensures added { OnOk result (self.new ≡ record { entry = self.old.entry; records = self.old.records ++ model.Other (event_of event) ∷ [] }) }
+        ensures unchanged { OnErr result (self.new ≡ self.old) }
+    {
+        let record = record_of_edge(alloc, &self.entry, event)?;
+        self.push(record)
+    }
+
     /// An event more. If out of memory the journal is as it was.
     pub(crate) fn add(&mut self, alloc: Global, event: Event) -> Result<(), AllocError>
         ensures added { OnOk result (self.new ≡ record { entry = self.old.entry; records = model.with_event self.old.records (event_of event) }) }
         ensures unchanged { OnErr result (self.new ≡ self.old) }
     {
         match event {
-            Event::Tick if self.joins_last() => {
-                self.join_tick();
-                Ok(())
-            }
-            Event::Tick => self.push(JournalRecord::Ticks(1)),
-            Event::Receive(message) if !is_kept(message.body()) => Ok(()),
-            Event::Receive(message) => {
-                let record = record_of(alloc, &self.entry, message)?;
-                self.push(record)
-            }
-            Event::EdgeDown(..) => {
-                let record = record_of_edge(alloc, &self.entry, event)?;
-                self.push(record)
-            }
+            Event::Tick => self.add_tick(),
+            Event::Receive(message) => self.add_message(alloc, message),
             Event::Leave => self.push(JournalRecord::OwnLeave),
+            edge => self.add_edge(alloc, edge),
         }
     }
 }
