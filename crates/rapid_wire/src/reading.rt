@@ -319,7 +319,8 @@ fn may_have(count: usize, most: usize) -> bool
     1 <= count && count <= most
 }
 
-/// The alerts of a batch, which share the observer. If a batch cannot have as many as are announced, none of them is read.
+/// The alerts of a batch, which share the observer. If a batch cannot have as many as are announced,
+/// none of them is read.
 #[tactic(auto, unfolding(crate::specs::Reading::items_at))]
 pub(crate) fn read_batch(
     alloc: Global,
