@@ -27,7 +27,7 @@ use crate::shared_rings::SharedRings;
 use rapid_alerts::{Alert, Batch, Outbox, RaiseError, Raising};
 use rapid_config::{Configuration, Cut};
 use rapid_cut::Detector;
-use rapid_endpoint::{Process, SharedProcess};
+use rapid_endpoint::SharedProcess;
 use rapid_fast::FastRound;
 use rapid_join::Host;
 use rapid_paxos::{Acceptor, Ballot, Coordinator, Learner, Promise, PromiseError};
@@ -162,7 +162,11 @@ impl Model for Raised {
 
 impl Raised {
     /// Nothing was raised by this member.
-    pub(crate) fn new(alloc: Global, rings: &SharedRings, me: Process) -> Result<Raised, AllocError>
+    pub(crate) fn new(
+        alloc: Global,
+        rings: &SharedRings,
+        me: SharedProcess,
+    ) -> Result<Raised, AllocError>
         ensures { IfOk result (λ r. r ≡ record { table = rings.now; owner = me; outbox = outbox.empty_outbox }) }
     {
         let own = rings.try_copy()?;
@@ -334,7 +338,7 @@ impl Rest {
     {
         let size = context.configuration.members().len();
         let ballots = Arc::new(alloc, Ballots::new(alloc, size, context.place))?;
-        let me = *context.me.get();
+        let me = context.me.share()?;
         let raised = Arc::new(alloc, Raised::new(alloc, &context.rings, me)?)?;
         let detection = Arc::new(alloc, Detection::new(alloc, &context.rings)?)?;
         let waiting = Arc::new(alloc, Waiting::new(alloc, context)?)?;
