@@ -1,5 +1,5 @@
 -- The probe windows of a peer as the definitions see them.
-use Rattle.std.specs.Prelude.{Bool, true, false, List, [], if◌then◌else◌, Option, Some, None}
+use Rattle.std.specs.Prelude.{Bool, List, [], if◌then◌else◌, Option, Some, None}
 use Rattle.std.specs.Option.{option_map}
 use Rattle.rapid_model.specs.Process.{Process}
 use Rattle.rapid_model.specs.Configuration.{Configuration, configuration_id}
@@ -7,8 +7,6 @@ use Rattle.rapid_model.specs.Monitors as model
 use Rattle.rapid_model.specs.Node.{Node, configuration_of, member_in}
 use Rattle.rapid_world.specs.Framed.{FramedPacket}
 use Rattle.rapid_model.specs.WorldStep.{windows_in}
-use Rattle.rapid_monitor.specs.declared.edge.Verdict.{Verdict}
-use Rattle.rapid_monitor.specs.declared.edge.Verdict.TheVariants.{Up, Down}
 use Rattle.rapid_world.specs.Sent.{Sent}
 use Rattle.rapid_world.specs.declared.windows.Windows.{Windows}
 use Rattle.rapid_world.specs.declared.windows.Windows.TheVariants.{Fresh, Left, Kept}
@@ -38,9 +36,3 @@ packets_in (Some s) = s.packets
 -- The edge to a member that is observed, if there is one: the identifier of the configuration, and the member.
 abbrev pub edge_of : Option (Configuration × Process) → Option (List Rattle.std.specs.Prelude.ℕ × Process)
 edge_of o = option_map (λ x. (configuration_id x.0, x.1)) o
-
--- The verdict is that the edge is down.
-abbrev pub says_down : Option Verdict → Bool
-says_down None = false
-says_down (Some Up) = false
-says_down (Some Down) = true

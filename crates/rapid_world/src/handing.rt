@@ -82,7 +82,7 @@ pub(crate) fn hand(
 
 /// A peer has a further result of a probe of whom it observes on a ring, in this configuration. If
 /// the edge is down, its node is told, and sends nothing at that.
-#[tactic(auto, unfolding(crate::specs::Handed::told))]
+#[tactic(auto)]
 pub(crate) fn probe(
     alloc: Global,
     views: &mut Views,
@@ -101,10 +101,12 @@ pub(crate) fn probe(
     ensures quiet { IfOk result (λ news. (probed (step.edge_on peer.old.edges ring) ok).is_down ≡ false → news.halts ≡ false) }
     ensures peer_unchanged { OnErr result (peer.new ≡ peer.old) }
 {
-    if peer.probe(alloc, ring, ok)? {
-        let event = Event::EdgeDown(observed.0, ring, observed.1);
-        Ok(peer.take_quietly(views, &event))
-    } else {
-        Ok(Told::nothing())
+    let lost = peer.probe(alloc, ring, ok, &observed.1)?;
+    match lost {
+        Some(subject) => {
+            let event = Event::EdgeDown(observed.0, ring, subject);
+            Ok(peer.take_quietly(views, &event))
+        }
+        None => Ok(Told::nothing()),
     }
 }

@@ -1,6 +1,6 @@
 // One node of a world, with its probe windows.
 
-ghost use Rattle.std.specs.Prelude.{◌≡◌, ◌<◌, [], All, map, ℕ, true, false, is_some, slice_set, IfOk, OnOk, IfSome, OnErr, Option, Some, None};
+ghost use Rattle.std.specs.Prelude.{◌≡◌, ◌<◌, [], All, map, ℕ, true, false, is_some, slice_set, IfOk, OnOk, IfSome, IfNone, OnErr, Option, Some, None};
 ghost use Rattle.std.specs.Option.{option_map, option_to_list};
 ghost use Rattle.rapid_model.specs.Configuration.{is_member};
 ghost use Rattle.rapid_model.specs.Edge.{Edge, probed};
@@ -13,15 +13,15 @@ ghost use Rattle.rapid_node.specs.Steps.{event_of};
 ghost use Rattle.rapid_world.specs.Events.{report_of};
 ghost use Rattle.rapid_world.specs.Framed.{framed_packet, HasFrame};
 ghost use Rattle.rapid_world.specs.Handed.{handed, KeepsAt, wants_memory};
-ghost use Rattle.rapid_world.specs.Windows.{packets_in, edge_of, says_down, windows_of};
+ghost use Rattle.rapid_world.specs.Windows.{packets_in, edge_of, windows_of};
 
 use crate::recipients::member_configuration;
 use crate::taken::{StepTaken, Told};
 use crate::windows::Windows;
 use bytes::Bytes;
 use rapid_config::{ConfigId, Configuration};
-use rapid_endpoint::{Endpoint, Process};
-use rapid_monitor::{Monitors, Verdict};
+use rapid_endpoint::{Endpoint, Process, SharedProcess};
+use rapid_monitor::Monitors;
 use rapid_node::{Event, Node, NodeFault, Phase, Views};
 use std::alloc::{AllocError, Global};
 use std::marker::Model;
@@ -222,20 +222,27 @@ impl Peer {
     }
 
     /// Takes the result of a probe of the member that its node observes on a ring. The answer is
-    /// whether the edge is down.
+    /// that member, to be shared, if the edge is down.
     #[tactic(auto)]
-    pub(crate) fn probe(&mut self, alloc: Global, ring: u8, ok: bool) -> Result<bool, AllocError>
+    pub(crate) fn probe(
+        &mut self,
+        alloc: Global,
+        ring: u8,
+        ok: bool,
+        subject: &Process,
+    ) -> Result<Option<SharedProcess>, AllocError>
         requires member { is_some (model.member_in self.old.node) ≡ true }
         requires edge { (e : Edge) × (edge_at self.old.edges ring ≡ Some e) }
         ensures peer { OnOk result (self.new ≡ step.with_edge self.old ring (probed (step.edge_on self.old.edges ring) ok)) }
-        ensures down { IfOk result (λ down. down ≡ (probed (step.edge_on self.old.edges ring) ok).is_down) }
+        ensures down { IfOk result (λ lost. IfSome lost (λ p. (p ≡ subject.now) × ((probed (step.edge_on self.old.edges ring) ok).is_down ≡ true))) }
+        ensures up { IfOk result (λ lost. IfNone lost ((probed (step.edge_on self.old.edges ring) ok).is_down ≡ false)) }
         ensures unchanged { OnErr result (self.new ≡ self.old) }
     {
         let windows = mem::replace(&mut self.windows, Windows::Fresh);
         let mut monitors = monitors_of(alloc, windows, &self.node)?;
-        let down = note(&mut monitors, ring, ok);
+        let lost = note(alloc, &mut monitors, ring, ok, subject);
         self.windows = Windows::Kept(monitors);
-        Ok(down)
+        lost
     }
 }
 
@@ -254,22 +261,50 @@ fn monitors_of(alloc: Global, windows: Windows, node: &Node) -> Result<Monitors,
     }
 }
 
-/// Notes the result of a probe. Says whether the edge is down.
-#[tactic(auto, using(crate::proofs::Probing::probed_here, crate::proofs::Probing::says))]
-fn note(monitors: &mut Monitors, ring: u8, ok: bool) -> bool
+/// Notes the result of a probe. The answer is who was probed, to be shared, if the edge is down. What
+/// needs memory comes first: without it nothing is noted.
+#[tactic(auto)]
+fn note(
+    alloc: Global,
+    monitors: &mut Monitors,
+    ring: u8,
+    ok: bool,
+    subject: &Process,
+) -> Result<Option<SharedProcess>, AllocError>
     requires { (e : Edge) × (edge_at monitors.old ring ≡ Some e) }
-    ensures monitors { monitors.new ≡ slice_set monitors.old ring (Some (probed (step.edge_on monitors.old ring) ok)) }
-    ensures down { result ≡ (probed (step.edge_on monitors.old ring) ok).is_down }
+    ensures monitors { OnOk result (monitors.new ≡ slice_set monitors.old ring (Some (probed (step.edge_on monitors.old ring) ok))) }
+    ensures down { IfOk result (λ lost. IfSome lost (λ p. (p ≡ subject.now) × ((probed (step.edge_on monitors.old ring) ok).is_down ≡ true))) }
+    ensures up { IfOk result (λ lost. IfNone lost ((probed (step.edge_on monitors.old ring) ok).is_down ≡ false)) }
+    ensures unchanged { OnErr result (monitors.new ≡ monitors.old) }
 {
-    let verdict = monitors.probe(ring, ok);
-    is_down(verdict)
+    let lost = shared_if(alloc, goes_down(monitors, ring, ok), subject)?;
+    let _ = monitors.probe(ring, ok);
+    Ok(lost)
 }
 
-/// Whether the verdict is that the edge is down.
-fn is_down(verdict: Option<Verdict>) -> bool
-    ensures { result ≡ says_down verdict }
+/// Whether the edge on a ring is down after one more result.
+#[tactic(auto)]
+fn goes_down(monitors: &Monitors, ring: u8, ok: bool) -> bool
+    requires { (e : Edge) × (edge_at monitors.now ring ≡ Some e) }
+    ensures { result ≡ (probed (step.edge_on monitors.now ring) ok).is_down }
 {
-    matches!(verdict, Some(Verdict::Down))
+    monitors.is_down_after(ring, ok).unwrap_or(false)
+}
+
+/// The process, to be shared, if it is wanted. Else no memory is taken.
+fn shared_if(
+    alloc: Global,
+    wanted: bool,
+    process: &Process,
+) -> Result<Option<SharedProcess>, AllocError>
+    ensures some { IfOk result (λ shared. IfSome shared (λ p. (p ≡ process.now) × (wanted ≡ true))) }
+    ensures none { IfOk result (λ shared. IfNone shared (wanted ≡ false)) }
+{
+    if wanted {
+        Ok(Some(SharedProcess::new(alloc, process)?))
+    } else {
+        Ok(None)
+    }
 }
 
 /// The probe windows of a member that was not probed.
