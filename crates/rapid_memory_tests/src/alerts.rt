@@ -1,7 +1,7 @@
 // Outboxes over a table of explicit edges, and batches. Each call says by its error that memory ran
 // out and changes nothing, or makes what it makes with memory.
 
-use crate::numbered::process;
+use crate::numbered::{process, shared};
 use crate::tables::{Edge, table};
 use rapid_alerts::{Alert, Batch, BatchError, Kind, Outbox, RaiseError, Raising};
 use rapid_config::ConfigId;
@@ -80,7 +80,7 @@ const EDGES: [Edge; 3] = [(0, 1, 1000), (0, 1, 2), (1, 1, 2)];
 /// Sees that all calls of the outbox of process 1 answer as they have to, in order.
 fn runs(alloc: Global, calls: &[Call]) -> Result<(), Fail> {
     let table = table(alloc, (2, 2, 1), &[2], &EDGES)?;
-    let mut outbox = Outbox::new(alloc, table, process(1));
+    let mut outbox = Outbox::new(alloc, table, shared(alloc, &process(1))?);
     all_answer(&mut outbox, calls)
 }
 

@@ -1,8 +1,8 @@
 // The cut detector over a table of explicit edges: a batch for which memory runs out changes nothing.
 
-use crate::numbered::{are_numbered, process};
+use crate::numbered::{are_numbered, process, shared};
 use crate::tables::{Edge, table};
-use rapid_alerts::{Alert, Kind};
+use rapid_alerts::{Alert, AlertList, Kind};
 use rapid_config::{ConfigId, Cut};
 use rapid_cut::Detector;
 use rapid_rings::Table;
@@ -15,6 +15,9 @@ enum Call<'a> {
     /// A batch that removes, the numbers of its cut, none if it has no cut, and how many alerts are
     /// skipped. It is given again if out of memory.
     RemoveAgain(&'a [Edge], &'a [u16], usize),
+    /// A list of the alert that removes the subject of an edge, and the numbers of its cut, none if
+    /// it has no cut. It is given again if out of memory.
+    ListAgain(Edge, &'a [u16]),
     /// How many reports there are on a process.
     Tally(u16, usize),
 }
@@ -81,12 +84,45 @@ fn cuts_again(
     }
 }
 
+/// A list of the alert that removes the subject of an edge.
+fn list_of(alloc: Global, edge: &Edge) -> Result<AlertList, AllocError> {
+    let mut list = AlertList::new(alloc, shared(alloc, &process(edge.1))?, ConfigId::zero());
+    list.push(&process(edge.2), edge.0, Kind::Remove)?;
+    Ok(list)
+}
+
+/// Whether the list of an edge has this cut.
+fn list_cuts(
+    alloc: Global,
+    detector: &mut Detector<Table>,
+    edge: &Edge,
+    cut: &[u16],
+) -> Result<bool, AllocError> {
+    let list = list_of(alloc, edge)?;
+    Ok(is_cut_of(&detector.batch_of(&list)?, cut))
+}
+
+/// Whether the list of an edge has this cut. It is given again if out of memory: the detector is then
+/// as it was.
+fn list_cuts_again(
+    alloc: Global,
+    detector: &mut Detector<Table>,
+    edge: &Edge,
+    cut: &[u16],
+) -> Result<bool, AllocError> {
+    match list_cuts(alloc, detector, edge, cut) {
+        Err(_refused) => list_cuts(alloc, detector, edge, cut),
+        answer => answer,
+    }
+}
+
 /// Whether a call answers as it has to.
 fn answers(alloc: Global, detector: &mut Detector<Table>, call: &Call) -> Result<bool, AllocError> {
     match call {
         Call::RemoveAgain(edges, cut, skipped) => {
             cuts_again(alloc, detector, (edges, cut, *skipped))
         }
+        Call::ListAgain(edge, cut) => list_cuts_again(alloc, detector, edge, cut),
         Call::Tally(number, reports) => Ok(detector.tally(&process(*number)) == *reports),
     }
 }
@@ -122,4 +158,17 @@ const BRINGS: [Call; 3] = [
 #[test]
 fn out_of_memory_leaves_the_detector_as_it_was(rt: HostRuntime) -> Result<(), Fail> {
     runs(rt.alloc(), &BRINGS)
+}
+
+/// Three lists bring the cut of process 5. Each is gone before the next comes.
+const LISTED: [Call; 4] = [
+    Call::ListAgain((0, 1, 5), &[]),
+    Call::ListAgain((1, 2, 5), &[]),
+    Call::ListAgain((2, 3, 5), &[5]),
+    Call::Tally(5, 3),
+];
+
+#[test]
+fn out_of_memory_in_a_list_leaves_the_detector_as_it_was(rt: HostRuntime) -> Result<(), Fail> {
+    runs(rt.alloc(), &LISTED)
 }

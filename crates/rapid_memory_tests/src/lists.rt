@@ -8,7 +8,7 @@ ghost use Rattle.rapid_endpoint.specs.Ends.{AreAll};
 use crate::numbered::{process, shared, tagged};
 use rapid_alerts::{AlertList, Kind, SpeltError};
 use rapid_config::{ConfigError, ConfigId, Cut};
-use rapid_endpoint::{ParseError, Process, ProcessList};
+use rapid_endpoint::{ParseError, Process, ProcessList, SharedProcess};
 use std::alloc::{AllocError, Global};
 use std::test::Fail;
 
@@ -122,11 +122,47 @@ fn add_all(list: &mut AlertList, subjects: &[&[u8]]) -> Result<(), SpeltError> {
 
 /// The alerts that remove these subjects, in a list.
 fn list_on(alloc: Global, subjects: &[Process]) -> Result<AlertList, AllocError> {
-    let mut list = AlertList::new(alloc, process(1), ConfigId::zero());
+    let mut list = AlertList::new(alloc, shared(alloc, &process(1))?, ConfigId::zero());
     for subject in subjects {
         list.push(subject, 0, Kind::Remove)?;
     }
     Ok(list)
+}
+
+/// An alert on this process, added again if out of memory: the list has as many alerts then as before.
+fn pushed_again(list: &mut AlertList, subject: &Process) -> Result<(), AllocError> {
+    let before = list.len();
+    match list.push(subject, 0, Kind::Remove) {
+        Err(_refused) if list.len() == before => list.push(subject, 0, Kind::Remove),
+        answer => answer,
+    }
+}
+
+/// Adds an alert on each of these to a list.
+fn push_all(list: &mut AlertList, subjects: &[Process]) -> Result<(), AllocError> {
+    for subject in subjects {
+        pushed_again(list, subject)?;
+    }
+    Ok(())
+}
+
+/// What shares the subject of the last alert.
+fn last_subject(list: &AlertList) -> Result<Option<SharedProcess>, AllocError> {
+    match list.len().checked_sub(1) {
+        Some(last) => Ok(Some(list.shared_subject(last).share()?)),
+        None => Ok(None),
+    }
+}
+
+/// To share a subject of the list takes no memory.
+#[test]
+fn out_of_memory_leaves_the_list_that_is_pushed_to_as_it_was(rt: HostRuntime) -> Result<(), Fail> {
+    let [one, other] = two()?;
+    let mut list = list_on(rt.alloc(), &[])?;
+    push_all(&mut list, &[one, one, other])?;
+    assert!(rt; list.len() == 3);
+    assert!(rt; matches!(&last_subject(&list)?, Some(last) if last.is(&other)));
+    Ok(())
 }
 
 /// After a refused growth the list is as it was. The alerts are on the one process, then on the

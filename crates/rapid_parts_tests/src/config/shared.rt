@@ -32,6 +32,36 @@ fn what_is_shared_is_its_process_alone(rt: HostRuntime) -> Result<(), Fail> {
     Ok(())
 }
 
+/// Whether what is shared is equal to what shares the process at this place, and to none of the others.
+fn equals_only(
+    alloc: Global,
+    one: &SharedProcess,
+    processes: &[Process],
+    place: usize,
+) -> Result<bool, AllocError> {
+    for (at, process) in processes.iter().enumerate() {
+        if (*one == shared(alloc, process)?) != (at == place) {
+            return Ok(false);
+        }
+    }
+    Ok(true)
+}
+
+#[test]
+fn shares_are_equal_as_their_processes_are(rt: HostRuntime) -> Result<(), Fail> {
+    let seven = seven()?;
+    for (place, process) in seven.iter().enumerate() {
+        let one = shared(rt.alloc(), process)?;
+        let other = one.clone()?;
+        assert!(rt; equals_only(rt.alloc(), &one, &seven, place)?, "at {place}");
+        assert!(rt;
+            equals_only(rt.alloc(), &other, &seven, place)?,
+            "at {place}"
+        );
+    }
+    Ok(())
+}
+
 /// What shares a process that was shared; the first is gone then.
 fn second_share(alloc: Global, process: &Process) -> Result<SharedProcess, AllocError> {
     let first = shared(alloc, process)?;

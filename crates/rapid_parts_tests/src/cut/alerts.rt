@@ -3,9 +3,10 @@
 ghost use Rattle.std.specs.Prelude.{◌≡◌};
 
 use crate::cut::tables::{Start, table};
-use crate::numbered::process;
+use crate::numbered::{process, shared};
 use rapid_alerts::{Alert, AlertList, Batch, BatchError, Kind, Outbox, RaiseError, Raising};
 use rapid_config::{ConfigId, Params};
+use rapid_endpoint::SharedProcess;
 use rapid_rings::Table;
 use std::alloc::{AllocError, Global};
 use std::test::Fail;
@@ -133,7 +134,7 @@ const EDGES: Start = Start::Edges(2, 2, 1, &[(0, 1, 5), (1, 1, 5)]);
 
 /// Sees that all calls of an outbox of process 1 over a table answer as they have to, in order.
 fn runs(alloc: Global, start: &Start, calls: &[Call]) -> Result<(), Fail> {
-    let mut outbox = Outbox::new(alloc, table(alloc, start)?, process(1));
+    let mut outbox = Outbox::new(alloc, table(alloc, start)?, shared(alloc, &process(1))?);
     all_answer(&mut outbox, calls)
 }
 
@@ -203,7 +204,8 @@ fn copy_is_empty(outbox: &Outbox<Table>, table: Table) -> Result<bool, AllocErro
 
 /// Whether a copy of a new outbox of process 1 has raised nothing.
 fn new_copy_is_empty(alloc: Global, params: Params) -> Result<bool, AllocError> {
-    let outbox = Outbox::new(alloc, Table::new(alloc, params), process(1));
+    let owner = shared(alloc, &process(1))?;
+    let outbox = Outbox::new(alloc, Table::new(alloc, params), owner);
     copy_is_empty(&outbox, Table::new(alloc, params))
 }
 
@@ -264,7 +266,7 @@ fn a_batch_is_refused_by_the_first_reason(rt: HostRuntime) -> Result<(), Fail> {
 
 /// The alerts of process 1 that remove these processes, in a list.
 fn list_on(alloc: Global, subjects: &[u16]) -> Result<AlertList, AllocError> {
-    let mut list = AlertList::new(alloc, process(1), ConfigId::zero());
+    let mut list = AlertList::new(alloc, shared(alloc, &process(1))?, ConfigId::zero());
     for subject in subjects {
         list.push(&process(*subject), 0, Kind::Remove)?;
     }
@@ -290,6 +292,37 @@ fn a_list_has_the_alerts_that_were_pushed(rt: HostRuntime) -> Result<(), Fail> {
     for (at, subject) in SUBJECTS.iter().enumerate() {
         let expected = alert(Kind::Remove, 0, 1, *subject);
         assert!(rt; listed(&list, at) == Some(expected), "at {at}");
+    }
+    Ok(())
+}
+
+/// What shares the subject of the alert at a place of a list on these; the list is gone then.
+fn subject_at(
+    alloc: Global,
+    subjects: &[u16],
+    at: usize,
+) -> Result<Option<SharedProcess>, AllocError> {
+    let list = list_on(alloc, subjects)?;
+    if at < list.len() {
+        Ok(Some(list.shared_subject(at).share()?))
+    } else {
+        Ok(None)
+    }
+}
+
+/// Whether this shares the process with this number.
+fn shares(one: &Option<SharedProcess>, number: u16) -> bool {
+    match one {
+        Some(one) => one.is(&process(number)),
+        None => false,
+    }
+}
+
+#[test]
+fn the_subjects_of_a_list_can_be_shared(rt: HostRuntime) -> Result<(), Fail> {
+    for (at, subject) in SUBJECTS.iter().enumerate() {
+        let one = subject_at(rt.alloc(), &SUBJECTS, at)?;
+        assert!(rt; shares(&one, *subject), "at {at}");
     }
     Ok(())
 }

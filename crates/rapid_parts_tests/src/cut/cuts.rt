@@ -4,7 +4,7 @@
 ghost use Rattle.std.specs.Prelude.{◌≡◌};
 
 use crate::cut::tables::{Edge, Start, table};
-use crate::numbered::{are_numbered, process};
+use crate::numbered::{are_numbered, process, shared};
 use rapid_alerts::{Alert, AlertList, Kind};
 use rapid_config::{ConfigId, Cut, Params};
 use rapid_cut::Detector;
@@ -52,7 +52,7 @@ fn alerts(alloc: Global, kind: Kind, edges: &[Edge]) -> Result<Vec<Alert>, Alloc
 
 /// The alerts of process 1 on ring 0 that let in this many others, from 2 on.
 fn alerts_of_one(alloc: Global, many: u16) -> Result<AlertList, AllocError> {
-    let mut alerts = AlertList::new(alloc, process(1), ConfigId::zero());
+    let mut alerts = AlertList::new(alloc, shared(alloc, &process(1))?, ConfigId::zero());
     for number in 0..many {
         alerts.push(&process(number.wrapping_add(2)), 0, Kind::Join)?;
     }

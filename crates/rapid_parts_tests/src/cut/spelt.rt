@@ -1,6 +1,6 @@
 // Alerts on processes that are spelt, each against the alert on the process itself.
 
-use crate::numbered::{full, process, tagged};
+use crate::numbered::{full, process, shared, tagged};
 use crate::short_lists::{LISTS, list, seven};
 use rapid_alerts::{AlertList, AlertRef, Kind, SpeltError};
 use rapid_config::ConfigId;
@@ -10,7 +10,7 @@ use std::test::Fail;
 
 /// The alerts of process 1 that remove these subjects, in a list.
 fn list_on(alloc: Global, subjects: &[Process]) -> Result<AlertList, AllocError> {
-    let mut list = AlertList::new(alloc, process(1), ConfigId::zero());
+    let mut list = AlertList::new(alloc, shared(alloc, &process(1))?, ConfigId::zero());
     for subject in subjects {
         list.push(subject, 0, Kind::Remove)?;
     }
@@ -222,7 +222,7 @@ fn each_beginning_of_a_known_process_is_too_short(rt: HostRuntime) -> Result<(),
 
 /// The alerts of process 1 that remove the 65,536 processes of all numbers, in a list.
 fn list_on_all(alloc: Global) -> Result<AlertList, AllocError> {
-    let mut list = AlertList::new(alloc, process(1), ConfigId::zero());
+    let mut list = AlertList::new(alloc, shared(alloc, &process(1))?, ConfigId::zero());
     for number in 0..=u16::MAX {
         list.push(&process(number), 0, Kind::Remove)?;
     }
