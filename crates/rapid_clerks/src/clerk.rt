@@ -2,7 +2,7 @@
 
 ghost use Rattle.std.specs.Prelude.{◌≡◌, ◌≢◌, ◌⊎◌, ℕ, ◌+◌, ◌<◌, ◌≤◌, All, length, take};
 ghost use Rattle.rapid_world.specs.declared.error.WorldError.TheVariants.{EventsFull, OutOfMemory};
-ghost use Rattle.rapid_clerks.specs.Jobs.{HandedIn};
+ghost use Rattle.rapid_clerks.specs.Jobs.{HandedIn, IsPast};
 ghost use Rattle.rapid_clerks.specs.declared.verdict.Ended.TheVariants as ended;
 
 use crate::verdict::{Verdict, judge};
@@ -56,7 +56,7 @@ impl<L: Ledger> Clerk<L> {
         ensures through { self.new.ended ≡ ended.Through → result + self.new.passed ≡ length jobs.now }
         ensures early { self.new.ended ≢ ended.Through → result + self.new.passed < length jobs.now }
         ensures order { HandedIn B.handed self.old.share.amount (take (result + self.new.passed) jobs.now) self.new.share.amount }
-        ensures each { All B.answered (take (result + self.new.passed) jobs.now) }
+        ensures each { All (IsPast B.answered) (take (result + self.new.passed) jobs.now) }
         ensures asked { (turn : ℕ) → 0 < turn → turn ≤ result + self.new.passed → G.has_let_in self.old.worker turn × G.was_told self.old.worker turn }
         ensures ends { (self.new.ended ≡ ended.Full) ⊎ (self.new.ended ≡ ended.OutOfMemory) → G.has_let_in self.old.worker (result + self.new.passed + 1) × G.was_told self.old.worker (result + self.new.passed + 1) }
         ensures shut { self.new.ended ≡ ended.Shut → G.has_shut }

@@ -1,6 +1,6 @@
 // What clerks are given to do.
 
-ghost use Rattle.std.specs.Prelude.{◌≡◌, ℕ, ◌+◌, ◌<◌, OnOk, OnErr, IfErr};
+ghost use Rattle.std.specs.Prelude.{◌≡◌, ℕ, ◌+◌, ◌<◌, None, Some, OnOk, OnErr, IfErr, MatchResult};
 
 use rapid_world::{Report, WorldError, WorldEvent};
 use std::sync::ledger::{Ledger, Share};
@@ -22,14 +22,14 @@ pub struct TurnJob;
 
 /// What clerks work on: it does jobs of this type, and counts them in a ledger.
 pub trait DoJob<L: Ledger, J> {
-    ghost use Rattle.std.specs.Prelude.{ℕ};
+    ghost use Rattle.std.specs.Prelude.{ℕ, Option};
     ghost use Rattle.rapid_world.specs.declared.error.WorldError.{WorldError};
 
     // With a share of the first amount this job was handed in; its answer left the second.
     ghost handed: { ℕ → J → ℕ → Type 0 } = { λ _ _ _. Unit {0} };
 
-    // This job was handed in and answered.
-    ghost answered: { J → Type 0 } = { λ _. Unit {0} };
+    // This job was handed in and answered: it was done, or refused by this error.
+    ghost answered: { J → Option WorldError → Type 0 } = { λ _ _. Unit {0} };
 
     // A job was refused by this error.
     ghost refused_by: { WorldError → Type 0 } = { λ _. Unit {0} };
@@ -45,6 +45,6 @@ pub trait DoJob<L: Ledger, J> {
         ensures kept { OnErr result (share.new.amount ≡ share.old.amount) }
         ensures parts { share.new.parts ≡ share.old.parts }
         ensures handed { handed share.old.amount job.now share.new.amount }
-        ensures answered { answered job.now }
+        ensures answered { MatchResult result (λ _. answered job.now None) (λ e. answered job.now (Some e)) }
         ensures told { IfErr result refused_by };
 }

@@ -20,7 +20,7 @@ use std::sync::Wait;
 /// of that. They also see the height of the view that was published last when it was made.
 #[derive(Drop)]
 pub struct Outlet {
-    sink: Sink<Notice, Successive>,
+    pub(crate) sink: Sink<Notice, Successive>,
     capacity: usize,
     state: State,
     since: Option<u64>,

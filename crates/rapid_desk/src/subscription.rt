@@ -1,9 +1,12 @@
 // The subscriber's side.
 
 ghost use Rattle.std.specs.Prelude.{◌≡◌, ◌⊎◌, ℕ, ◌+◌, List, [], ◌∷◌, ◌++◌};
+ghost use Rattle.rapid_line.specs.Line.{StartsWith};
 ghost use Rattle.rapid_desk.specs.Notices.{state_of, IsNext, MayFollow};
 ghost use Rattle.rapid_desk.specs.Taking.{Told};
+ghost use Rattle.rapid_desk.specs.declared.subscription.Taken.TheVariants.{Empty};
 
+use crate::Outlet;
 use crate::notice::{Notice, State, Successive};
 use rapid_line::Source;
 use rapid_view::View;
@@ -23,8 +26,9 @@ pub enum Taken {
     Closed,
 }
 
-/// The subscriber's end of a subscription. Contracts see its queue, what was taken from it, and for
-/// how many notices it has room: the changes that may wait, and one mark.
+/// The subscriber's end of a subscription. Contracts see its queue, what was taken from it, what is
+/// known to be put in it, and for how many notices it has room: the changes that may wait, and one
+/// mark.
 #[derive(Drop)]
 pub struct Subscription {
     pub(crate) source: Source<Notice, Successive>,
@@ -56,10 +60,13 @@ impl Subscription {
         }
     }
 
-    /// The next change, or why there is none.
+    /// The next change, or why there is none. `Empty` comes only if all that is known to be put was
+    /// taken before.
     pub fn take<R: Wait>(&mut self, rt: &R) -> Taken
         ensures queue { (self.new.queue ≡ self.old.queue) × (self.new.room ≡ self.old.room) }
+        ensures known { self.new.known ≡ self.old.known }
         ensures taken { Told result self.old.taken self.new.taken }
+        ensures none { result ≡ Empty → StartsWith self.old.taken self.old.known }
     {
         match self.state {
             State::Lagged => Taken::Lagged,
@@ -72,7 +79,9 @@ impl Subscription {
     fn next<R: Wait>(&mut self, rt: &R) -> Taken
         requires { state_of self.old.taken ≡ State.Open }
         ensures queue { (self.new.queue ≡ self.old.queue) × (self.new.room ≡ self.old.room) }
+        ensures known { self.new.known ≡ self.old.known }
         ensures taken { Told result self.old.taken self.new.taken }
+        ensures none { result ≡ Empty → StartsWith self.old.taken self.old.known }
     {
         match self.source.take(rt) {
             None => Taken::Empty,
@@ -86,5 +95,15 @@ impl Subscription {
                 Taken::Closed
             }
         }
+    }
+
+    /// What the desk has put for this subscription is known to be put from then on. The outlet is
+    /// the desk's end of it.
+    pub fn compare(&mut self, outlet: &mut Outlet)
+        requires { self.old.queue ≡ outlet.old.queue }
+        ensures known { self.new ≡ record self.old { known = outlet.old.put } }
+        ensures same { outlet.new ≡ outlet.old }
+    {
+        self.source.compare(&mut outlet.sink);
     }
 }

@@ -1,8 +1,9 @@
 -- Clauses of public calls cite this file.
 -- What the writer and the seats of a cell know.
-use Rattle.std.specs.Prelude.{◌≡◌, ◌≢◌, ℕ, ◌+◌, ◌-◌, ◌<◌, List, [], ◌∷◌, length, slice_get, Option, Some}
+use Rattle.std.specs.Prelude.{◌≡◌, ◌≢◌, ℕ, ◌+◌, ◌-◌, ◌<◌, List, [], ◌∷◌, ◌++◌, length, slice_get, Option, Some}
 use Rattle.atomic_table.specs.Seated.{TableId}
-use Rattle.rapid_model.specs.Configuration.{Configuration, Stamp}
+use Rattle.rapid_model.specs.Configuration.{Configuration, Stamp, stamp}
+use Rattle.rapid_model.specs.PublishedList.{IsBeginning}
 use Rattle.rapid_view.specs.declared.error.ViewError.{ViewError}
 use Rattle.rapid_view.specs.declared.error.ViewError.TheVariants.{NotNext, Behind, NoPlace, CellFull, OutOfMemory}
 
@@ -56,6 +57,14 @@ Missed seen OutOfMemory = Unit {0}
 Missed seen NotNext = ⊥
 Missed seen NoPlace = ⊥
 Missed seen CellFull = ⊥
+
+-- The stamp was seen: those that were seen begin with some that end in it.
+abbrev pub WasSeen : List Stamp → Stamp → Type 0
+WasSeen seen s = (before : List Stamp) × IsBeginning (before ++ s ∷ []) seen
+
+-- The last stamp that was seen is not that of this view.
+abbrev pub IsOutdated : List Stamp → Configuration → Type 0
+IsOutdated seen view = slice_get seen (length seen - 1) ≢ Some (stamp view)
 
 -- The number of an error.
 abbrev pub code_of : ViewError → ℕ

@@ -4,6 +4,7 @@ ghost use Rattle.std.specs.Prelude.{◌≡◌, ◌⊎◌, ℕ, ◌+◌, ◌*◌,
 ghost use Rattle.rapid_model.specs.Configuration as model;
 ghost use Rattle.rapid_model.specs.Limits.{most_views, most_seats};
 ghost use Rattle.rapid_view.specs.CellRule.{place, writing};
+ghost use Rattle.rapid_view.specs.Seen.{WasSeen};
 
 use crate::cell_rule::{CellKnowledge, Published};
 use crate::page::Page;
@@ -30,7 +31,8 @@ fn seat_of(
     list: &ReadHandleFactory<Page>,
     view: &View,
 ) -> Result<ViewSeat, ViewError>
-    requires { 0 < length writer.old.seen }
+    requires some { 0 < length writer.old.seen }
+    requires seen { WasSeen writer.old.seen (model.stamp view.now) }
     ensures same { writer.new ≡ writer.old }
     ensures seat { IfOk result
         (λ s. s ≡ record { cell = writer.old.cell; seen = writer.old.seen; kept = view.now }) }
@@ -53,7 +55,8 @@ fn seats_of(
     view: &View,
     seats: usize,
 ) -> Result<Vec<ViewSeat>, ViewError>
-    requires { 0 < length writer.old.seen }
+    requires some { 0 < length writer.old.seen }
+    requires seen { WasSeen writer.old.seen (model.stamp view.now) }
     ensures same { writer.new ≡ writer.old }
     ensures seats { IfOk result
         (λ all. (vec_len all ≡ seats) × All (λ s. (s.cell ≡ writer.old.cell) × (s.seen ≡ writer.old.seen) × (s.kept ≡ view.now)) all.items) }

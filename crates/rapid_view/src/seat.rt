@@ -1,9 +1,10 @@
 // A seat at the published view.
 
-ghost use Rattle.std.specs.Prelude.{◌≡◌, ◌-◌, length, slice_get, Some, IfOk, IfErr, MatchBool};
+ghost use Rattle.std.specs.Prelude.{◌≡◌, ◌≢◌, ◌⊎◌, ◌-◌, length, slice_get, Some, IfOk, IfErr, OnErr, MatchBool};
 ghost use Rattle.rapid_model.specs.Configuration.{IsConfiguration, stamp};
 ghost use Rattle.rapid_model.specs.PublishedList.{HeightsRise, IsBeginning};
-ghost use Rattle.rapid_view.specs.Seen.{Missed};
+ghost use Rattle.rapid_view.specs.Seen.{Missed, WasSeen, IsOutdated};
+ghost use Rattle.rapid_view.specs.declared.error.ViewError.TheVariants.{OutOfMemory};
 
 use crate::page::Page;
 use crate::stamp_reader::StampReader;
@@ -27,17 +28,20 @@ pub struct ViewSeat {
 }
 
 impl Model for ViewSeat {
-    ghost use Rattle.rapid_view.specs.Seen.{Watched};
+    ghost use Rattle.rapid_model.specs.Configuration.{stamp};
+    ghost use Rattle.rapid_view.specs.Seen.{Watched, WasSeen};
 
     ghost Value = { Watched };
 
     ghost view = { λ s. record { cell = s.stamps.cell; seen = s.stamps.seen; kept = s.kept } };
+
+    ghost invariant = { λ s. WasSeen s.stamps.seen (stamp s.kept) };
 }
 
 /// Whether these are the same stamp.
 #[tactic(auto, using(crate::proofs::Same::same_stamps))]
 fn is_same(one: &Stamp, other: &Stamp) -> bool
-    ensures { MatchBool result (one.now ≡ other.now) (Unit {0}) }
+    ensures { MatchBool result (one.now ≡ other.now) (one.now ≢ other.now) }
 {
     if one.height() != other.height() || one.members() != other.members() {
         return false;
@@ -95,6 +99,7 @@ impl ViewSeat {
         list: ReadHandle<Page>,
         kept: View,
     ) -> ViewSeat
+        requires { WasSeen stamps.seen (stamp kept) }
         ensures { result ≡ record { cell = stamps.cell; seen = stamps.seen; kept = kept } }
     {
         ViewSeat {
@@ -119,7 +124,8 @@ impl ViewSeat {
 
     /// Keeps the view of a published stamp, at least as new as each one that this seat had seen.
     /// Afterwards the seat has seen the list up to it, also if it answers an error. An error leaves
-    /// the view that it keeps. `Behind` if the view of that stamp is still to be put in the list.
+    /// the view that it keeps, and comes only if the last stamp that it has seen then is not that
+    /// of this view. `Behind` if the view of the last stamp is still to be put in the list.
     /// `Behind` too if the writer is gone before this seat has found it.
     ///
     /// While the last stamp is that of the view kept, it reads this stamp and no more. So it takes
@@ -131,6 +137,7 @@ impl ViewSeat {
         ensures last { IfOk result (λ _. slice_get self.new.seen (length self.new.seen - 1) ≡ Some (stamp self.new.kept)) }
         ensures missed { IfErr result (Missed self.new.seen) }
         ensures unchanged { IfErr result (λ _. self.new.kept ≡ self.old.kept) }
+        ensures outdated { OnErr result (IsOutdated self.new.seen self.old.kept) }
     {
         let stamp = self.stamps.stamp();
         if is_same(&self.kept.stamp(), &stamp) {
@@ -153,7 +160,8 @@ impl ViewSeat {
     /// The view of a published stamp, at least as new as each one that this seat had seen.
     /// Afterwards the seat has seen the list up to it, also if it answers an error. `Behind` if the
     /// view of that stamp is still to be put in the list. `Behind` too if the writer is gone before
-    /// this seat has found it.
+    /// this seat has found it. It never comes if that stamp is the one of the view that the seat
+    /// keeps, and leaves this view.
     ///
     /// It is a copy, to be kept or sent on. All copies of a view share one list and one count of
     /// it. So if several threads read one view again and again, `refresh` and `view` serve better:
@@ -166,6 +174,7 @@ impl ViewSeat {
         ensures last { IfOk result (λ view. slice_get self.new.seen (length self.new.seen - 1) ≡ Some (stamp view)) }
         ensures kept { IfOk result (λ view. self.new.kept ≡ view) }
         ensures missed { IfErr result (Missed self.new.seen) }
+        ensures outdated { IfErr result (λ e. (e ≡ OutOfMemory) ⊎ ((self.new.kept ≡ self.old.kept) × IsOutdated self.new.seen self.old.kept)) }
     {
         self.refresh(rt)?;
         let view = self.kept.try_copy(self.alloc)?;

@@ -141,6 +141,31 @@ fn what_is_taken_after_the_end_was_put(rt: HostRuntime) -> Result<(), Fail> {
     takes_what_was_put(&rt, rt.alloc(), &mut *desk)
 }
 
+/// The only subscription of the desk takes all that the desk's end of it tells it of.
+fn takes_what_it_is_told_of<R: Wait + Abort>(
+    rt: &R,
+    alloc: Global,
+    desk: &mut Desk<&R>,
+) -> Result<(), Fail> {
+    assert!(rt; desk.close().is_empty());
+    let mut subscription = desk.subscribe(1)?;
+    let next = decision(alloc, founding(alloc)?.id(), 2)?;
+    desk.step(next)?;
+    let mut ends = desk.close();
+    let mut end = ends.pop().expect(rt, "one end");
+    assert!(rt; ends.is_empty());
+    subscription.compare(&mut end);
+    assert!(rt; matches!(subscription.take(rt), Taken::Change(_)));
+    assert!(rt; matches!(subscription.take(rt), Taken::Closed));
+    Ok(())
+}
+
+#[test]
+fn a_subscription_takes_what_it_is_told_of(rt: HostRuntime) -> Result<(), Fail> {
+    let mut desk = alone(&rt, rt.alloc(), 1)?;
+    takes_what_it_is_told_of(&rt, rt.alloc(), &mut *desk)
+}
+
 /// Makes a subscription of this capacity, and drops it.
 fn subscribe<R: Wait>(desk: &mut Desk<&R>, capacity: usize) -> Result<(), DeskError> {
     desk.subscribe(capacity)?;

@@ -1,6 +1,11 @@
 use Rattle.std.proofs.Common.{◌∙◌, ap, sym, [], ◌∷◌}
+use Rattle.rapid_model.specs.Configuration as model
 use Rattle.rapid_view.specs.Seen.{Written}
 use Rattle.rapid_view.proofs.cell.ViewCell.new.Goals as goal
+
+pub seats_of-requires-clause-seen : goal.seats_of-requires-clause-seen
+seats_of-requires-clause-seen g c =
+    ([], ([], c.in_ok-stamps.ensures.0 ∙ ap (λ s. s ∷ []) (c.stamp-stamp.ensures ∙ ap model.stamp (sym c.in_ok-kept.ensures))))
 
 pub returns-clause-of_cell : goal.returns-clause-of_cell
 returns-clause-of_cell g c =
