@@ -1,7 +1,9 @@
 -- Clauses of public calls cite this file.
 -- What a service does with an event.
-use Rattle.std.specs.Prelude.{◌≡◌, ◌⊎◌, List, [], ◌∷◌}
-use Rattle.rapid_model.specs.Node.{Event, Output, configuration_of, has_installed}
+use Rattle.std.specs.Prelude.{◌≡◌, ◌⊎◌, ℕ, List, [], ◌∷◌}
+use Rattle.rapid_model.specs.Bytes.{ConfigurationId}
+use Rattle.rapid_model.specs.Process.{Process}
+use Rattle.rapid_model.specs.Node.{Event, EdgeDown, Output, configuration_of, has_installed}
 use Rattle.rapid_model.specs.NodeStep.{node_step}
 use Rattle.rapid_node.specs.Steps.{HasOutcome}
 use Rattle.rapid_desk.specs.States.{DeskState}
@@ -24,6 +26,10 @@ pub record HasStepped (old : DeskState) (event : Event) (new : DeskState) (sent 
 -- The desk refused the event, before which its journal may have been begun anew, and the node ends by the fault.
 abbrev pub HasRefused : DeskState → Event → DeskState → RunningFault → Type 0
 HasRefused old event new fault = (before : DeskState) × (error : DeskError) × HasSameNode old before × Refused before event new error × (fault ≡ fault_of error)
+
+-- The desk refused an edge that went down, whichever it is, and the node ends by the fault.
+abbrev pub HasRefusedEdge : DeskState → DeskState → RunningFault → Type 0
+HasRefusedEdge old new fault = (id : ConfigurationId) (ring : ℕ) (subject : Process) → HasRefused old (EdgeDown id ring subject) new fault
 
 -- What was put for those who are subscribed: the node's view if it installed something, else nothing.
 abbrev pub Tells : DeskValue → DeskValue → Type 0

@@ -2,6 +2,7 @@
 #![tactic(auto)]
 
 mod fault;
+mod frames;
 mod journal;
 mod post;
 mod present;

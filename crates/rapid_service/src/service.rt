@@ -6,7 +6,7 @@ ghost use Rattle.std.proofs.Props.{props};
 ghost use Rattle.rapid_desk.specs.Desks.{NotSubscribed, seed_state, joiner_state, shown_height};
 ghost use Rattle.rapid_node.specs.Phases.{name_of};
 ghost use Rattle.rapid_model.specs.Configuration.{founding};
-ghost use Rattle.rapid_model.specs.Frame.{IsFrame, frame};
+ghost use Rattle.rapid_model.specs.Frame.{frame};
 ghost use Rattle.rapid_model.specs.Message.{Probe};
 ghost use Rattle.rapid_model.specs.Node as model;
 ghost use Rattle.rapid_model.specs.Packets.{other_members};
@@ -27,11 +27,12 @@ ghost use Rattle.rapid_lines.specs.declared.note.Note.{Note};
 ghost use Rattle.rapid_service.specs.Posting.{postings, to_each, all_but, present_in, stands, PostsSome, SaysAt, SaysSome, SaysAll, SaysFirst};
 ghost use Rattle.rapid_service.specs.Presents.{edges_in, ShowsDown, SameBoards};
 ghost use Rattle.rapid_service.specs.Seats.{had_seats};
-ghost use Rattle.rapid_service.specs.Stepping.{HasStepped, HasRefused, Steps, StepsAll, Fails, FailsAmong, FailsIn, Tells, AllInTurn, OneFails};
+ghost use Rattle.rapid_service.specs.Stepping.{HasStepped, HasRefused, HasRefusedEdge, Steps, StepsAll, Fails, FailsAmong, FailsIn, Tells, AllInTurn, OneFails};
 ghost use Rattle.rapid_service.specs.Subscribing.{StillServes};
 ghost use Rattle.rapid_service.specs.declared.received.Received.TheVariants as fate;
 
 use crate::fault::fault_of;
+use crate::frames::{frame_of, probe_of};
 use crate::journal::shorten;
 use crate::post::Post;
 use crate::present::Present;
@@ -47,7 +48,6 @@ use rapid_repeats::Repeats;
 use rapid_rounds::{EdgeState, MOST_RINGS, ObservedEdges, Part, PartRound, Rounds};
 use rapid_signals::RunningFault;
 use rapid_view::{View, ViewSeat};
-use rapid_wire::encode;
 use std::alloc::{AllocError, Global};
 use std::mem;
 use std::sync::Wait;
@@ -75,23 +75,6 @@ pub struct Service<R: Wait + Copy + Drop, P: Post + Drop> {
     notes: Notes,
     post: P,
     ghost mine: { IfSome present (λ p. p.watch.me ≡ me) } by { Prim.hlevel props },
-}
-
-/// The probe of a configuration, which anyone can say.
-fn probe_of(sender: SharedProcess, id: ConfigId) -> Message
-    ensures { result ≡ record { sender = sender; body = Probe id } }
-{
-    match Message::new(sender, Body::Probe(id)) {
-        Ok(probe) => probe,
-        Err(_) => unreachable!(),
-    }
-}
-
-/// The frame of a message.
-fn frame_of(alloc: Global, message: &Message) -> Result<Bytes, AllocError>
-    ensures { IfOk result (λ bytes. IsFrame bytes message.now) }
-{
-    Ok(Bytes::from_vec(encode(alloc, message)?)?)
 }
 
 /// Sends a frame to each member but one.
@@ -778,8 +761,25 @@ impl<R: Wait + Copy + Drop, P: Post + Drop> Service<R, P> {
         ensures asked { OnOk result (AsksOrNone self.old.lines.items self.old.asking self.new.lines.items self.new.asking) }
     {
         match down {
-            Some(subject) => self.step(Event::EdgeDown(id, ring, subject)),
+            Some(subject) => match SharedProcess::new(self.alloc, &subject) {
+                Ok(subject) => self.step(Event::EdgeDown(id, ring, subject)),
+                Err(_) => Err(self.refuse_edge()),
+            },
             None => Ok(()),
         }
+    }
+
+    /// There is no memory for the event of an edge that went down: the desk refuses it, and its
+    /// subscribers are told as at any refusal.
+    fn refuse_edge(&mut self) -> RunningFault
+        ensures refused { HasRefusedEdge self.old.desk.state self.new.desk.state result }
+        ensures closed { self.new.desk.subscriptions ≡ [] }
+        ensures rest { (self.new.rounds ≡ self.old.rounds) × (self.new.me ≡ self.old.me) × (self.new.desk.count ≡ self.old.desk.count) }
+        ensures notes { self.new.notes.waiting.items ≡ self.old.notes.waiting.items }
+        ensures post { self.new.post ≡ self.old.post }
+    {
+        let error = self.desk.refuse_edge();
+        self.desk.close();
+        fault_of(error)
     }
 }
