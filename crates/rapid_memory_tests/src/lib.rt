@@ -35,6 +35,8 @@ mod rings;
 #[cfg(test)]
 mod running;
 #[cfg(test)]
+mod serving;
+#[cfg(test)]
 mod simulated;
 #[cfg(test)]
 mod tables;

@@ -197,7 +197,10 @@ fn batch(rt: &impl Abort, alloc: Global, node: &Node) -> Result<Event, Fail> {
 fn event(rt: &impl Abort, alloc: Global, node: &Node, word: Word) -> Result<Event, Fail> {
     match word {
         Word::Tick => Ok(Event::Tick),
-        Word::Down(ring, number) => Ok(Event::EdgeDown(shown(rt, node), ring, process(number))),
+        Word::Down(ring, number) => {
+            let subject = shared(alloc, &process(number))?;
+            Ok(Event::EdgeDown(shown(rt, node), ring, subject))
+        }
         Word::Decision(number) => {
             let cut = cut(alloc, number)?;
             heard(alloc, number, Body::Decision(shown(rt, node), cut))

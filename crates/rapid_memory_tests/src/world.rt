@@ -2,7 +2,7 @@
 
 use crate::numbered::{endpoint, id, process};
 use rapid_config::{Configuration, Params};
-use rapid_world::WorldEvent::{Deliver, Leave, Start, Tick};
+use rapid_world::WorldEvent::{Deliver, Leave, Probe, Start, Tick};
 use rapid_world::{Report, World, WorldError, WorldEvent};
 use std::alloc::Global;
 use std::test::Fail;
@@ -130,5 +130,38 @@ fn out_of_memory_as_a_node_leaves(rt: HostRuntime) -> Result<(), Fail> {
     }
     let told = if has_halted(&world) { 0 } else { 3 };
     assert_eq!(rt; world.packets(), told);
+    Ok(())
+}
+
+/// The node of process 1 has this many results of probes of process 2 on the first ring, all in vain.
+fn in_vain(world: &mut World, count: usize) -> Result<(), WorldError> {
+    for _ in 0..count {
+        let _reports = world.step(&Probe(id(1), 0, false))?;
+    }
+    Ok(())
+}
+
+/// How many packets were sent after a tick of the node of process 1, unless it has halted.
+fn sent_at_a_tick(world: &mut World) -> Result<u64, WorldError> {
+    if !has_halted(world) {
+        let _reports = world.step(&Tick(id(1)))?;
+    }
+    Ok(world.packets())
+}
+
+/// The fourth probe in vain brings the edge down, and the node tells process 2 of that at its next tick, or has
+/// halted. If the world refused the probe for memory it does not count: after one that was answered the edge is
+/// up, and the node has nothing to tell.
+#[test]
+fn out_of_memory_as_an_edge_goes_down(rt: HostRuntime) -> Result<(), Fail> {
+    let mut world = pair(rt.alloc())?;
+    in_vain(&mut world, 3)?;
+    assert!(rt; is_accounted_for(&mut world, &Probe(id(1), 0, false)));
+    let is_down = world.accepted() == 4;
+    if !is_down {
+        let _reports = world.step(&Probe(id(1), 0, true))?;
+    }
+    let told = if is_down && !has_halted(&world) { 1 } else { 0 };
+    assert_eq!(rt; sent_at_a_tick(&mut world)?, told);
     Ok(())
 }
