@@ -149,8 +149,8 @@ fn sent_at_a_tick(world: &mut World) -> Result<u64, WorldError> {
     Ok(world.packets())
 }
 
-/// The fourth probe in vain brings the edge down, and the node tells process 2 of that at its next tick, or has
-/// halted. If the world refused the probe for memory it does not count: after one that was answered the edge is
+/// The fourth probe in vain brings the edge down, and the node tells process 2 of that at its next tick, or
+/// halts. If the world refused the probe for memory it does not count: after one that was answered the edge is
 /// up, and the node has nothing to tell.
 #[test]
 fn out_of_memory_as_an_edge_goes_down(rt: HostRuntime) -> Result<(), Fail> {
@@ -161,7 +161,8 @@ fn out_of_memory_as_an_edge_goes_down(rt: HostRuntime) -> Result<(), Fail> {
     if !is_down {
         let _reports = world.step(&Probe(id(1), 0, true))?;
     }
+    let sent = sent_at_a_tick(&mut world)?;
     let told = if is_down && !has_halted(&world) { 1 } else { 0 };
-    assert_eq!(rt; sent_at_a_tick(&mut world)?, told);
+    assert_eq!(rt; sent, told);
     Ok(())
 }
