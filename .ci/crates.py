@@ -27,10 +27,12 @@ def below(name):
     return [*dict.fromkeys(low for it in USES[name] if it in LINES for low in [*below(it), it])]
 
 
-def rt(words, folder, **how):
-    """Runs a command of the toolchain in a folder, and gives how it ended and all that it wrote."""
+def rt(words, folder, nice=0, **how):
+    """Runs a command of the toolchain in a folder, so much nicer than this program, and gives how it ended and all that
+    it wrote."""
     how = {"stdin": subprocess.DEVNULL, "stderr": subprocess.STDOUT, **how}
-    return subprocess.run(["rt", *words], cwd=folder, stdout=subprocess.PIPE, text=True, errors="replace", **how)
+    words = ["nice", f"-{nice}", "rt", *words] if nice else ["rt", *words]
+    return subprocess.run(words, cwd=folder, stdout=subprocess.PIPE, text=True, errors="replace", **how)
 
 
 @functools.lru_cache(maxsize=None)
@@ -106,7 +108,8 @@ def prove(name, jobs):
     with tree_over_libraries(name, "out", os.link) as tree:
         is_program = (folder_of(name) / "src/main.rt").is_file()
         words = ["run", "--jobs", str(jobs), "--", "--help"] if is_program else ["lib", "--jobs", str(jobs)]
-        ran = rt(words, folder_of(name, tree))
+        # only the longest chain has more jobs than one: the others are not to take its processors
+        ran = rt(words, folder_of(name, tree), nice=0 if jobs > 1 else 10)
         take(tree, name)
     return int(not ran.returncode), int(ran.returncode != 0), ran.stdout if ran.returncode else ""
 

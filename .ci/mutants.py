@@ -203,6 +203,7 @@ def run(words):
     changed = [it for it in refused if words == ["all"] and known.get(it) not in (None, lines[it])]
     if changed:
         print(f"check: mutants.txt had another line for {' '.join(changed)}", flush=True)
-    written = {it: lines[it] if it in refused else known.get(it, "") for it in sorted(lines)}
+    kept = known_lines()  # another run may have written lines since
+    written = {it: lines[it] if it in refused else kept.get(it, "") for it in sorted(lines)}
     RECORD.write_text(HEAD + "".join(f"{it}\n" for it in written.values() if it))
     return passed + sum(len(mutants_of(it)) for it in standing), failed + len(changed)

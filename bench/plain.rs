@@ -259,7 +259,7 @@ fn measure_bytes(name: &str, cuts: &[Vec<Process>]) {
     println!("{name} {}", (held() - before) / ROUNDS);
 }
 
-/// Prints the figures that need no process of their own.
+/// Prints the figures that need no process of their own, and times alone.
 fn measure_all() {
     let members: Vec<Process> = (1..=1024).map(process).collect();
     measure("rings_new", 1, 20, || {
@@ -282,12 +282,17 @@ fn measure_all() {
             }
         });
     }
+    frames::measure_all();
+    steps::measure_all();
+}
+
+/// Prints how many bytes fast rounds hold. They need a process of their own: room that was given
+/// back before would not be counted.
+fn measure_memory() {
     let ten_from = |first| (first..first + 10).map(process).collect();
     let cuts: Vec<Vec<Process>> = (1..=1024).map(ten_from).collect();
     measure_bytes("round_bytes_one_cut", &cuts[..1]);
     measure_bytes("round_bytes_own_cuts", &cuts);
-    frames::measure_all();
-    steps::measure_all();
 }
 
 fn main() {
@@ -297,6 +302,7 @@ fn main() {
         None => measure_all(),
         Some("steps") => steps::measure_all(),
         Some("step_bytes") => steps::measure_bytes(),
+        Some("memory") => measure_memory(),
         Some("detect") => {
             let mut run = detect::Run::default();
             lines::answer_all(|line, out| run.answer(line, out));

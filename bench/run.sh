@@ -20,6 +20,12 @@ program() {
     echo "$PWD/$built"
 }
 
+# A program that keeps the memory it frees. Else each run of a figure gives the end of the heap back to
+# the system, and has it again by page faults, which take more time than the steps that are measured.
+keeping() {
+    MALLOC_TRIM_THRESHOLD_=$((1 << 30)) MALLOC_TOP_PAD_=$((1 << 26)) MALLOC_MMAP_THRESHOLD_=$((1 << 30)) "$@"
+}
+
 # Puts lines NAME NUMBER of both programs side by side: beside PLAIN PROVED.
 beside() {
     awk 'NR == FNR { plain[$1] = $2; next }
@@ -39,7 +45,7 @@ worlds() {
     beside "$room/other" "$room/proved"
 }
 
-# The plain figures of rapid_bench's words are all taken at once, the first time that one is wanted.
+# Times: the plain figures of all words are taken at once, the first time that one is wanted.
 inner() {
     local bench
     bench=$(program rapid_bench)
@@ -49,8 +55,8 @@ inner() {
         beside "$room/plain_bytes" "$room/proved"
         return
     fi
-    [ -e "$room/plain_all" ] || "$room/plain" >"$room/plain_all"
-    "$bench" "$1" >"$room/proved"
+    [ -e "$room/plain_all" ] || keeping "$room/plain" >"$room/plain_all"
+    keeping "$bench" "$1" >"$room/proved"
     beside "$room/plain_all" "$room/proved"
 }
 
@@ -61,7 +67,7 @@ printf "%-24s %12s %12s %8s\n" figure proved plain ratio
 for word in "$@"; do
     case $word in
         worlds) worlds ;;
-        views | edges | desks)
+        memory | views | edges | desks)
             bench=$(program rapid_bench)
             "$bench" "$word" >"$room/proved"
             "$room/plain" "$word" >"$room/other"

@@ -35,7 +35,7 @@ use std::thread::Threads;
 use std::time::Clock;
 use worlds::Plan;
 
-/// What is printed if no word names a figure.
+/// What is printed if no word names a figure, or asks for this.
 const USAGE: &str = "rapid_bench WORD.. prints figures, a line each: NAME, a space, a number.
   votes     nanoseconds of a vote among 1,024 members, for cuts of 1, 10 and 100 processes
   memory    bytes of a fast round after 1,024 votes, for one cut and for a cut each
@@ -102,6 +102,10 @@ fn print_more<R: Print + Clock + Files + Alloc>(rt: &R, alloc: Global, word: &st
         "world_200" => worlds::print(rt, alloc, word, &plan(200, 2, &[])),
         "world_1000" => worlds::print(rt, alloc, word, &plan(1000, 10, &[])),
         "world_200_tagged" => worlds::print(rt, alloc, word, &plan(200, 2, &FULL_TAGS)),
+        "--help" => {
+            println!(rt; "{USAGE}")?;
+            Ok(())
+        }
         other => bail!("no figure is called {other}"),
     }
 }
@@ -110,7 +114,7 @@ fn main(rt: HostRuntime) -> Result<()> {
     let alloc = rt.alloc();
     let words: Vec<String> = env::args(&rt)?.collect(alloc)?;
     if words.len() < 2 {
-        println!(rt; "{USAGE}")?;
+        print_figures(&rt, alloc, "--help")?;
     }
     for word in words.iter().skip(1) {
         print_figures(&rt, alloc, word.as_str())?;
