@@ -1,4 +1,5 @@
 pub mod Batches
+pub mod Entries
 pub mod Indexes
 pub mod Listing
 pub mod Marks

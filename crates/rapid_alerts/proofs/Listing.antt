@@ -21,7 +21,7 @@ use Rattle.rapid_alerts.specs.declared.list.Item.{Item}
 -- ---- subjects
 
 -- the one that was put at the end
-pub at_end : (ss : List Process) (s : Process) → slice_get (ss ++ s ∷ []) (length ss) ≡ Some s
+pub at_end : {A : Type 0} (ss : List A) (s : A) → slice_get (ss ++ s ∷ []) (length ss) ≡ Some s
 at_end [] s = refl
 at_end (x ∷ ss) s = at_end ss s
 
@@ -114,6 +114,10 @@ item_of_alert l i a h = ap (λ xs. slice_get xs i) (sym (listed_items l)) ∙ sl
 -- the subject at a place is that of the alert there
 pub subject_is : (xs : List model.Alert) (i : ℕ) (a : model.Alert) (s : Process) → slice_get (map (λ x. x.subject) xs) i ≡ Some s → slice_get xs i ≡ Some a → s ≡ a.subject
 subject_is xs i a s h k = let e : Some s ≡ Some a.subject = sym h ∙ slice_get_map (λ x. x.subject) xs i a k in cc
+
+-- the alert that was put at the end
+pub last_at : (xs ys : List model.Alert) (a : model.Alert) (at : ℕ) → ys ≡ xs ++ a ∷ [] → at ≡ length xs → slice_get ys at ≡ Some a
+last_at xs ys a at e n = (λ i. slice_get (e i) (n i)) ∙ at_end xs a
 
 -- ---- lists of the same alerts
 

@@ -15,7 +15,7 @@ use Rattle.rapid_model.proofs.Orders.{reports_total, reports_exact, processes_to
 use Rattle.rapid_alerts.specs.declared.mark.Marks.{Marks}
 use Rattle.rapid_alerts.specs.Outboxes.{Index, empty_index, indexed, has_room}
 use Rattle.rapid_alerts.specs.RingMasks.{has_ring, with_rings}
-use Rattle.rapid_alerts.specs.Marks.{no_marks, marks_of, is_reported, is_joiner, reports_in, joiners_of, index_in, IsOn}
+use Rattle.rapid_alerts.specs.Marks.{no_marks, marks_of, is_reported, is_joiner, reports_in, joiners_of, index_in, IsIndex, IsOn}
 use Rattle.rapid_alerts.proofs.RingMasks.{no_both, no_ring, below, on_these, found_in}
 use Rattle.std.proofs.lemmas.Bool.{and_parts, and_from}
 use Rattle.rapid_model.proofs.Logic.{and_is}
@@ -60,8 +60,10 @@ joins_seen es s =
     ∙ and_is _ _ (λ h. has_key es s (λ m. m.joins) refl h)
 
 -- what is kept of a subject is what the index says of it
-pub on_is : (es : List (Process × Marks)) (s : Process) → IsOn (index_in es) s (marks_of es s)
-on_is es s = record { rings = λ k. seen es (s, k); joins = joins_seen es s }
+pub on_is : (es : List (Process × Marks)) (s : Process) (m : Marks) {i : Index} → index_in es ≡ i → m ≡ marks_of es s → IsOn i s m
+on_is es s m {i} is kept =
+    let own : IsOn (index_in es) s (marks_of es s) = record { rings = λ k. seen es (s, k); joins = joins_seen es s } in
+    subst (IsOn i s) (sym kept) (subst (λ (j : Index). IsOn j s (marks_of es s)) is own)
 
 -- ---- no marks
 
@@ -77,8 +79,9 @@ index_is r j = λ k. record { reports = r k; joiners = j k }
 pub none_in : (es : List (Process × Marks)) → es ≡ [] → index_in es ≡ empty_index
 none_in es e = ap index_in e ∙ index_is no_reports no_joiners
 
-pub none_counted : (es : List (Process × Marks)) → es ≡ [] → 0 ≡ set.len (joiners_of es)
-none_counted es e = sym (ap (λ l. set.len (joiners_of l)) e ∙ ap set.len no_joiners ∙ set.len-empty process_cmp)
+pub none_index : (es : List (Process × Marks)) → es ≡ [] → IsIndex es 0
+none_index es e =
+    subst (λ l. IsIndex l 0) (sym e) (record { ascend = tt; counted = sym (ap set.len no_joiners ∙ set.len-empty process_cmp) })
 
 -- ---- other marks for a subject
 

@@ -14,10 +14,13 @@ use Rattle.rapid_model.specs.Alert.{Alert, Kind, Remove, Join, same_kind, same_a
 use Rattle.rapid_model.specs.Reports.{Report, report_cmp, report_of}
 use Rattle.rapid_model.specs.Outbox.{Outbox, Raising, Raised, Already, WrongObserver, WrongKind, OldConfiguration, TooManyJoiners, is_own, has_room, raising, after_raising}
 use Rattle.rapid_model.proofs.Orders.{reports_total, reports_exact, tie_decides, same_bytes_decides}
+use Rattle.rapid_model.specs.Message.{item_of}
+use Rattle.rapid_alerts.specs.Alerts.{ListedAlerts, alerts_in}
 use Rattle.rapid_alerts.specs.Outboxes.{OwnedOutbox, Index, indexed, has_room as index_has_room, answered, verdict, is_sound, refusal, are_once, IsOutbox}
 use Rattle.rapid_alerts.specs.Refusals.{Refuses, RefusesIfAny}
 use Rattle.rapid_alerts.specs.declared.errors.RaiseError.{RaiseError}
 use Rattle.rapid_alerts.proofs.Indexes.{index_more, room_is}
+use Rattle.rapid_alerts.proofs.Listing.{listed_more}
 use Rattle.std.proofs.lemmas.Bool.{and_parts, and_from, or_cases}
 
 -- ---- two alerts that are the same
@@ -276,6 +279,13 @@ raised_kept t owner o i a h e =
 pub kept_seen : (t : Observers) (owner : Process) (o : Outbox) (i j : Index) (a : Alert) (xs : List Alert) → IsOutbox t owner o i → raising t owner o a ≡ Raised → xs ≡ o.raised ++ a ∷ [] → j ≡ indexed i a
     → IsOutbox t owner (record { raised = xs; flushed = o.flushed }) j
 kept_seen t owner o i j a xs h e r x = rw (r, x) (raised_kept t owner o i a h e)
+
+-- an alert that is raised is the last of the list that it is put in
+pub raised_last : (t : Observers) (l m : ListedAlerts) (flushed : ℕ) (i : Index) (a : Alert) → IsOutbox t l.observer (record { raised = alerts_in l; flushed = flushed }) i → l.config ≡ t.id
+    → raising t l.observer (record { raised = alerts_in l; flushed = flushed }) a ≡ Raised → m ≡ record l { items = l.items ++ item_of a ∷ [] } → alerts_in m ≡ alerts_in l ++ a ∷ []
+raised_last t l m flushed i a h config e more =
+    let parts = parts_of t l.observer a (raised_parts t l.observer (record { raised = alerts_in l; flushed = flushed }) i a h e).0 in
+    listed_more l m a more parts.observer (parts.config ∙ sym config)
 
 -- the ring of an alert that is raised is one of sixteen
 pub raised_ring : (t : Observers) (owner : Process) (o : Outbox) (i : Index) (a : Alert) → IsOutbox t owner o i → raising t owner o a ≡ Raised → t.params.k ≤ 16 → a.ring < 16

@@ -1,6 +1,7 @@
 -- What is kept of the alerts on a subject, and the index that it stands for.
-use Rattle.std.specs.Prelude.{◌≡◌, ℕ, Bool, false, List, filter, Option, Some, None}
+use Rattle.std.specs.Prelude.{◌≡◌, ℕ, Bool, false, T, List, filter, Option, Some, None}
 use Rattle.std.specs.Option.{unwrap_or}
+use Rattle.std.specs.FinMap.Entries.{is_sorted}
 use Rattle.std.specs.FinSet as set
 use Rattle.std.specs.Map.{keys_of, lookup}
 use Rattle.std.specs.BTreeMap.{is_at}
@@ -38,6 +39,11 @@ joiners_of es = set.from_list (filter (is_joiner es) (keys_of es))
 -- The index of these alerts.
 abbrev pub index_in : List (Process × Marks) → Index
 index_in es = record { reports = reports_in es; joiners = joiners_of es }
+
+-- The entries ascend by their subjects, and so many of these are joiners.
+pub record IsIndex (es : List (Process × Marks)) (joiners : ℕ) : Type 0 where
+  pub ascend : T (is_sorted process_cmp es)
+  pub counted : joiners ≡ set.len (joiners_of es)
 
 -- These marks are what the index has of the alerts on this subject.
 pub record IsOn (i : Index) (s : Process) (m : Marks) : Type 0 where

@@ -1,7 +1,11 @@
 // What finds alerts again.
 
-ghost use Rattle.std.specs.Prelude.{◌≡◌, ◌<◌, ◌+◌, true, ◌||◌, nat_lt, if◌then◌else◌, IfOk, OnOk, OnErr};
+ghost use Rattle.std.specs.Prelude.{◌≡◌, ◌<◌, ◌≤◌, ◌+◌, true, ◌||◌, length, nat_lt, if◌then◌else◌, T, IfOk, OnOk, OnErr};
+ghost use Rattle.std.specs.List.{insert};
+ghost use Rattle.std.specs.List.Sorted.{IsSearchInRange, IsBinarySearchResult};
+ghost use Rattle.std.specs.FinMap.Entries.{is_sorted, put};
 ghost use Rattle.std.specs.FinSet as set;
+ghost use Rattle.rapid_model.specs.Process.{process_cmp};
 ghost use Rattle.rapid_model.specs.Alert.{is_remove};
 ghost use Rattle.rapid_model.specs.Reports.{report_of};
 ghost use Rattle.rapid_model.specs.Limits.{most_joiners, most_rings};
@@ -13,32 +17,78 @@ use crate::mark::Marks;
 use crate::ring_mask::has_bit;
 use crate::{Alert, Kind};
 use rapid_config::Cut;
-use rapid_endpoint::Process;
+use rapid_endpoint::{Process, SharedProcess};
 use std::alloc::{AllocError, Global};
-use std::collections::BTreeMap;
 use std::marker::Model;
 
-/// What alerts report, and how many joiners they are on: an entry for each subject.
+/// What alerts report, and how many joiners they are on: an entry for each subject, which it shares
+/// with the list of alerts.
 #[derive(Debug, Drop)]
 pub(crate) struct Index {
-    marks: BTreeMap<Process, Marks>,
+    // by ascending subject
+    marks: Vec<(SharedProcess, Marks)>,
     // how many of the subjects are joiners
     joiners: usize,
 }
 
 impl Model for Index {
-    ghost use Rattle.std.specs.Prelude.{◌≡◌};
-    ghost use Rattle.std.specs.FinSet as set;
     ghost use Rattle.rapid_alerts.specs.Outboxes.{Index as ModelIndex, index_code};
-    ghost use Rattle.rapid_alerts.specs.Marks.{index_in, joiners_of};
+    ghost use Rattle.rapid_alerts.specs.Marks.{index_in, IsIndex};
 
     ghost Value = { ModelIndex };
 
     ghost coded = { index_code };
 
-    ghost view = { λ i. index_in i.marks.entries };
+    ghost view = { λ i. index_in i.marks.items };
 
-    ghost invariant = { λ i. i.joiners ≡ set.len (joiners_of i.marks.entries) };
+    ghost invariant = { λ i. IsIndex i.marks.items i.joiners };
+}
+
+/// The place of a subject's entry among entries that ascend, or the place where it would stand.
+fn find_place(entries: &[(SharedProcess, Marks)], subject: &Process) -> Result<usize, usize>
+    ensures bound { IsSearchInRange result (length entries.now) }
+    ensures position { IsBinarySearchResult (λ e. process_cmp e.0 subject.now) entries.now result }
+{
+    entries.binary_search_by(|entry| entry.0.get().cmp(subject))
+}
+
+/// Puts an entry in at this place. If out of memory the entries are as they were.
+fn add_entry(
+    entries: &mut Vec<(SharedProcess, Marks)>,
+    at: usize,
+    subject: &SharedProcess,
+    marks: Marks,
+) -> Result<(), AllocError>
+    requires { at ≤ length entries.old.items }
+    ensures added { OnOk result (entries.new.items ≡ insert entries.old.items at (subject.now, marks)) }
+    ensures unchanged { OnErr result (entries.new.items ≡ entries.old.items) }
+{
+    // the first takes no more room than it needs: often there is no other
+    if entries.is_empty() {
+        entries.reserve_exact(1)?;
+    }
+    entries.insert(at, (subject.share()?, marks))?;
+    Ok(())
+}
+
+/// Puts the marks of a subject in the place of those that it has, or adds them, which alone takes
+/// memory. If out of memory the entries are as they were.
+fn put_marks(
+    entries: &mut Vec<(SharedProcess, Marks)>,
+    subject: &SharedProcess,
+    marks: Marks,
+) -> Result<(), AllocError>
+    requires { T (is_sorted process_cmp entries.old.items) }
+    ensures ok { OnOk result (entries.new.items ≡ put process_cmp subject.now marks entries.old.items) }
+    ensures unchanged { OnErr result (entries.new.items ≡ entries.old.items) }
+{
+    match find_place(entries.as_slice(), subject.get()) {
+        Ok(at) => {
+            entries[at].1 = marks;
+            Ok(())
+        }
+        Err(at) => add_entry(entries, at, subject, marks),
+    }
 }
 
 impl Index {
@@ -47,7 +97,7 @@ impl Index {
         ensures { result ≡ empty_index }
     {
         Index {
-            marks: BTreeMap::new(alloc),
+            marks: Vec::new(alloc),
             joiners: 0,
         }
     }
@@ -56,7 +106,10 @@ impl Index {
     pub(crate) fn on(&self, subject: &Process) -> Marks
         ensures { IsOn self.now subject.now result }
     {
-        self.marks.get(subject).copied().unwrap_or(Marks::NONE)
+        match find_place(&self.marks, subject) {
+            Ok(at) => self.marks[at].1,
+            Err(_) => Marks::NONE,
+        }
     }
 
     /// Whether an alert on this subject and ring is there, by the marks of its subject.
@@ -83,37 +136,37 @@ impl Index {
     }
 
     /// Adds an alert on a subject that has these marks and stands at this place in the list of
-    /// alerts. If out of memory the index is as it was.
-    pub(crate) fn add(&mut self, alert: &Alert, marks: Marks, place: u16) -> Result<(), AllocError>
+    /// alerts, with which it is shared. If out of memory the index is as it was.
+    pub(crate) fn add(
+        &mut self,
+        alert: &Alert,
+        marks: Marks,
+        place: u16,
+        subject: &SharedProcess,
+    ) -> Result<(), AllocError>
         requires ring { alert.now.ring < most_rings }
         requires marks { IsOn self.old alert.now.subject marks }
         requires room { has_room self.old (alert_of alert.now) ≡ true }
+        requires subject { subject.now ≡ alert.now.subject }
         ensures added { OnOk result (self.new ≡ indexed self.old (alert_of alert.now)) }
         ensures unchanged { OnErr result (self.new ≡ self.old) }
     {
         let now = marks.with(alert.ring, alert.kind, place);
         let joiners = counted(alert.kind, marks.joins, self.joiners);
-        self.marks.insert(alert.subject, now)?;
+        put_marks(&mut self.marks, subject, now)?;
         self.joiners = joiners;
         Ok(())
     }
 
-    /// An equal index.
+    /// An equal index, which shares the processes. If it is empty, it takes no memory.
     pub(crate) fn try_copy(&self) -> Result<Index, AllocError>
         ensures { IfOk result (λ copy. copy ≡ self.now) }
     {
         Ok(Index {
-            marks: copied(&self.marks)?,
+            marks: self.marks.clone()?,
             joiners: self.joiners,
         })
     }
-}
-
-/// The same marks.
-fn copied(marks: &BTreeMap<Process, Marks>) -> Result<BTreeMap<Process, Marks>, AllocError>
-    ensures { IfOk result (λ copy. copy.entries ≡ marks.now.entries) }
-{
-    marks.clone()
 }
 
 /// Whether there is room for an alert of this kind: it asks to let nobody in, or one that others

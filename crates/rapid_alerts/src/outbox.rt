@@ -31,33 +31,38 @@ fn refusal_of<T: ObserverTable>(table: &T, owner: &Process, alert: &Alert) -> Op
     ensures { RefusesIfAny (refusal (T.observers table.now) owner.now (alert_of alert.now)) result }
 {
     if alert.config != table.id() {
-        Some(RaiseError::OldConfiguration)
-    } else if !is_own(table, owner, alert) {
+        return Some(RaiseError::OldConfiguration);
+    }
+    let (is_own, kind_fits) = check(table, owner, alert);
+    if !is_own {
         Some(RaiseError::WrongObserver)
-    } else if !kind_fits(table, alert) {
+    } else if !kind_fits {
         Some(RaiseError::WrongKind)
     } else {
         None
     }
 }
 
-/// Whether the owner is the alert's observer, and the one that the table has.
-fn is_own<T: ObserverTable>(table: &T, owner: &Process, alert: &Alert) -> bool
-    ensures { result ≡ model.is_own (T.observers table.now) owner.now (alert_of alert.now) }
+/// Whether the owner is the alert's observer, and the one that the table has. And whether the kind
+/// is Remove exactly if the subject is a member. The subject is searched for once.
+fn check<T: ObserverTable>(table: &T, owner: &Process, alert: &Alert) -> (bool, bool)
+    ensures own { result.0 ≡ model.is_own (T.observers table.now) owner.now (alert_of alert.now) }
+    ensures kind { result.1 ≡ fits (T.observers table.now) (alert_of alert.now) }
 {
-    alert.observer == *owner
-        && alert.ring < table.params().k()
-        && table.observer(alert.ring, &alert.subject) == Some(*owner)
-}
-
-/// Whether the kind is Remove exactly if the subject is a member.
-fn kind_fits<T: ObserverTable>(table: &T, alert: &Alert) -> bool
-    ensures { result ≡ fits (T.observers table.now) (alert_of alert.now) }
-{
-    match alert.kind {
-        Kind::Remove => table.is_member(&alert.subject),
-        Kind::Join => !table.is_member(&alert.subject),
-    }
+    // any place will do: it is a guess
+    let mut place = 0;
+    let (member, observes) = table.member_and_observes_near(
+        owner,
+        alert.ring,
+        &alert.subject,
+        &mut place,
+    );
+    let is_own = alert.observer == *owner && alert.ring < table.params().k() && observes;
+    let kind_fits = match alert.kind {
+        Kind::Remove => member,
+        Kind::Join => !member,
+    };
+    (is_own, kind_fits)
 }
 
 /// What is answered to an alert after those of an index: the marks of its subject if it is to be
@@ -181,10 +186,12 @@ impl<T: ObserverTable> Outbox<T> {
     {
         // where it is told that there are at most sixteen rings
         let _ = self.table.params();
+        let at = self.raised.len();
         let place = self
             .raised
             .push_near(marks.place, &alert.subject, alert.ring, alert.kind)?;
-        match self.index.add(alert, marks, place) {
+        let subject = self.raised.shared_subject(at);
+        match self.index.add(alert, marks, place, subject) {
             Ok(()) => Ok(()),
             Err(error) => {
                 self.raised.pop();

@@ -12,7 +12,7 @@ use Rattle.rapid_model.specs.Cut.{Cut, cut_cmp, same_cut}
 use Rattle.rapid_model.specs.FastRound.{Counts, count_of, one_more}
 use Rattle.rapid_model.proofs.Orders.{cuts_total}
 use Rattle.rapid_model.proofs.Rounds.{count_of-one_more}
-use Rattle.rapid_fast.proofs.Places.{searchable, put_found, find_found, put_missing, find_missing}
+use Rattle.rapid_model.proofs.Places.{searchable, put_found, find_found, put_missing, find_missing}
 
 pub no_counts : ◌≡◌ {A = Counts} (map.from_sorted []) map.empty
 no_counts = map.empty_of_len _ (map.len-entries _ ∙ ap length (map.entries-from_sorted cut_cmp [] tt))

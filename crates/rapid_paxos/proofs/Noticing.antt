@@ -14,7 +14,7 @@ use Rattle.rapid_model.specs.Ballot.{Ballot, ballot_cmp, same_ballot}
 use Rattle.rapid_model.specs.Learner.{Notice, notice_cmp, notice_count}
 use Rattle.rapid_model.proofs.Orders.{ballots_total, ballots_exact, cuts_total, cuts_exact, notices_total, first_equal, second_equal, tie_decides}
 use Rattle.rapid_agreement.proofs.SetLemmas.{insert_known, len-passed, len-failed}
-use Rattle.rapid_fast.proofs.Places.{searchable, put_found, find_found, put_missing, find_missing}
+use Rattle.rapid_model.proofs.Places.{searchable, put_found, find_found, put_missing, find_missing}
 use Rattle.rapid_paxos.specs.Notices.{Entries, key_cmp, all_notices, notices_of, positions_at, AreEntries}
 use Rattle.rapid_model.proofs.Logic.{equal_is}
 

@@ -1,8 +1,8 @@
-use Rattle.rapid_alerts.proofs.Marks.{none_in, none_counted}
+use Rattle.rapid_alerts.proofs.Marks.{none_in, none_index}
 use Rattle.rapid_alerts.proofs.index.Index.new.Goals as goal
 
 pub invariant_of-result : goal.invariant_of-result
-invariant_of-result c = none_counted c.new.result.entries c.new.ensures.empty
+invariant_of-result c = none_index c.new.result.items c.new.ensures.items
 
 pub returns : goal.returns
-returns c = none_in c.new.result.entries c.new.ensures.empty
+returns c = none_in c.new.result.items c.new.ensures.items

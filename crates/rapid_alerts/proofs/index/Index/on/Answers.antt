@@ -1,14 +1,19 @@
-use Rattle.std.proofs.Common.{◌≡◌, Option, ap, sym, subst, ◌∙◌}
-use Rattle.std.specs.Option.{unwrap_or}
-use Rattle.rapid_alerts.specs.declared.mark.Marks.{Marks}
-use Rattle.rapid_alerts.specs.Outboxes.{Index}
-use Rattle.rapid_alerts.specs.Marks.{IsOn, marks_of, no_marks}
 use Rattle.rapid_alerts.proofs.Marks.{on_is}
+use Rattle.rapid_alerts.proofs.Entries.{marks_there, none_there}
 use Rattle.rapid_alerts.proofs.index.Index.on.Goals as goal
 
-pub returns : goal.returns
-returns c =
-    let es = c.self.inside.marks.entries in
+pub returns-in-Ok : goal.returns-in-Ok
+returns-in-Ok c =
+    let es = c.self.inside.marks.items in
     let s = c.args.subject.now in
-    let found : c.unwrap_or.result ≡ marks_of es s = c.unwrap_or.ensures ∙ ap (λ (o : Option Marks). unwrap_or o no_marks) (c.copied.ensures ∙ c.get.ensures.value) in
-    subst (IsOn c.args.self.now s) (sym found) (subst (λ (i : Index). IsOn i s (marks_of es s)) c.self.view_is (on_is es s))
+    on_is es s c.index.result.now.1 c.self.view_is
+    (marks_there es c.deref.result.now s c.self.invariant.ascend c.deref.ensures.value
+    c.in-Ok.at c.index.result.now c.in-Ok.ensures.bound c.in-Ok.ensures.position c.index.ensures)
+
+pub returns-in-Err : goal.returns-in-Err
+returns-in-Err c =
+    let es = c.self.inside.marks.items in
+    let s = c.args.subject.now in
+    on_is es s _ c.self.view_is
+    (none_there es c.deref.result.now s c.self.invariant.ascend c.deref.ensures.value
+    c.in-Err.field-0 c.in-Err.ensures.bound c.in-Err.ensures.position)

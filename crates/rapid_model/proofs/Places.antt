@@ -2,7 +2,7 @@
 use Rattle.std.proofs.Common.{◌≡◌, ℕ, zero, suc, ◌≤◌, ◌<◌, Bool, true, false, cond, T, ◌&&◌, List, [], ◌∷◌, length, set, get_or, refl, sym, ap, subst, ◌∙◌, arith, inl, inr, ◌⊎◌, Some, None}
 use Rattle.std.specs.declared.cmp.Ordering.{Ordering}
 use Rattle.std.specs.declared.cmp.Ordering.TheVariants.{Less, Equal, Greater}
-use Rattle.std.specs.Ordering.{is_lt, is_eq, ordering_reverse, ordering_index}
+use Rattle.std.specs.Ordering.{is_eq, ordering_reverse, ordering_index}
 use Rattle.std.specs.Cmp.{IsTotalOrder, alike_right, tied_back}
 use Rattle.std.specs.List.{insert, AllWithin}
 use Rattle.std.specs.List.Sorted.{IsNonDecreasingBy}
