@@ -1,7 +1,9 @@
 -- The stable processes are a cut.
-use Rattle.std.proofs.Common.{◌≡◌, ℕ, zero, suc, ◌+◌, ◌≤◌, Bool, true, false, cond, not, ◌||◌, List, [], ◌∷◌, length, filter, refl, sym, ap, subst, ◌∙◌, arith, Some, None, nat_lt, nat_le}
+use Rattle.std.proofs.Common.{◌≡◌, ℕ, zero, suc, ◌+◌, ◌≤◌, ◌<◌, Bool, true, false, cond, not, ◌||◌, List, [], ◌∷◌, ◌++◌, length, filter, take, get_or, refl, sym, ap, subst, ◌∙◌, arith, Some, None, nat_lt, nat_le}
 use Rattle.std.specs.Prelude.{All}
 use Rattle.std.specs.List.{list_any}
+use Rattle.std.proofs.lemmas.List.{append-nil}
+use Rattle.std.proofs.lemmas.List.Elements.{filter_more}
 use Rattle.std.proofs.lemmas.List.Kept.{IsStrictlySortedBy-filter}
 use Rattle.rapid_model.specs.Process.{Process, process_cmp, is_in, same_bytes}
 use Rattle.rapid_model.specs.Cut.{is_ascending}
@@ -18,6 +20,17 @@ use Rattle.rapid_cut.specs.Limits.{IsWithinLimits, IsDetecting}
 use Rattle.rapid_cut.proofs.OnePass.{low_before}
 use Rattle.rapid_cut.proofs.Joiners.{sorted_subjects}
 use Rattle.std.proofs.lemmas.Bool.{and_parts}
+
+-- one process more, which is listed if it passes
+pub passes_more : (p : Process → Bool) (xs : List Process) (i : ℕ) (x : Process) (b : Bool) (found more : List Process) → i < length xs → x ≡ get_or xs i x → b ≡ p x → more ≡ cond b (found ++ x ∷ []) found → found ≡ filter p (take i xs)
+    → more ≡ filter p (take (i + 1) xs)
+passes_more p xs i x b found more below at passes m h =
+    m ∙ apart found x b ∙ ap (λ ys. ys ++ cond b (x ∷ []) []) h ∙ ap (λ c. filter p (take i xs) ++ cond c (x ∷ []) []) passes
+    ∙ ap (λ y. filter p (take i xs) ++ cond (p y) (y ∷ []) []) at ∙ sym (filter_more p xs i x below)
+  where
+    apart : (ys : List Process) (y : Process) (c : Bool) → cond c (ys ++ y ∷ []) ys ≡ ys ++ cond c (y ∷ []) []
+    apart ys y true = refl
+    apart ys y false = sym (append-nil ys)
 
 only_memory : (e : ConfigError) → Refuses None e → e ≡ OutOfMemory
 only_memory BadParams h = cc

@@ -1,11 +1,12 @@
 -- Processes put in their places among those that ascend: two lists are merged, stretch by stretch.
 use Rattle.std.proofs.Common.{◌≡◌, ℕ, zero, suc, ◌+◌, ◌<◌, ◌≤◌, Bool, true, false, ◌||◌, List, [], ◌∷◌, ◌++◌, length, take, drop, get_or, refl, sym, ap, subst, ◌∙◌, arith, add-one}
-use Rattle.std.specs.List.{AllByRecursion}
+use Rattle.std.specs.List.{AllByRecursion, AppendsClones}
 use Rattle.std.specs.List.Sorted.{IsStrictlySortedBy, IsPartitionPoint, IsNonDecreasingBy}
 use Rattle.std.specs.declared.cmp.Ordering.TheVariants.{Less, Equal, Greater}
 use Rattle.std.specs.Ordering.{is_lt, ordering_index, ordering_reverse, match_ordering}
 use Rattle.std.specs.BTreeSet.{insert_key}
 use Rattle.std.proofs.lemmas.List.{append_assoc, take_more}
+use Rattle.std.proofs.lemmas.List.Elements.{same_from_all_zip}
 use Rattle.std.proofs.lemmas.List.Folds.{list_any-append}
 use Rattle.std.proofs.lemmas.List.Sorted.{searchable_from_sorted}
 use Rattle.std.proofs.lemmas.Map.Keys.{Less-from_sorted}
@@ -64,6 +65,10 @@ put_at_gap (x ∷ xs) g (suc i) within point =
     ∙ sym (ap (λ r. match_ordering r (g ∷ x ∷ xs) (x ∷ xs) (x ∷ insert_key process_cmp xs g)) (turned x g (point.0 0 x (omega arith) (omega arith))))
 
 -- ---- one after another
+
+-- clones that are equal to what they are made of
+pub clones_added : (old new more : List Process) → AppendsClones (λ p q. q ≡ p) old new more → new ≡ old ++ more
+clones_added old new more (ys, e, alike) = e ∙ ap (λ ps. old ++ ps) (same_from_all_zip (λ p q. q ≡ p) more ys alike (λ p q same. same))
 
 above_at : (x g : Process) (xs zs : List Process) → Above x (xs ++ g ∷ zs) → process_cmp x g ≡ Less
 above_at x g [] zs a = a.0

@@ -1,32 +1,19 @@
 // Lists of processes in order.
 
-ghost use Rattle.std.specs.Prelude.{◌≡◌, ◌++◌, IfOk};
-ghost use Rattle.std.specs.List.Sorted.{IsStrictlySortedBy};
+ghost use Rattle.std.specs.Prelude.{◌≡◌, ◌++◌, length, IfOk};
+ghost use Rattle.std.specs.List.Sorted.{IsStrictlySortedBy, IsSearchInRange, IsBinarySearchResult};
 ghost use Rattle.rapid_model.specs.Process.{process_cmp};
 ghost use Rattle.rapid_model.specs.InOrder.{in_order};
 ghost use Rattle.rapid_cut.specs.Merging.{PutsBelow};
 
-use rapid_endpoint::Process;
+use rapid_endpoint::SharedProcess;
 use std::alloc::{AllocError, Global};
 
 /// The same processes ascending, each once.
-pub fn ascending(processes: Vec<Process>) -> Vec<Process>
+pub fn ascending(mut processes: Vec<SharedProcess>) -> Vec<SharedProcess>
     ensures { result.items ≡ in_order process_cmp processes.items }
 {
-    // as at most batches
-    if processes.is_empty() {
-        return processes;
-    }
-    sorted(processes)
-}
-
-/// The same processes ascending, each once. It stands apart: room for processes takes time at each
-/// call of the function that has it.
-#[inline(never)]
-fn sorted(mut processes: Vec<Process>) -> Vec<Process>
-    ensures { result.items ≡ in_order process_cmp processes.items }
-{
-    processes.sort_unstable();
+    processes.sort_unstable_by(|one, other| one.get().cmp(other.get()));
     processes.dedup();
     processes
 }
@@ -35,9 +22,9 @@ fn sorted(mut processes: Vec<Process>) -> Vec<Process>
 /// they are, so the second is to be the shorter one.
 pub fn merged(
     alloc: Global,
-    first: &[Process],
-    second: &[Process],
-) -> Result<Vec<Process>, AllocError>
+    first: &[SharedProcess],
+    second: &[SharedProcess],
+) -> Result<Vec<SharedProcess>, AllocError>
     requires first { IsStrictlySortedBy process_cmp first.now }
     requires second { IsStrictlySortedBy process_cmp second.now }
     ensures { IfOk result (λ found. found.items ≡ in_order process_cmp (first.now ++ second.now)) }
@@ -47,30 +34,38 @@ pub fn merged(
     for process in second {
         rest = push_below(&mut found, rest, process)?;
     }
-    found.extend_from_slice(rest)?;
+    found.extend_with_clones(rest)?;
     Ok(found)
 }
 
 /// Adds those of the rest that are below a process, and the process; what is left is above it.
 fn push_below<'a>(
-    found: &mut Vec<Process>,
-    rest: &'a [Process],
-    process: &Process,
-) -> Result<&'a [Process], AllocError>
+    found: &mut Vec<SharedProcess>,
+    rest: &'a [SharedProcess],
+    process: &SharedProcess,
+) -> Result<&'a [SharedProcess], AllocError>
     requires { IsStrictlySortedBy process_cmp rest.now }
     ensures { IfOk result (λ above. PutsBelow found.old.items rest.now process.now found.new.items above.now) }
 {
-    match rest.binary_search(process) {
+    match place(rest, process) {
         Ok(place) => {
             let (below, above) = rest.split_at(place + 1);
-            found.extend_from_slice(below)?;
+            found.extend_with_clones(below)?;
             Ok(above)
         }
         Err(place) => {
             let (below, above) = rest.split_at(place);
-            found.extend_from_slice(below)?;
-            found.push(*process)?;
+            found.extend_with_clones(below)?;
+            found.push(process.share()?)?;
             Ok(above)
         }
     }
+}
+
+/// The place of a process among some that ascend, or the place where it would stand.
+fn place(processes: &[SharedProcess], process: &SharedProcess) -> Result<usize, usize>
+    ensures bound { IsSearchInRange result (length processes.now) }
+    ensures position { IsBinarySearchResult (λ kept. process_cmp kept process.now) processes.now result }
+{
+    processes.binary_search_by(|kept| kept.get().cmp(process.get()))
 }

@@ -17,7 +17,7 @@ use crate::mask::{Masks, count, with};
 use crate::reports::KnownReports;
 use crate::subject::Subject;
 use rapid_alerts::{bit, has_bit};
-use rapid_endpoint::Process;
+use rapid_endpoint::{Process, SharedProcess};
 use rapid_rings::ObserverTable;
 use std::alloc::{AllocError, Global};
 
@@ -30,14 +30,13 @@ pub fn tally<T: ObserverTable>(table: &T, reports: &KnownReports, subject: &Proc
 
 /// The processes with at least L direct reports, ascending: those of before and those that came to
 /// it, both ascending.
-#[inline(never)]
 pub fn active_with<T: ObserverTable>(
     alloc: Global,
     table: &T,
     reports: &KnownReports,
-    before: &[Process],
-    grown: &[Process],
-) -> Result<Vec<Process>, AllocError>
+    before: &[SharedProcess],
+    grown: &[SharedProcess],
+) -> Result<Vec<SharedProcess>, AllocError>
     requires rules { AreObservers (T.observers table.now) }
     requires low { (q : Bytes) → model.reaches_low (T.observers table.now) reports.now.direct (Some q) ≡ (is_in before.now q || is_in grown.now q) }
     requires before { IsStrictlySortedBy process_cmp before.now }
@@ -119,7 +118,7 @@ fn implied_rings<T: ObserverTable>(
 /// Adds the reports on a process with at least L direct ones that the direct ones imply.
 fn add_implied<T: ObserverTable>(
     table: &T,
-    subject: &Process,
+    subject: &SharedProcess,
     known: &mut GrowingReports,
 ) -> Result<(), AllocError>
     requires low { model.reaches_low (T.observers table.now) known.old.reports.direct (Some subject.now) ≡ true }
@@ -127,12 +126,13 @@ fn add_implied<T: ObserverTable>(
     ensures added { OnOk result (AddsImplied (T.observers table.now) known.old.reports.direct subject.now known.old.reports.all known.new.reports.all) }
     ensures before { before known.new ≡ before known.old }
 {
-    let so_far = known.reports.on(subject);
-    let all = implied_rings(table, &known.reports, subject, so_far.all);
+    let process = subject.get();
+    let so_far = known.reports.on(process);
+    let all = implied_rings(table, &known.reports, process, so_far.all);
     if all == 0 {
         return Ok(());
     }
-    let subject = Subject::new(subject, None);
+    let subject = Subject::new(process, Some(subject));
     known.add(&subject, so_far, Masks { direct: 0, all })?;
     Ok(())
 }
@@ -142,7 +142,7 @@ fn add_implied<T: ObserverTable>(
 /// is implied.
 fn close<T: ObserverTable>(
     table: &T,
-    subjects: &[Process],
+    subjects: &[SharedProcess],
     known: &mut GrowingReports,
 ) -> Result<(), AllocError>
     requires rules { AreObservers (T.observers table.now) }
@@ -158,11 +158,11 @@ fn close<T: ObserverTable>(
 }
 
 /// Whether one of these processes may observe someone.
-fn may_any_observe<T: ObserverTable>(table: &T, processes: &[Process]) -> bool
+fn may_any_observe<T: ObserverTable>(table: &T, processes: &[SharedProcess]) -> bool
     ensures { result ≡ false → (o : Bytes) → is_in processes.now o ≡ true → ObservesNobody (T.observers table.now) o }
 {
     for process in processes {
-        if table.may_observe(process) {
+        if table.may_observe(process.get()) {
             return true;
         }
     }
@@ -170,7 +170,7 @@ fn may_any_observe<T: ObserverTable>(table: &T, processes: &[Process]) -> bool
 }
 
 /// Whether there is one process alone, and no process is its own observer. False says nothing.
-fn is_alone<T: ObserverTable>(table: &T, processes: &[Process]) -> bool
+fn is_alone<T: ObserverTable>(table: &T, processes: &[SharedProcess]) -> bool
     ensures one { result ≡ true → length processes.now ≡ 1 }
     ensures none { result ≡ true → NoneObservesItself (T.observers table.now) }
 {
@@ -179,13 +179,13 @@ fn is_alone<T: ObserverTable>(table: &T, processes: &[Process]) -> bool
 
 /// Adds all that the direct reports imply once these processes came to L. `active` are all that
 /// have as many. If there is one alone, which does not observe itself, nothing is implied. If those
-/// that came to L observe nobody, only reports on them are missing. It stands apart, as `active_with`
-/// does: most batches bring nobody to L, and need no room for processes.
+/// that came to L observe nobody, only reports on them are missing. It stands apart: most batches
+/// bring nobody to L, and need no room for the observers that it asks for.
 #[inline(never)]
 pub fn close_grown<T: ObserverTable>(
     table: &T,
-    active: &[Process],
-    grown: &[Process],
+    active: &[SharedProcess],
+    grown: &[SharedProcess],
     known: &mut GrowingReports,
 ) -> Result<(), AllocError>
     requires rules { AreObservers (T.observers table.now) }

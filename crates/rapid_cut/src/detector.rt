@@ -22,17 +22,24 @@ use crate::shared_list::SharedList;
 use crate::taken::{TakenAlerts, take_all};
 use rapid_alerts::{Alert, AlertList};
 use rapid_config::{ConfigError, Cut};
-use rapid_endpoint::Process;
+use rapid_endpoint::{Process, SharedProcess};
 use rapid_rings::ObserverTable;
 use std::alloc::{AllocError, Global};
 use std::marker::Model;
 
-/// The stable ones of these processes: those with at least H reports.
+/// Whether the process has at least H reports.
+fn is_stable<T: ObserverTable>(table: &T, reports: &KnownReports, subject: &SharedProcess) -> bool
+    ensures { result ≡ model.is_stable (T.observers table.now) reports.now.all subject.now }
+{
+    usize::from(table.params().h()) <= tally(table, reports, subject.get())
+}
+
+/// The stable ones of these processes.
 fn stable_ones<T: ObserverTable>(
     alloc: Global,
     table: &T,
     reports: &KnownReports,
-    subjects: &[Process],
+    subjects: &[SharedProcess],
 ) -> Result<Vec<Process>, AllocError>
     ensures { IfOk result (λ found. found.items ≡ filter (model.is_stable (T.observers table.now) reports.now.all) subjects.now) }
 {
@@ -49,16 +56,17 @@ fn stable_among<T: ObserverTable>(
     alloc: Global,
     table: &T,
     reports: &KnownReports,
-    subjects: &[Process],
+    subjects: &[SharedProcess],
 ) -> Result<Vec<Process>, AllocError>
     ensures { IfOk result (λ found. found.items ≡ filter (model.is_stable (T.observers table.now) reports.now.all) subjects.now) }
 {
-    let stable = usize::from(table.params().h());
-    subjects
-        .iter()
-        .filter(|subject| stable <= tally(table, reports, subject))
-        .copied()
-        .collect(alloc)
+    let mut found = Vec::new(alloc);
+    for subject in subjects {
+        if is_stable(table, reports, subject) {
+            found.push(*subject.get())?;
+        }
+    }
+    Ok(found)
 }
 
 /// The unstable ones of these processes: those with at least L reports and fewer than H.
@@ -66,7 +74,7 @@ fn unstable_ones<T: ObserverTable>(
     alloc: Global,
     table: &T,
     reports: &KnownReports,
-    subjects: &[Process],
+    subjects: &[SharedProcess],
 ) -> Result<Vec<Process>, AllocError>
     ensures { IfOk result (λ found. found.items ≡ filter (model.is_unstable (T.observers table.now) reports.now.all) subjects.now) }
 {
@@ -84,22 +92,24 @@ fn unstable_among<T: ObserverTable>(
     alloc: Global,
     table: &T,
     reports: &KnownReports,
-    subjects: &[Process],
+    subjects: &[SharedProcess],
 ) -> Result<Vec<Process>, AllocError>
     ensures { IfOk result (λ found. found.items ≡ filter (model.is_unstable (T.observers table.now) reports.now.all) subjects.now) }
 {
-    subjects
-        .iter()
-        .filter(|subject| is_unstable(table, reports, subject))
-        .copied()
-        .collect(alloc)
+    let mut found = Vec::new(alloc);
+    for subject in subjects {
+        if is_unstable(table, reports, subject) {
+            found.push(*subject.get())?;
+        }
+    }
+    Ok(found)
 }
 
 /// Whether the process has at least L reports and fewer than H.
-fn is_unstable<T: ObserverTable>(table: &T, reports: &KnownReports, subject: &Process) -> bool
+fn is_unstable<T: ObserverTable>(table: &T, reports: &KnownReports, subject: &SharedProcess) -> bool
     ensures { result ≡ model.is_unstable (T.observers table.now) reports.now.all subject.now }
 {
-    let tally = tally(table, reports, subject);
+    let tally = tally(table, reports, subject.get());
     usize::from(table.params().l()) <= tally && tally < usize::from(table.params().h())
 }
 
@@ -107,7 +117,7 @@ fn is_unstable<T: ObserverTable>(table: &T, reports: &KnownReports, subject: &Pr
 fn is_any_unstable<T: ObserverTable>(
     table: &T,
     reports: &KnownReports,
-    subjects: &[Process],
+    subjects: &[SharedProcess],
 ) -> bool
     ensures { result ≡ list_any (model.is_unstable (T.observers table.now) reports.now.all) subjects.now }
 {
@@ -131,7 +141,7 @@ fn cut_of<T: ObserverTable>(
     alloc: Global,
     table: &T,
     reports: &KnownReports,
-    active: &[Process],
+    active: &[SharedProcess],
 ) -> Result<Option<Cut>, AllocError>
     requires detecting { IsDetecting (T.observers table.now) reports.now.direct reports.now.all }
     requires active { active.now ≡ active_of (T.observers table.now) reports.now.direct }
@@ -166,7 +176,7 @@ fn settle<T: ObserverTable>(
     table: &T,
     known: &mut GrowingReports,
     active: &mut SharedList,
-    grown: &[Process],
+    grown: &[SharedProcess],
 ) -> Result<Option<Cut>, AllocError>
     requires rules { AreObservers (T.observers table.now) }
     requires known { IsBetween (T.observers table.now) known.old.reports.direct known.old.reports.all }

@@ -45,24 +45,26 @@ impl GrowingReports {
         }
     }
 
-    /// Adds the reports on a process for these rings; those on it so far are for the others.
+    /// Adds the reports on a process for these rings; those on it so far are for the others. The
+    /// result is the process, shared, so that it can be listed too.
     pub fn add(
         &mut self,
         subject: &Subject<'_>,
         so_far: Masks,
         rings: Masks,
-    ) -> Result<(), AllocError>
-        requires direct { (k : ℕ) → set.contains self.old.reports.direct (subject.now, k) ≡ has_ring so_far.direct k }
-        requires all { (k : ℕ) → set.contains self.old.reports.all (subject.now, k) ≡ has_ring so_far.all k }
-        ensures direct { OnOk result (AddsRings subject.now rings.direct self.old.reports.direct self.new.reports.direct) }
-        ensures all { OnOk result (AddsRings subject.now rings.all self.old.reports.all self.new.reports.all) }
+    ) -> Result<SharedProcess, AllocError>
+        requires direct { (k : ℕ) → set.contains self.old.reports.direct (subject.now.process.now, k) ≡ has_ring so_far.direct k }
+        requires all { (k : ℕ) → set.contains self.old.reports.all (subject.now.process.now, k) ≡ has_ring so_far.all k }
+        ensures direct { OnOk result (AddsRings subject.now.process.now rings.direct self.old.reports.direct self.new.reports.direct) }
+        ensures all { OnOk result (AddsRings subject.now.process.now rings.all self.old.reports.all self.new.reports.all) }
+        ensures kept { IfOk result (λ kept. kept ≡ subject.now.process.now) }
         ensures before { before self.new ≡ before self.old }
     {
         let added = rings.without(so_far);
         let subject = self.reports.kept(subject)?;
         note_joined(&mut self.last, &mut self.others, &subject, added)?;
         self.reports.put(&subject, so_far.with(rings))?;
-        Ok(())
+        Ok(subject)
     }
 
     /// Keeps what was added.

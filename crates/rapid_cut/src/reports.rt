@@ -71,7 +71,7 @@ impl KnownReports {
 
     /// The process, to be kept. Unless it is shared already, the list shares it if it is there.
     pub fn kept(&self, subject: &Subject<'_>) -> Result<SharedProcess, AllocError>
-        ensures { IfOk result (λ kept. kept ≡ subject.now) }
+        ensures { IfOk result (λ kept. kept ≡ subject.now.process.now) }
     {
         if subject.is_shared() {
             return subject.share(self.alloc);

@@ -2,15 +2,16 @@
 
 ghost use Rattle.std.specs.Prelude.{◌≡◌, [], IfOk};
 
-use rapid_endpoint::Process;
+use rapid_endpoint::SharedProcess;
 use std::alloc::AllocError;
 use std::marker::Model;
 use std::sync::ArcSlice;
 
-/// Processes, in order. Copies share one list, which never changes. None take no memory.
+/// Processes, in order. Each is shared, and copies share one list, which never changes. None take
+/// no memory.
 #[derive(Debug, Drop)]
 pub struct SharedList {
-    processes: Option<ArcSlice<Process>>,
+    processes: Option<ArcSlice<SharedProcess>>,
 }
 
 impl Model for SharedList {
@@ -33,7 +34,7 @@ impl SharedList {
     }
 
     /// These processes.
-    pub fn of(processes: Vec<Process>) -> Result<SharedList, AllocError>
+    pub fn of(processes: Vec<SharedProcess>) -> Result<SharedList, AllocError>
         ensures { IfOk result (λ list. list ≡ processes.items) }
     {
         Ok(SharedList {
@@ -42,7 +43,7 @@ impl SharedList {
     }
 
     /// The processes, in order.
-    pub fn as_slice(&self) -> &[Process]
+    pub fn as_slice(&self) -> &[SharedProcess]
         ensures { result.now ≡ self.now }
     {
         match &self.processes {

@@ -21,7 +21,7 @@ use crate::reports::KnownReports;
 use crate::subject::Subject;
 use rapid_alerts::{AlertRef, Kind, bit, has_bit};
 use rapid_config::Cut;
-use rapid_endpoint::Process;
+use rapid_endpoint::{Process, SharedProcess};
 use rapid_rings::ObserverTable;
 use std::alloc::{AllocError, Global};
 
@@ -116,26 +116,16 @@ fn comes_to_low<T: ObserverTable>(table: &T, before: u16, now: u16) -> bool
 }
 
 /// Lists a process that comes to L reports.
-fn list(grown: &mut Vec<Process>, comes_to_low: bool, subject: &Process) -> Result<(), AllocError>
-    ensures { OnOk result (grown.new.items ≡ (if comes_to_low then grown.old.items ++ subject.now ∷ [] else grown.old.items)) }
+fn list(
+    grown: &mut Vec<SharedProcess>,
+    comes_to_low: bool,
+    subject: SharedProcess,
+) -> Result<(), AllocError>
+    ensures { OnOk result (grown.new.items ≡ (if comes_to_low then grown.old.items ++ subject ∷ [] else grown.old.items)) }
 {
     if comes_to_low {
-        add_to(grown, subject)?;
+        grown.push(subject)?;
     }
-    Ok(())
-}
-
-/// Adds a process at the end. It stands apart: room for a process takes time at each call of the
-/// function that has it.
-#[inline(never)]
-fn add_to(grown: &mut Vec<Process>, subject: &Process) -> Result<(), AllocError>
-    ensures { OnOk result (grown.new.items ≡ grown.old.items ++ subject.now ∷ []) }
-{
-    // mostly one alone comes to L reports
-    if grown.is_empty() {
-        grown.reserve_exact(1)?;
-    }
-    grown.push(*subject)?;
     Ok(())
 }
 
@@ -144,16 +134,16 @@ fn add_to(grown: &mut Vec<Process>, subject: &Process) -> Result<(), AllocError>
 fn put<T: ObserverTable>(
     table: &T,
     known: &mut GrowingReports,
-    grown: &mut Vec<Process>,
+    grown: &mut Vec<SharedProcess>,
     subject: &Subject<'_>,
     ring: u8,
     so_far: Masks,
 ) -> Result<(), AllocError>
     requires ring { ring < most_rings }
-    requires direct { (k : ℕ) → set.contains known.old.reports.direct (subject.now, k) ≡ has_ring so_far.direct k }
-    requires all { (k : ℕ) → set.contains known.old.reports.all (subject.now, k) ≡ has_ring so_far.all k }
-    ensures direct { OnOk result (known.new.reports.direct ≡ set.insert known.old.reports.direct (subject.now, ring)) }
-    ensures all { OnOk result (known.new.reports.all ≡ set.insert known.old.reports.all (subject.now, ring)) }
+    requires direct { (k : ℕ) → set.contains known.old.reports.direct (subject.now.process.now, k) ≡ has_ring so_far.direct k }
+    requires all { (k : ℕ) → set.contains known.old.reports.all (subject.now.process.now, k) ≡ has_ring so_far.all k }
+    ensures direct { OnOk result (known.new.reports.direct ≡ set.insert known.old.reports.direct (subject.now.process.now, ring)) }
+    ensures all { OnOk result (known.new.reports.all ≡ set.insert known.old.reports.all (subject.now.process.now, ring)) }
     ensures grown { OnOk result ((start : Reports) → HaveGrown (T.observers table.now) start known.old.reports.direct grown.old.items → HaveGrown (T.observers table.now) start known.new.reports.direct grown.new.items) }
     ensures before { before known.new ≡ before known.old }
 {
@@ -163,8 +153,8 @@ fn put<T: ObserverTable>(
         direct: one,
         all: one,
     };
-    known.add(subject, so_far, rings)?;
-    list(grown, comes_to_low, subject.get())?;
+    let kept = known.add(subject, so_far, rings)?;
+    list(grown, comes_to_low, kept)?;
     Ok(())
 }
 
@@ -173,7 +163,7 @@ fn take<T: ObserverTable>(
     table: &T,
     known: &mut GrowingReports,
     joiners: &mut usize,
-    grown: &mut Vec<Process>,
+    grown: &mut Vec<SharedProcess>,
     place: &mut usize,
     turn: &Turn<'_>,
 ) -> Result<bool, AllocError>
@@ -216,7 +206,7 @@ pub struct TakenAlerts {
     /// How many alerts are taken.
     pub count: usize,
     /// Those that come to L reports.
-    pub grown: Vec<Process>,
+    pub grown: Vec<SharedProcess>,
 }
 
 /// Takes the alerts of a batch after these reports.

@@ -1,6 +1,6 @@
 use Rattle.std.proofs.Common.{◌+◌, ◌<◌, ◌∙◌, ap, sym, take, drop, length, [], ◌∷◌, ◌++◌, arith}
 use Rattle.std.proofs.lemmas.List.{take_more, take_all}
-use Rattle.rapid_cut.proofs.Merging.{sorted_end, merging_none, merging_one, merging_all}
+use Rattle.rapid_cut.proofs.Merging.{sorted_end, merging_none, merging_one, merging_all, clones_added}
 use Rattle.rapid_cut.proofs.Passing.{drop_next}
 use Rattle.rapid_cut.proofs.ascending.merged.Goals as goal
 
@@ -23,4 +23,4 @@ pub returns : goal.returns
 returns c =
     let i = c.loop-process.process-index in
     let ys = c.args.second.now in
-    merging_all c.args.first.now ys (take i ys) (drop i ys) c.loop-process.found.items c.loop-process.rest.now c.extend_from_slice.new.self.items (take_all i ys c.loop-process-test.false) c.in_ok-extend_from_slice.ensures.items c.loop-process.invariant
+    merging_all c.args.first.now ys (take i ys) (drop i ys) c.loop-process.found.items c.loop-process.rest.now c.extend_with_clones.new.self.items (take_all i ys c.loop-process-test.false) (clones_added _ _ _ c.in_ok-extend_with_clones.ensures.items) c.loop-process.invariant
