@@ -1,7 +1,6 @@
 // The side of a member in a join.
 
 ghost use Rattle.std.specs.Prelude.{◌≡◌, ◌≤◌, true, false, map, IsTrue, IfOk, OnOk, OnErr};
-ghost use Rattle.std.specs.Arc.{arc_value};
 ghost use Rattle.std.specs.List.{list_any};
 ghost use Rattle.std.specs.FinSet as set;
 ghost use Rattle.rapid_model.specs.Apply as apply;
@@ -13,35 +12,30 @@ ghost use Rattle.rapid_model.specs.Limits.{most_joiners};
 ghost use Rattle.rapid_join.specs.Answers.{host_answer_of, answered_of, safe_for, AnswersObservers};
 ghost use Rattle.rapid_join.specs.Hosts.{fresh_host};
 
-use crate::endpoints::MemberEndpoints;
 use crate::pending::PendingSet;
-use crate::{HostAnswer, Reply, RingObservers};
+use crate::{HostAnswer, HostTables, Reply, RingObservers};
 use rapid_config::{ConfigId, Configuration, Cut};
-use rapid_endpoint::Process;
-use rapid_rings::{ObserverTable, Rings};
+use rapid_endpoint::{Process, SharedProcess};
+use rapid_rings::ObserverTable;
 use std::alloc::{AllocError, Global};
 use std::marker::Model;
-use std::sync::Arc;
 
 /// The side of a member in its configuration: it answers joiners, and keeps those that asked it as
 /// an observer until the next change. At most 512 are pending.
 #[derive(Debug, Drop)]
 pub struct Host {
     configuration: Configuration,
-    rings: Arc<Rings, Global>,
-    endpoints: MemberEndpoints,
-    me: Process,
+    tables: HostTables,
+    me: SharedProcess,
     pending: PendingSet,
     alloc: Global,
 }
 
 impl Model for Host {
     ghost use Rattle.std.specs.Prelude.{◌≡◌, ◌≤◌};
-    ghost use Rattle.std.specs.Arc.{arc_value};
     ghost use Rattle.std.specs.FinSet as set;
     ghost use Rattle.rapid_model.specs.JoinSides.{HostSide};
     ghost use Rattle.rapid_model.specs.Limits.{most_joiners};
-    ghost use Rattle.rapid_join.specs.Endpoints.{endpoints_of};
     ghost use Rattle.rapid_join.specs.Hosts.{host_code};
 
     ghost Value = { HostSide };
@@ -50,15 +44,14 @@ impl Model for Host {
 
     ghost view = { λ h. record { config = h.configuration; me = h.me; pending = h.pending } };
 
-    ghost invariant = { λ h. (arc_value h.rings ≡ h.configuration) × (set.len h.pending ≤ most_joiners)
-        × (h.endpoints ≡ endpoints_of h.configuration.members) };
+    ghost invariant = { λ h. (h.tables ≡ h.configuration) × (set.len h.pending ≤ most_joiners) };
 }
 
 impl Host {
     /// The most joiners that can be pending.
     pub const MOST: usize = Cut::MOST_JOINERS;
 
-    /// The host of a member in a configuration, at which nobody is pending. It computes the rings
+    /// The host of a member in a configuration, at which nobody is pending. It computes the tables
     /// of the configuration.
     pub fn new(
         alloc: Global,
@@ -67,27 +60,26 @@ impl Host {
     ) -> Result<Host, AllocError>
         ensures { IfOk result (λ host. host ≡ fresh_host configuration.now process.now) }
     {
-        let rings = Arc::new(alloc, Rings::new(alloc, configuration)?)?;
-        Host::with_rings(alloc, configuration, &rings, process)
+        let tables = HostTables::new(alloc, configuration)?;
+        let me = SharedProcess::new(alloc, process)?;
+        Host::with_tables(alloc, configuration, &tables, &me)
     }
 
-    /// The host of a member in the configuration of these rings, which it shares; nobody is
-    /// pending.
-    pub fn with_rings(
+    /// The host of a member in the configuration of these tables. It shares the tables and the
+    /// process; nobody is pending.
+    pub fn with_tables(
         alloc: Global,
         configuration: &Configuration,
-        rings: &Arc<Rings, Global>,
-        process: &Process,
+        tables: &HostTables,
+        me: &SharedProcess,
     ) -> Result<Host, AllocError>
-        requires { arc_value rings.now ≡ configuration.now }
-        ensures { IfOk result (λ host. host ≡ fresh_host configuration.now process.now) }
+        requires { tables.now ≡ configuration.now }
+        ensures { IfOk result (λ host. host ≡ fresh_host configuration.now me.now) }
     {
-        let endpoints = MemberEndpoints::of(alloc, configuration.members())?;
         Ok(Host {
             configuration: configuration.try_copy(alloc)?,
-            rings: Arc::try_clone(rings)?,
-            endpoints,
-            me: *process,
+            tables: tables.try_copy()?,
+            me: me.share()?,
             pending: PendingSet::new(alloc),
             alloc,
         })
@@ -166,15 +158,14 @@ impl Host {
         Ok(answers)
     }
 
-    /// An equal host, which shares the configuration's members and the rings.
+    /// An equal host, which shares the configuration's members and the tables.
     pub fn try_copy(&self) -> Result<Host, AllocError>
         ensures { IfOk result (λ host. host ≡ self.now) }
     {
         Ok(Host {
             configuration: self.configuration.try_copy(self.alloc)?,
-            rings: Arc::try_clone(&self.rings)?,
-            endpoints: self.endpoints.try_copy()?,
-            me: self.me,
+            tables: self.tables.try_copy()?,
+            me: self.me.share()?,
             pending: self.pending.try_copy()?,
             alloc: self.alloc,
         })
@@ -194,7 +185,7 @@ impl Host {
         ensures observers { is_member self.now.config self.now.me ≡ true → IfOk result AnswersObservers }
     {
         self.configuration.tell();
-        let observers = RingObservers::of(self.alloc, &self.rings, joiner)?;
+        let observers = RingObservers::of(self.alloc, self.tables.rings(), joiner)?;
         Ok(HostAnswer::Reply(Reply::Safe(self.configuration.id(), observers)))
     }
 
@@ -202,15 +193,22 @@ impl Host {
     fn collides(&self, joiner: &Process) -> bool
         ensures { result ≡ apply.collides self.now.config.members joiner.now }
     {
-        has_identifier(self.configuration.members(), joiner)
-            || self.endpoints.has(&joiner.endpoint())
+        has_identifier(self.configuration.members(), joiner) || self.tables.has(&joiner.endpoint())
     }
 
     /// Whether this member observes the joiner on a ring.
     fn observes(&self, joiner: &Process, ring: u8) -> bool
         ensures { result ≡ observes (observers_of self.now.config) self.now.me ring joiner.now }
     {
-        self.rings.observer(ring, joiner) == Some(self.me)
+        let mut anywhere = usize::MAX;
+        let rings = self.tables.rings();
+        let (_, observes) = rings.member_and_observes_near(
+            self.me.get(),
+            ring,
+            joiner,
+            &mut anywhere,
+        );
+        observes
     }
 
     /// Whether 512 joiners are pending, and this one is not among them.

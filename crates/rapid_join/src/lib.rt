@@ -13,9 +13,11 @@ mod joiner;
 mod observers;
 mod pending;
 mod reply;
+mod tables;
 
 pub use answers::{HostAnswer, JoinRequest, JoinerAnswer};
 pub use host::Host;
 pub use joiner::Joiner;
 pub use observers::RingObservers;
 pub use reply::Reply;
+pub use tables::HostTables;

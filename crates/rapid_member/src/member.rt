@@ -1,7 +1,6 @@
 // A member in its configuration.
 
 ghost use Rattle.std.specs.Prelude.{◌≡◌, ◌<◌, ◌≤◌, true, All, length, map, IfOk, OnOk, OnErr};
-ghost use Rattle.std.specs.Arc.{arc_value};
 ghost use Rattle.std.specs.FinSet as set;
 ghost use Rattle.rapid_model.specs.Configuration.{is_member};
 ghost use Rattle.rapid_model.specs.Host.{confirms};
@@ -23,7 +22,7 @@ use parts::{Context, Rest, Votes};
 use rapid_config::Configuration;
 use rapid_endpoint::{Process, SharedProcess};
 use rapid_fast::FastRound;
-use rapid_join::HostAnswer;
+use rapid_join::{HostAnswer, HostTables};
 use rapid_rings::Rings;
 use std::alloc::{AllocError, Global};
 use std::marker::Model;
@@ -61,16 +60,16 @@ impl Model for MemberState {
 }
 
 impl MemberState {
-    /// A member that enters the configuration of these rings, which it shares.
+    /// A member that enters the configuration of these tables, which it shares.
     #[tactic(auto, using(crate::proofs::Places::has_place), unfolding(rapid_model::specs::Node::fresh_member))]
     pub fn new(
         alloc: Global,
         configuration: &Configuration,
-        rings: Arc<Rings, Global>,
+        tables: &HostTables,
         me: SharedProcess,
     ) -> Result<MemberState, AllocError>
         requires member { is_member configuration.now me ≡ true }
-        requires rings { arc_value rings ≡ configuration.now }
+        requires tables { tables.now ≡ configuration.now }
         ensures { IfOk result (λ s. s ≡ node.fresh_member configuration.now me) }
     {
         let Some(place) = configuration.position(me.get()) else {
@@ -79,11 +78,11 @@ impl MemberState {
         let size = configuration.members().len();
         let context = Context {
             configuration: configuration.try_copy(alloc)?,
-            rings: SharedRings::new(rings),
+            rings: SharedRings::new(Arc::try_clone(tables.rings())?),
             me,
             place,
         };
-        let rest = Arc::new(alloc, Rest::new(alloc, &context)?)?;
+        let rest = Arc::new(alloc, Rest::new(alloc, &context, tables)?)?;
         let round = FastRound::new(alloc, size, place);
         Ok(MemberState {
             context: Arc::new(alloc, context)?,

@@ -25,7 +25,7 @@ use crate::installed::Installed;
 use crate::past::Past;
 use crate::phase::State;
 use crate::shown::Shown;
-use crate::views::{ViewWithRings, Views};
+use crate::views::{ViewWithTables, Views};
 use crate::{Event, NodeFault, Phase};
 use rapid_alerts::{Alert, Kind};
 use rapid_config::{ConfigId, Configuration, Cut, Stamp};
@@ -278,7 +278,7 @@ impl Node {
     fn enter(
         &mut self,
         before: &MemberState,
-        view: &ViewWithRings,
+        view: &ViewWithTables,
         cut: Cut,
     ) -> Result<(), AllocError>
         ensures me { OnOk result (self.new.me ≡ self.old.me) }

@@ -7,13 +7,12 @@ ghost use Rattle.rapid_model.specs.Node.{Member, fresh_member};
 ghost use Rattle.rapid_model.specs.NodeStep.{phase_in};
 ghost use Rattle.rapid_node.specs.Phases.{phase_of, IsState};
 
-use crate::views::ViewWithRings;
+use crate::views::ViewWithTables;
 use rapid_config::Configuration;
 use rapid_endpoint::SharedProcess;
 use rapid_join::Joiner;
 use rapid_member::MemberState;
 use std::alloc::{AllocError, Global};
-use std::sync::Arc;
 
 /// The phase of a node.
 #[derive(Clone, Copy, Debug, PartialEq, Eq)]
@@ -45,16 +44,15 @@ impl State {
     /// The state of a founder, a member of the configuration of this view.
     pub(crate) fn found(
         alloc: Global,
-        view: &ViewWithRings,
+        view: &ViewWithTables,
         me: &SharedProcess,
     ) -> Result<State, AllocError>
         requires { is_member view.now me.now ≡ true }
         ensures phase { IfOk result (λ s. phase_of (Some view.now) s ≡ Member (fresh_member view.now me.now)) }
         ensures state { IfOk result (IsState me.now (Some view.now)) }
     {
-        let rings = Arc::try_clone(view.rings())?;
         let own = me.share()?;
-        let member = MemberState::new(alloc, &**view.configuration(), rings, own)?;
+        let member = MemberState::new(alloc, &**view.configuration(), view.tables(), own)?;
         let boxed = Box::new(alloc, member)?;
         Ok(State::Member(boxed))
     }
@@ -62,7 +60,7 @@ impl State {
     /// The state of a process that enters a view.
     pub(crate) fn enter(
         alloc: Global,
-        view: &ViewWithRings,
+        view: &ViewWithTables,
         me: &SharedProcess,
     ) -> Result<State, AllocError>
         ensures phase { IfOk result (λ s. phase_of (Some view.now) s ≡ phase_in view.now me.now) }

@@ -8,8 +8,8 @@ ghost use Rattle.rapid_node.specs.Views.{LeadsTo};
 
 use rapid_config::{ConfigError, ConfigId, Configuration, Cut, Params};
 use rapid_endpoint::Process;
+use rapid_join::HostTables;
 use rapid_member::MemberState;
-use rapid_rings::Rings;
 use std::alloc::{AllocError, Global};
 use std::marker::Model;
 use std::sync::Arc;
@@ -73,14 +73,14 @@ fn apply_cut(
     }
 }
 
-/// A configuration with its rings, both shared.
+/// A configuration with what is looked up in it, both shared.
 #[derive(Debug, Drop)]
-pub(crate) struct ViewWithRings {
+pub(crate) struct ViewWithTables {
     configuration: Arc<Configuration, Global>,
-    rings: Arc<Rings, Global>,
+    tables: HostTables,
 }
 
-impl Model for ViewWithRings {
+impl Model for ViewWithTables {
     ghost use Rattle.std.specs.Prelude.{◌≡◌};
     ghost use Rattle.std.specs.Arc.{arc_value};
     ghost use Rattle.rapid_model.specs.Configuration.{Configuration as ModelConfiguration};
@@ -89,33 +89,33 @@ impl Model for ViewWithRings {
 
     ghost view = { λ v. arc_value v.configuration };
 
-    ghost invariant = { λ v. arc_value v.rings ≡ arc_value v.configuration };
+    ghost invariant = { λ v. v.tables ≡ arc_value v.configuration };
 }
 
-impl ViewWithRings {
-    /// The view of a configuration, whose rings are computed.
-    fn of(alloc: Global, configuration: &Configuration) -> Result<ViewWithRings, AllocError>
+impl ViewWithTables {
+    /// The view of a configuration, whose tables are computed.
+    fn of(alloc: Global, configuration: &Configuration) -> Result<ViewWithTables, AllocError>
         ensures { IfOk result (λ view. view ≡ configuration.now) }
     {
-        let rings = Arc::new(alloc, Rings::new(alloc, configuration)?)?;
+        let tables = HostTables::new(alloc, configuration)?;
         let configuration = Arc::new(alloc, configuration.try_copy(alloc)?)?;
-        Ok(ViewWithRings {
+        Ok(ViewWithTables {
             configuration,
-            rings,
+            tables,
         })
     }
 
     /// The view after a member's by a cut: keys of rings are computed of newcomers only.
-    fn after(alloc: Global, before: &MemberState, cut: &Cut) -> Result<ViewWithRings, AllocError>
+    fn after(alloc: Global, before: &MemberState, cut: &Cut) -> Result<ViewWithTables, AllocError>
         requires { before.now.config.height < 2 ^ 64 - 1 }
         ensures { IfOk result (λ view. view ≡ apply before.now.config cut.now) }
     {
         let next = apply_cut(alloc, before.configuration(), cut)?;
-        let rings = Arc::new(alloc, before.rings().next(alloc, &next)?)?;
+        let tables = HostTables::after(alloc, before.rings(), &next)?;
         let configuration = Arc::new(alloc, next)?;
-        Ok(ViewWithRings {
+        Ok(ViewWithTables {
             configuration,
-            rings,
+            tables,
         })
     }
 
@@ -126,22 +126,22 @@ impl ViewWithRings {
         &self.configuration
     }
 
-    /// The rings.
-    pub(crate) fn rings(&self) -> &Arc<Rings, Global>
-        ensures { arc_value result.now ≡ self.now }
+    /// What is looked up in the configuration.
+    pub(crate) fn tables(&self) -> &HostTables
+        ensures { result.now ≡ self.now }
     {
-        &self.rings
+        &self.tables
     }
 
     /// The same view, shared.
-    fn share(&self) -> Result<ViewWithRings, AllocError>
+    fn share(&self) -> Result<ViewWithTables, AllocError>
         ensures { IfOk result (λ view. view ≡ self.now) }
     {
         let configuration = Arc::try_clone(&self.configuration)?;
-        let rings = Arc::try_clone(&self.rings)?;
-        Ok(ViewWithRings {
+        let tables = self.tables.try_copy()?;
+        Ok(ViewWithTables {
             configuration,
-            rings,
+            tables,
         })
     }
 }
@@ -150,7 +150,7 @@ impl ViewWithRings {
 #[derive(Debug, Drop)]
 struct KeptView {
     before: Option<(Configuration, Cut)>,
-    view: ViewWithRings,
+    view: ViewWithTables,
 }
 
 impl Model for KeptView {
@@ -190,7 +190,7 @@ impl KeptView {
     }
 
     /// The view, shared.
-    fn share(&self) -> Result<ViewWithRings, AllocError>
+    fn share(&self) -> Result<ViewWithTables, AllocError>
         ensures { IfOk result (λ view. view ≡ self.now) }
     {
         self.view.share()
@@ -241,13 +241,13 @@ impl Views {
     }
 
     /// The view of a configuration.
-    pub(crate) fn of(&mut self, configuration: &Configuration) -> Result<ViewWithRings, AllocError>
+    pub(crate) fn of(&mut self, configuration: &Configuration) -> Result<ViewWithTables, AllocError>
         ensures { IfOk result (λ view. view ≡ configuration.now) }
     {
         if let Some(view) = found(self.kept.as_slice(), configuration)? {
             return Ok(view);
         }
-        let view = ViewWithRings::of(self.alloc, configuration)?;
+        let view = ViewWithTables::of(self.alloc, configuration)?;
         self.keep(None, &view)?;
         Ok(view)
     }
@@ -257,14 +257,14 @@ impl Views {
         &mut self,
         before: &MemberState,
         cut: &Cut,
-    ) -> Result<ViewWithRings, AllocError>
+    ) -> Result<ViewWithTables, AllocError>
         requires { before.now.config.height < 2 ^ 64 - 1 }
         ensures { IfOk result (λ view. view ≡ apply before.now.config cut.now) }
     {
         if let Some(view) = found_after(self.kept.as_slice(), before.configuration(), cut)? {
             return Ok(view);
         }
-        let view = ViewWithRings::after(self.alloc, before, cut)?;
+        let view = ViewWithTables::after(self.alloc, before, cut)?;
         let configuration = before.configuration().try_copy(self.alloc)?;
         let cut = cut.try_copy(self.alloc)?;
         self.keep(Some((configuration, cut)), &view)?;
@@ -275,7 +275,7 @@ impl Views {
     fn keep(
         &mut self,
         before: Option<(Configuration, Cut)>,
-        view: &ViewWithRings,
+        view: &ViewWithTables,
     ) -> Result<(), AllocError>
         requires { LeadsTo before view.now }
     {
@@ -295,7 +295,7 @@ impl Views {
 fn found(
     kept: &[KeptView],
     configuration: &Configuration,
-) -> Result<Option<ViewWithRings>, AllocError>
+) -> Result<Option<ViewWithTables>, AllocError>
     ensures { IfOk result (λ found. IfSome found (λ view. view ≡ configuration.now)) }
 {
     for entry in kept {
@@ -311,7 +311,7 @@ fn found_after(
     kept: &[KeptView],
     before: &Configuration,
     cut: &Cut,
-) -> Result<Option<ViewWithRings>, AllocError>
+) -> Result<Option<ViewWithTables>, AllocError>
     ensures { IfOk result (λ found. IfSome found (λ view. view ≡ apply before.now cut.now)) }
 {
     for entry in kept {

@@ -29,7 +29,7 @@ use rapid_config::{Configuration, Cut};
 use rapid_cut::Detector;
 use rapid_endpoint::SharedProcess;
 use rapid_fast::FastRound;
-use rapid_join::Host;
+use rapid_join::{Host, HostTables};
 use rapid_paxos::{Acceptor, Ballot, Coordinator, Learner, Promise, PromiseError};
 use std::alloc::{AllocError, Global};
 use std::marker::Model;
@@ -297,12 +297,12 @@ pub(crate) struct Waiting {
 
 impl Waiting {
     /// Nobody waits.
-    fn new(alloc: Global, context: &Context) -> Result<Waiting, AllocError>
-        requires { IsContext context.now }
+    fn new(alloc: Global, context: &Context, tables: &HostTables) -> Result<Waiting, AllocError>
+        requires context { IsContext context.now }
+        requires tables { tables.now ≡ context.now.configuration }
         ensures { IfOk result (λ w. w ≡ record { host = fresh_host context.now.configuration context.now.me; ages = map.empty }) }
     {
-        let rings = context.rings.get();
-        let host = Host::with_rings(alloc, &context.configuration, rings, context.me.get())?;
+        let host = Host::with_tables(alloc, &context.configuration, tables, &context.me)?;
         let ages = Ages::new(alloc);
         Ok(Waiting { host, ages })
     }
@@ -329,8 +329,13 @@ pub(crate) struct Rest {
 
 impl Rest {
     /// What a member begins with in its configuration.
-    pub(crate) fn new(alloc: Global, context: &Context) -> Result<Rest, AllocError>
-        requires { IsContext context.now }
+    pub(crate) fn new(
+        alloc: Global,
+        context: &Context,
+        tables: &HostTables,
+    ) -> Result<Rest, AllocError>
+        requires context { IsContext context.now }
+        requires tables { tables.now ≡ context.now.configuration }
         ensures ballots { IfOk result (λ r. arc_value r.ballots ≡ record { acceptor = fresh_acceptor; coordinator = fresh_coordinator (length context.now.configuration.members) context.now.place; learner = fresh_learner (length context.now.configuration.members); proposal = None; alloc = alloc }) }
         ensures raised { IfOk result (λ r. arc_value r.raised ≡ record { table = context.now.rings; owner = context.now.me; outbox = outbox.empty_outbox }) }
         ensures detection { IfOk result (λ r. arc_value r.detection ≡ record { table = context.now.rings; detector = empty_detector }) }
@@ -341,7 +346,7 @@ impl Rest {
         let me = context.me.share()?;
         let raised = Arc::new(alloc, Raised::new(alloc, &context.rings, me)?)?;
         let detection = Arc::new(alloc, Detection::new(alloc, &context.rings)?)?;
-        let waiting = Arc::new(alloc, Waiting::new(alloc, context)?)?;
+        let waiting = Arc::new(alloc, Waiting::new(alloc, context, tables)?)?;
         Ok(Rest {
             ballots,
             raised,

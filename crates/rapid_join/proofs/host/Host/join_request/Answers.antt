@@ -5,7 +5,6 @@ pub invariant_of-self-else-is_full_for : goal.invariant_of-self-else-is_full_for
 invariant_of-self-else-is_full_for c = (
   c.self.invariant.0,
   host_few _ c.args.self.now c.insert.new.self c.args.joiner.now c.is_full_for.result c.self.invariant.1 c.self.view_is c.is_full_for.ensures c.if-is_full_for.false c.in_ok-insert.ensures.ok,
-  c.self.invariant.2,
 )
 
 pub returns-in_ok-insert-clause-few : goal.returns-in_ok-insert-clause-few

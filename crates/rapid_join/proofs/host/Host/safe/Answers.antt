@@ -11,5 +11,5 @@ returns-clause-observers c member =
     let config = c.args.self.now.config in
     let joiner = c.args.joiner.now in
     let same : c.self.inside.configuration ≡ config = ap (λ (h : HostSide). h.config) c.self.view_is in
-    let found = c.in_ok-observers.ensures ∙ ap (λ (d : Configuration). observers_for d joiner) (c.deref.ensures ∙ c.self.invariant.0 ∙ same) in
+    let found = c.in_ok-observers.ensures ∙ ap (λ (d : Configuration). observers_for d joiner) (c.deref.ensures ∙ c.rings.ensures ∙ c.self.invariant.0 ∙ same) in
     subst (λ (os : List Process). 1 ≤ length os) (sym found) (observers_outside config (subst IsConfiguration same c.tell.ensures) c.args.self.now.me joiner member c.requires).0
