@@ -15,6 +15,29 @@ const RUNS: u32 = 3;
 /// More packets than a world sends in as many events as it accepts, for this many members.
 const MOST_PACKETS: u64 = 2_000_000;
 
+/// What happens before packets are delivered. It has room for no process, as a `WorldEvent` has, so
+/// that what is to happen counts for little in what a world holds.
+#[derive(Clone, Copy)]
+enum Act {
+    /// A node crashes.
+    Crash(ProcessId),
+    /// A probe on a ring fails.
+    Fail(ProcessId, u8),
+    /// A node ticks.
+    Tick(ProcessId),
+}
+
+impl Act {
+    /// The event of a world.
+    fn event(&self) -> WorldEvent {
+        match self {
+            Act::Crash(id) => WorldEvent::Crash(*id),
+            Act::Fail(observer, ring) => WorldEvent::Probe(*observer, *ring, false),
+            Act::Tick(id) => WorldEvent::Tick(*id),
+        }
+    }
+}
+
 /// The greatest memory that the process held, in bytes.
 fn peak<R: Files + Alloc>(rt: &R) -> Result<u64> {
     let status = fs::read_to_string(rt, "/proc/self/status")?;
@@ -27,9 +50,9 @@ fn peak<R: Files + Alloc>(rt: &R) -> Result<u64> {
 }
 
 /// Adds four failed probes of an observer on a ring.
-fn push_failed(observer: &ProcessId, ring: u8, events: &mut Vec<WorldEvent>) -> Result<()> {
+fn push_failed(observer: &ProcessId, ring: u8, acts: &mut Vec<Act>) -> Result<()> {
     for _ in 0..4 {
-        events.push(WorldEvent::Probe(*observer, ring, false))?;
+        acts.push(Act::Fail(*observer, ring))?;
     }
     Ok(())
 }
@@ -41,7 +64,7 @@ fn push_probes(
     observer: &ProcessId,
     ring: u8,
     crashed: &[ProcessId],
-    events: &mut Vec<WorldEvent>,
+    acts: &mut Vec<Act>,
 ) -> Result<()> {
     let Some(subject) = world.observed(observer, ring) else {
         return Ok(());
@@ -49,7 +72,7 @@ fn push_probes(
     if !crashed.contains(&subject.id()) {
         return Ok(());
     }
-    push_failed(observer, ring, events)
+    push_failed(observer, ring, acts)
 }
 
 /// Adds the probes by which an observer loses all that crashed.
@@ -57,33 +80,33 @@ fn push_losses(
     world: &World,
     observer: &ProcessId,
     crashed: &[ProcessId],
-    events: &mut Vec<WorldEvent>,
+    acts: &mut Vec<Act>,
 ) -> Result<()> {
     if crashed.contains(observer) {
         return Ok(());
     }
     for ring in 0..world.founding().params().k() {
-        push_probes(world, observer, ring, crashed, events)?;
+        push_probes(world, observer, ring, crashed, acts)?;
     }
     Ok(())
 }
 
 /// All that happens before packets are delivered: some crash, the others lose them, and tick.
-fn script(alloc: Global, world: &World, crashed: &[ProcessId]) -> Result<Vec<WorldEvent>> {
+fn script(alloc: Global, world: &World, crashed: &[ProcessId]) -> Result<Vec<Act>> {
     let running = world.running()?;
-    let mut events = Vec::new(alloc);
+    let mut acts = Vec::new(alloc);
     for observer in running.as_slice() {
-        push_losses(world, observer, crashed, &mut events)?;
+        push_losses(world, observer, crashed, &mut acts)?;
     }
-    push_crashes(crashed, &mut events)?;
-    push_ticks(running.as_slice(), crashed, &mut events)?;
-    Ok(events)
+    push_crashes(crashed, &mut acts)?;
+    push_ticks(running.as_slice(), crashed, &mut acts)?;
+    Ok(acts)
 }
 
 /// Adds the crashes.
-fn push_crashes(crashed: &[ProcessId], events: &mut Vec<WorldEvent>) -> Result<()> {
+fn push_crashes(crashed: &[ProcessId], acts: &mut Vec<Act>) -> Result<()> {
     for id in crashed {
-        events.push(WorldEvent::Crash(*id))?;
+        acts.push(Act::Crash(*id))?;
     }
     Ok(())
 }
@@ -92,21 +115,21 @@ fn push_crashes(crashed: &[ProcessId], events: &mut Vec<WorldEvent>) -> Result<(
 fn push_ticks(
     running: &[ProcessId],
     crashed: &[ProcessId],
-    events: &mut Vec<WorldEvent>,
+    acts: &mut Vec<Act>,
 ) -> Result<()> {
     for id in running {
         if !crashed.contains(id) {
-            events.push(WorldEvent::Tick(*id))?;
+            acts.push(Act::Tick(*id))?;
         }
     }
     Ok(())
 }
 
-/// These events happen; how many nodes installed in them.
-fn do_all(world: &mut World, events: &[WorldEvent]) -> Result<usize> {
+/// All this happens; how many nodes installed in it.
+fn do_all(world: &mut World, acts: &[Act]) -> Result<usize> {
     let mut installed: usize = 0;
-    for event in events {
-        installed = installed.saturating_add(world.step(event)?.len());
+    for act in acts {
+        installed = installed.saturating_add(world.step(&act.event())?.len());
     }
     Ok(installed)
 }
@@ -126,9 +149,9 @@ fn deliver_all(world: &mut World, nodes: usize) -> Result<()> {
     Ok(())
 }
 
-/// These events happen, and then packets are delivered until this many nodes have installed.
-fn run(world: &mut World, events: &[WorldEvent], nodes: usize) -> Result<()> {
-    let installed = do_all(world, events)?;
+/// All this happens, and then packets are delivered until this many nodes have installed.
+fn run(world: &mut World, acts: &[Act], nodes: usize) -> Result<()> {
+    let installed = do_all(world, acts)?;
     deliver_all(world, nodes.saturating_sub(installed))
 }
 
@@ -154,10 +177,10 @@ fn take<R: Clock>(rt: &R, alloc: Global, plan: &Plan<'_>) -> Result<Taken> {
     let start = Instant::now(rt)?;
     let mut world = found(alloc, plan.founders, plan.tags)?;
     let founding = nanoseconds_since(rt, start)?;
-    let events = script(alloc, &world, crashed.as_slice())?;
+    let acts = script(alloc, &world, crashed.as_slice())?;
     let nodes = usize::from(plan.founders.saturating_sub(plan.crashes));
     let start = Instant::now(rt)?;
-    run(&mut world, events.as_slice(), nodes)?;
+    run(&mut world, acts.as_slice(), nodes)?;
     Ok(Taken {
         founding,
         running: nanoseconds_since(rt, start)?,
