@@ -8,6 +8,7 @@ pub mod Keys
 pub mod Listed
 pub mod Numbers
 pub mod Parts
+pub mod Places
 pub mod Rooms
 pub mod Spellings
 pub mod TagLists

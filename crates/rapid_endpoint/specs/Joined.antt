@@ -4,13 +4,12 @@ use Rattle.std.specs.declared.cmp.Ordering.{Ordering}
 use Rattle.std.specs.declared.cmp.Ordering.TheVariants.{Less, Equal, Greater}
 use Rattle.std.specs.Ordering.{ordering_then, nat_cmp, is_eq}
 use Rattle.std.specs.Cmp.{unsigned_ties}
-use Rattle.std.specs.Cmp.Lexicographic.{pointwise, texts_ties}
 use Rattle.std.specs.Int.{w16, to_be_bytes, from_be_bytes}
 use Rattle.std.proofs.lemmas.Nat.{from_be_bytes-to_be_bytes_2}
 use Rattle.std.proofs.lemmas.Bool.{true≢false, false≢true}
 use Rattle.std.proofs.lemmas.Bool.Decides.{nat_tests}
 use Rattle.std.proofs.Math.Seq.{take-append_seam, drop-append_seam}
-use Rattle.std.proofs.lemmas.List.{take_all, drop_all, append-nil}
+use Rattle.std.proofs.lemmas.List.{take_all}
 use Rattle.rapid_model.specs.Process.{bytes_cmp, same_bytes, endpoint}
 
 -- The first part, by its length.
@@ -89,10 +88,10 @@ cmp_endpoints a b p q e f h k =
 
 -- They are the same if their addresses and ports are.
 pub same_endpoints : (a b : List ℕ) (p q : ℕ) → length a ≡ 4 → length b ≡ 4 → p < 2 ^ 16 → q < 2 ^ 16
-    → same_bytes (a ++ to_be_bytes w16 p) (b ++ to_be_bytes w16 q) ≡ (pointwise nat_eq a b && nat_eq p q)
+    → same_bytes (a ++ to_be_bytes w16 p) (b ++ to_be_bytes w16 q) ≡ (same_bytes a b && nat_eq p q)
 same_endpoints a b p q e f h k =
     ap is_eq (cmp_endpoints a b p q e f h k) ∙ then_is_eq (bytes_cmp a b) (nat_cmp p q)
-    ∙ sym (λ i. texts_ties a b i && unsigned_ties p q i)
+    ∙ sym (λ i. same_bytes a b && unsigned_ties p q i)
 
 -- The identifier is the first part of a process, and the endpoint is the second.
 pub endpoint_part : (id place : List ℕ) → length id ≡ 16 → length (id ++ place) ≡ 22 → endpoint (id ++ place) ≡ place
@@ -106,10 +105,3 @@ and_then_second a b c e h = sym (ap (λ (d : Bool). d && c) (sym e ∙ h))
 -- The answer of `a && b`, if a is false.
 pub and_else_first : (a b c : Bool) → a ≡ b → a ≡ false → a ≡ (b && c)
 and_else_first a b c e h = h ∙ sym (ap (λ (d : Bool). d && c) (sym e ∙ h))
-
--- Zeros after the first part, with the second part written over them.
-pub written_over : (us vs xs : List ℕ) → length us ≡ 16 → length vs ≡ 6 → length xs ≡ 6
-    → take 16 (us ++ xs) ++ (vs ++ drop 6 (drop 16 (us ++ xs))) ≡ us ++ vs
-written_over us vs xs e f g =
-    (λ i. first_part 16 us xs e i ++ (vs ++ drop 6 (second_part 16 us xs e i)))
-    ∙ ap (λ (l : List ℕ). us ++ (vs ++ l)) (drop_all 6 xs (omega arith)) ∙ ap (λ (l : List ℕ). us ++ l) (append-nil vs)

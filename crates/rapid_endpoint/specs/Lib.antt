@@ -11,3 +11,4 @@ pub mod Same
 pub mod Spellings
 pub mod TagsLeft
 pub mod Texts
+pub mod Words

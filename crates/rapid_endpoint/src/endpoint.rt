@@ -8,14 +8,14 @@ ghost use Rattle.std.proofs.lemmas.Cmp.{nat_list_cmp_total, eq_by_cmp_equiv};
 ghost use Rattle.std.proofs.Common.{refl};
 ghost use Rattle.rapid_model.specs.Process.{bytes_cmp, same_bytes};
 
-use crate::bytes;
+use crate::word::Word;
 use std::cmp::Ordering;
 use std::marker::Model;
 
 /// An IPv4 endpoint: four bytes of address and a port. Endpoints are ordered by address, then port.
-#[derive(Clone, Copy, Debug)]
+#[derive(Clone, Copy)]
 pub struct Endpoint {
-    address: [u8; 4],
+    address: Word,
     port: u16,
 }
 
@@ -41,7 +41,8 @@ impl Endpoint {
     pub fn new(address: [u8; 4], port: u16) -> Endpoint
         ensures { result ≡ address ++ to_be_bytes w16 port }
     {
-        bytes::tell(&address);
+        let address = Word::new(address);
+        address.tell();
         Endpoint { address, port }
     }
 
@@ -49,7 +50,7 @@ impl Endpoint {
     pub fn address(&self) -> [u8; 4]
         ensures { result ≡ take 4 self.now }
     {
-        self.address
+        self.address.bytes()
     }
 
     /// The port.
@@ -60,11 +61,12 @@ impl Endpoint {
     }
 
     /// The four bytes of the address, then the port, high byte first.
+    #[inline(always)]
     pub fn to_bytes(&self) -> [u8; 6]
         ensures value { result ≡ self.now }
         ensures length { length self.now ≡ 6 }
     {
-        let [a, b, c, d] = self.address;
+        let [a, b, c, d] = self.address.bytes();
         let [high, low] = self.port.to_be_bytes();
         [a, b, c, d, high, low]
     }

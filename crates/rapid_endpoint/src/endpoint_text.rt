@@ -116,6 +116,12 @@ impl fmt::Display for Endpoint {
     }
 }
 
+impl fmt::Debug for Endpoint {
+    fn fmt<W: fmt::Write>(&self, f: &mut fmt::Formatter<W>) -> fmt::Result {
+        write!(f, "{self}")
+    }
+}
+
 /// Each endpoint has one spelling: its printed text is read as that endpoint, and no other text is.
 /// It does nothing: what it ensures is for proofs.
 pub fn endpoints_have_one_spelling()

@@ -31,3 +31,9 @@ impl fmt::Display for ProcessId {
         Uuid::from_bytes(self.bytes()).fmt(f)
     }
 }
+
+impl fmt::Debug for ProcessId {
+    fn fmt<W: fmt::Write>(&self, f: &mut fmt::Formatter<W>) -> fmt::Result {
+        write!(f, "{self}")
+    }
+}

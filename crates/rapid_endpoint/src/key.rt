@@ -65,10 +65,11 @@ impl Key {
         ensures value { result ≡ self.now }
         ensures key { IsKey self.now }
     {
-        let mut bytes = [0; 22];
-        bytes[..16].copy_from_slice(&self.id.bytes());
-        bytes[16..].copy_from_slice(&self.endpoint.to_bytes());
-        bytes
+        let [a, b, c, d, e, f, g, h, i, j, k, l, m, n, o, p] = self.id.bytes();
+        let [q, r, s, t, u, v] = self.endpoint.to_bytes();
+        [
+            a, b, c, d, e, f, g, h, i, j, k, l, m, n, o, p, q, r, s, t, u, v,
+        ]
     }
 
     /// The identifier and the endpoint in front of the bytes. None if there are fewer bytes than

@@ -8,6 +8,7 @@
 mod bytes;
 mod endpoint;
 mod endpoint_text;
+mod half;
 mod identifier_text;
 mod key;
 mod number;
@@ -23,6 +24,7 @@ mod tag_list;
 mod tag_reading;
 mod tags;
 mod tags_text;
+mod word;
 
 pub use endpoint::Endpoint;
 pub use endpoint_text::endpoints_have_one_spelling;

@@ -1,32 +1,39 @@
 // The identifiers of processes.
 
-ghost use Rattle.std.specs.Prelude.{◌≡◌, ◌<◌, All, length};
+ghost use Rattle.std.specs.Prelude.{◌≡◌, ◌<◌, ◌++◌, All, length};
 ghost use Rattle.std.specs.Ordering.{as_partial_cmp};
 ghost use Rattle.std.specs.Cmp.{partial_equiv_from_equiv, partial_order_from_total};
 ghost use Rattle.std.proofs.lemmas.Cmp.{nat_list_cmp_total, eq_by_cmp_equiv};
 ghost use Rattle.std.proofs.Common.{refl};
 ghost use Rattle.rapid_model.specs.Process.{bytes_cmp, same_bytes};
 
-use crate::bytes;
+use crate::half::Half;
+use crate::word::Word;
 use std::cmp::Ordering;
 use std::marker::Model;
 
-/// The identifier of a process: sixteen bytes. Identifiers are ordered by these bytes.
-#[derive(Clone, Copy, Debug)]
+/// The identifier of a process: sixteen bytes. Identifiers are ordered by these bytes. They are kept
+/// as four numbers, which are compared in fewer steps.
+#[derive(Clone, Copy)]
 pub struct ProcessId {
-    bytes: [u8; 16],
+    high: Half,
+    low: Half,
 }
 
 impl Model for ProcessId {
-    ghost use Rattle.std.specs.Prelude.{◌≡◌, ◌<◌, ℕ, List, All, length};
+    ghost use Rattle.std.specs.Prelude.{◌≡◌, ◌<◌, ◌++◌, ℕ, List, All, length, take, drop};
 
     ghost Value = { List ℕ };
 
-    ghost view = { λ p. p.bytes };
+    ghost view = { λ p. p.high ++ p.low };
 
-    ghost invariant = { λ p. (length p.bytes ≡ 16) × All (λ b. b < 256) p.bytes };
+    ghost invariant = { λ p. (length p.high ≡ 8) × (length p.low ≡ 8) × All (λ b. b < 256) (p.high ++ p.low) };
 
-    ghost inverse = { λ bytes. record { bytes = bytes } };
+    ghost inverse = { λ bytes. record { high = take 8 bytes; low = drop 8 bytes } };
+
+    ghost use Rattle.rapid_endpoint.specs.Joined.{first_part, second_part};
+
+    ghost inverse_ok = { λ p h. λ i. record { high = first_part 8 p.high p.low h.0 i; low = second_part 8 p.high p.low h.0 i } };
 }
 
 impl ProcessId {
@@ -34,16 +41,23 @@ impl ProcessId {
     pub fn new(bytes: [u8; 16]) -> ProcessId
         ensures { result ≡ bytes }
     {
-        bytes::tell(&bytes);
-        ProcessId { bytes }
+        let [a, b, c, d, e, f, g, h, i, j, k, l, m, n, o, p] = bytes;
+        let high = Half::new(Word::new([a, b, c, d]), Word::new([e, f, g, h]));
+        let low = Half::new(Word::new([i, j, k, l]), Word::new([m, n, o, p]));
+        high.tell();
+        low.tell();
+        ProcessId { high, low }
     }
 
     /// The sixteen bytes.
+    #[inline(always)]
     pub fn bytes(&self) -> [u8; 16]
         ensures value { result ≡ self.now }
         ensures length { length self.now ≡ 16 }
     {
-        self.bytes
+        let [a, b, c, d, e, f, g, h] = self.high.bytes();
+        let [i, j, k, l, m, n, o, p] = self.low.bytes();
+        [a, b, c, d, e, f, g, h, i, j, k, l, m, n, o, p]
     }
 
     /// The value is sixteen bytes. It does nothing: what it ensures is for proofs.
@@ -52,7 +66,7 @@ impl ProcessId {
         ensures length { length self.now ≡ 16 }
         ensures bytes { All (λ b. b < 256) self.now }
     {
-        let _ = &self.bytes;
+        let _ = &self.high;
     }
 }
 
@@ -63,7 +77,7 @@ impl PartialEq for ProcessId {
 
     #[inline(always)]
     fn eq(&self, other: &ProcessId) -> bool {
-        self.bytes == other.bytes
+        self.high == other.high && self.low == other.low
     }
 }
 
@@ -90,13 +104,11 @@ impl Ord for ProcessId {
 
     ghost matches_eq = { λ x y. refl };
 
-    // Two numbers of sixteen bytes, high byte first, compare as these bytes do.
     #[inline(always)]
     fn cmp(&self, other: &ProcessId) -> Ordering {
-        let (mine, others) = (
-            u128::from_be_bytes(self.bytes),
-            u128::from_be_bytes(other.bytes),
-        );
-        mine.cmp(&others)
+        if self.high != other.high {
+            return self.high.cmp(&other.high);
+        }
+        self.low.cmp(&other.low)
     }
 }

@@ -5,4 +5,5 @@ use Rattle.rapid_endpoint.proofs.endpoint.Endpoint.address.Goals as goal
 
 pub returns : goal.returns
 returns c =
-    sym (ap (take 4) (sym c.self.view_is) ∙ first_part 4 c.self.inside.address (to_be_bytes w16 c.self.inside.port) c.self.invariant.0)
+    c.bytes.ensures.value
+    ∙ sym (ap (take 4) (sym c.self.view_is) ∙ first_part 4 c.self.inside.address (to_be_bytes w16 c.self.inside.port) c.self.invariant.0)

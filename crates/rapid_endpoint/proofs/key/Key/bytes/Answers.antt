@@ -1,13 +1,11 @@
-use Rattle.std.proofs.Common.{List, ℕ, [], ◌∷◌, ◌++◌, take, drop, refl, ◌∙◌, ◌≡◌}
-use Rattle.rapid_endpoint.specs.Joined.{written_over}
+use Rattle.std.proofs.Common.{◌++◌, ◌∙◌, ℕ, List, length, ap}
+use Rattle.rapid_endpoint.proofs.Places.{all_told}
 use Rattle.rapid_endpoint.proofs.key.Key.bytes.Goals as goal
 
 pub returns-clause-value : goal.returns-clause-value
 returns-clause-value c =
-    let zeros : List ℕ = 0 ∷ 0 ∷ 0 ∷ 0 ∷ 0 ∷ 0 ∷ [] in
-    let id : c.copy_from_slice.new.self ≡ c.self.inside.id = c.copy_from_slice.ensures.after ∙ c.bytes.ensures.value in
-    let endpoint : c.copy_from_slice-2.new.self ≡ c.self.inside.endpoint =
-    c.copy_from_slice-2.ensures.after ∙ c.to_bytes.ensures.value in
-    (λ i. take 16 (id i ++ zeros) ++ (endpoint i ++ drop 6 (drop 16 (id i ++ zeros))))
-    ∙ written_over c.self.inside.id c.self.inside.endpoint zeros c.bytes.ensures.length c.to_bytes.ensures.length refl
+    let size : (l : List ℕ) → ℕ = λ l. length l in
+    (λ i. all_told 16 c.bytes.result (ap size c.bytes.ensures.value ∙ c.bytes.ensures.length) i
+    ++ all_told 6 c.to_bytes.result (ap size c.to_bytes.ensures.value ∙ c.to_bytes.ensures.length) i)
+    ∙ (λ i. c.bytes.ensures.value i ++ c.to_bytes.ensures.value i)
     ∙ c.self.view_is

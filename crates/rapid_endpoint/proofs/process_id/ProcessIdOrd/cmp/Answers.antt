@@ -1,10 +1,18 @@
-use Rattle.std.specs.Ordering.{nat_cmp}
-use Rattle.std.proofs.Common.{◌∙◌}
-use Rattle.rapid_endpoint.proofs.Numbers.{cmp_sixteen}
+use Rattle.std.proofs.Common.{sym, ◌∙◌}
+use Rattle.std.proofs.lemmas.Bool.{not-true, not-false}
+use Rattle.rapid_endpoint.specs.Joined.{first_decides, second_decides}
 use Rattle.rapid_endpoint.proofs.process_id.ProcessIdOrd.cmp.Goals as goal
+
+pub returns-then-ne : goal.returns-then-ne
+returns-then-ne c =
+    rw (← c.self.view_is, ← c.other.view_is)
+    (c.cmp.ensures
+    ∙ first_decides c.self.inside.high c.other.inside.high c.self.inside.low c.other.inside.low
+    (c.self.invariant.0 ∙ sym c.other.invariant.0) (not-true _ (sym c.ne.ensures ∙ c.if-ne.true)))
 
 pub returns : goal.returns
 returns c =
     rw (← c.self.view_is, ← c.other.view_is)
-    (c.cmp.ensures ∙ (λ i. nat_cmp (c.from_be_bytes-mine.ensures i) (c.from_be_bytes-others.ensures i))
-    ∙ cmp_sixteen c.self.inside.bytes c.other.inside.bytes c.self.invariant.0 c.other.invariant.0 c.self.invariant.1 c.other.invariant.1)
+    (c.cmp-2.ensures
+    ∙ second_decides c.self.inside.high c.other.inside.high c.self.inside.low c.other.inside.low
+    (c.self.invariant.0 ∙ sym c.other.invariant.0) (not-false _ (sym c.ne.ensures ∙ c.if-ne.false)))
