@@ -12,6 +12,7 @@ use crate::joining::members_after;
 use crate::members::{MOST_MEMBERS, check_members, identifiers_of, place_of};
 use crate::reading::{check_head, chunk_at, members_in};
 use crate::spelling::spell;
+use crate::told::tell_bytes;
 use crate::{ConfigError, ConfigId, Cut, Params, Stamp};
 use rapid_endpoint::{Process, ProcessId};
 use sha2::{Digest, Sha256};
@@ -49,6 +50,35 @@ impl Model for Configuration {
         × (arc_slice_items c.identifiers ≡ map identifier (arc_slice_items c.members)) };
 }
 
+/// The configuration of these parts, whose canonical bytes are these.
+fn assemble_spelled(
+    alloc: Global,
+    params: Params,
+    height: u64,
+    previous: ConfigId,
+    members: ArcSlice<Process>,
+    bytes: &[u8],
+) -> Result<Configuration, AllocError>
+    requires members { AreMembers (arc_slice_items members) }
+    requires bytes { bytes.now
+        ≡ configuration_bytes (record { params = params; height = height; previous = previous; members = arc_slice_items members }) }
+    ensures { IfOk result
+        (λ c. c ≡ record { params = params; height = height; previous = previous; members = arc_slice_items members }) }
+{
+    params.tell();
+    previous.tell();
+    let id = ConfigId::new(Sha256::digest(bytes));
+    let identifiers = identifiers_of(alloc, members.as_slice())?;
+    Ok(Configuration {
+        params,
+        height,
+        previous,
+        members,
+        identifiers,
+        id,
+    })
+}
+
 /// The configuration of these parts.
 pub(crate) fn assemble(
     alloc: Global,
@@ -61,19 +91,8 @@ pub(crate) fn assemble(
     ensures { IfOk result
         (λ c. c ≡ record { params = params; height = height; previous = previous; members = arc_slice_items members }) }
 {
-    params.tell();
-    previous.tell();
     let bytes = spell(alloc, params, height, previous, members.as_slice())?;
-    let id = ConfigId::new(Sha256::digest(bytes.as_slice()));
-    let identifiers = identifiers_of(alloc, members.as_slice())?;
-    Ok(Configuration {
-        params,
-        height,
-        previous,
-        members,
-        identifiers,
-        id,
-    })
+    assemble_spelled(alloc, params, height, previous, members, bytes.as_slice())
 }
 
 impl Configuration {
@@ -119,7 +138,9 @@ impl Configuration {
         let members = members_in(alloc, count, bytes)?;
         let previous = ConfigId::new(chunk_at(bytes, 4));
         let height = u64::from_be_bytes(chunk_at(bytes, 36));
-        let configuration = assemble(alloc, params, height, previous, members)?;
+        // these are the canonical bytes: a configuration has one spelling
+        tell_bytes(bytes);
+        let configuration = assemble_spelled(alloc, params, height, previous, members, bytes)?;
         configuration.tell();
         Ok(configuration)
     }
