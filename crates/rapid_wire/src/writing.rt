@@ -70,8 +70,7 @@ fn byte_of_kind(kind: Kind) -> u8
 fn put_alert(out: &mut Vec<u8>, alert: &AlertRef<'_>) -> Result<(), AllocError>
     ensures { OnOk result (out.new.items ≡ out.old.items ++ item_bytes (item_of (alert_of_ref alert.now))) }
 {
-    out.push(alert.ring)?;
-    out.push(byte_of_kind(alert.kind))?;
+    out.extend_from_slice(&[alert.ring, byte_of_kind(alert.kind)])?;
     alert.subject.append_to(out)
 }
 
