@@ -2,7 +2,7 @@
 // two levels: the context, the fast votes, and the rest, which shares its four parts in turn. So a
 // vote on a copy copies the fast votes alone, and a tick at which nothing is due copies nothing.
 
-ghost use Rattle.std.specs.Prelude.{◌≡◌, ◌<◌, ◌≤◌, [], false, None, All, IfOk, IfSome, IfNone, IfErr, Ok, Err, OnOk, OnErr, length};
+ghost use Rattle.std.specs.Prelude.{◌≡◌, ◌<◌, ◌≤◌, [], false, None, All, IfOk, IfSome, IfNone, Ok, Err, OnOk, OnErr, length};
 ghost use Rattle.std.specs.Arc.{arc_value};
 ghost use Rattle.rapid_model.specs.Acceptor as acceptor;
 ghost use Rattle.rapid_model.specs.Acceptor.{fresh_acceptor};
@@ -15,7 +15,6 @@ ghost use Rattle.rapid_model.specs.Outbox as outbox;
 ghost use Rattle.rapid_model.specs.Ring.{observers_of};
 ghost use Rattle.rapid_model.specs.Limits.{most_members};
 ghost use Rattle.rapid_alerts.specs.Alerts.{alert_of};
-ghost use Rattle.rapid_alerts.specs.Refusals.{Refuses};
 ghost use Rattle.rapid_join.specs.Hosts.{fresh_host};
 ghost use Rattle.rapid_message.specs.Bodies.{IsFrom};
 ghost use Rattle.rapid_member.specs.Parts.{IsContext};
@@ -24,7 +23,7 @@ ghost use Rattle.std.specs.FinMap as map;
 
 use crate::ages::Ages;
 use crate::shared_rings::SharedRings;
-use rapid_alerts::{Alert, Batch, Outbox, RaiseError, Raising};
+use rapid_alerts::{Alert, Batch, Outbox, RaiseError};
 use rapid_config::{Configuration, Cut};
 use rapid_cut::Detector;
 use rapid_endpoint::SharedProcess;
@@ -178,16 +177,23 @@ impl Raised {
         })
     }
 
-    /// Raises an alert as [`Outbox::raise`] does.
-    pub(crate) fn raise(&mut self, alert: Alert) -> Result<Raising, RaiseError>
-        ensures raised { OnOk result (self.new.outbox ≡ outbox.raise (observers_of self.old.table) self.old.owner self.old.outbox (alert_of alert)) }
-        ensures refused { IfErr result (Refuses (outbox.raising (observers_of self.old.table) self.old.owner self.old.outbox (alert_of alert))) }
+    /// Raises an alert as [`Outbox::raise`] does; a refused one is ignored. If out of memory nothing
+    /// changes.
+    pub(crate) fn raise(&mut self, alert: &Alert) -> Result<(), AllocError>
+        ensures raised { OnOk result (self.new.outbox ≡ outbox.raise (observers_of self.old.table) self.old.owner self.old.outbox (alert_of alert.now)) }
         ensures unchanged { OnErr result (self.new ≡ self.old) }
         ensures table { self.new.table ≡ self.old.table }
         ensures owner { self.new.owner ≡ self.old.owner }
     {
         self.waits = true;
-        self.outbox.raise(alert)
+        match self.outbox.raise(*alert) {
+            Ok(_) => Ok(()),
+            Err(RaiseError::OutOfMemory) => Err(AllocError),
+            Err(RaiseError::WrongObserver) => Ok(()),
+            Err(RaiseError::WrongKind) => Ok(()),
+            Err(RaiseError::OldConfiguration) => Ok(()),
+            Err(RaiseError::TooManyJoiners) => Ok(()),
+        }
     }
 
     /// Whether some alerts may wait to be flushed. If none does, a flush gives no batch and changes

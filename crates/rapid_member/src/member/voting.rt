@@ -10,7 +10,7 @@ ghost use Rattle.rapid_paxos.specs.Reported.{last_of};
 
 use super::MemberState;
 use crate::sending::{answer, say};
-use rapid_alerts::{Alert, AlertList, RaiseError};
+use rapid_alerts::{Alert, AlertList};
 use rapid_config::Cut;
 use rapid_endpoint::Process;
 use rapid_fast::HearError;
@@ -22,22 +22,24 @@ use std::sync::Arc;
 impl MemberState {
     /// Raises an alert, which goes out with the batch of the next tick. A refused one is ignored.
     /// If out of memory the member is as it was.
-    #[tactic(auto, unfolding(rapid_model::specs::Member::raise_alert))]
     pub fn raise(&mut self, alert: Alert) -> Result<(), AllocError>
         ensures state { OnOk result (self.new ≡ member.raise_alert self.old (alert_of alert)) }
         ensures unchanged { OnErr result (self.new ≡ self.old) }
         ensures same { IsSameMember self.old self.new }
     {
+        self.raise_one(&alert)
+    }
+
+    /// Raises an alert as `raise` does.
+    #[tactic(auto, unfolding(rapid_model::specs::Member::raise_alert))]
+    fn raise_one(&mut self, alert: &Alert) -> Result<(), AllocError>
+        ensures state { OnOk result (self.new ≡ member.raise_alert self.old (alert_of alert.now)) }
+        ensures unchanged { OnErr result (self.new ≡ self.old) }
+        ensures same { IsSameMember self.old self.new }
+    {
         let rest = Arc::make_mut(&mut self.rest)?;
         let raised = Arc::make_mut(&mut rest.raised)?;
-        match raised.raise(alert) {
-            Ok(_) => Ok(()),
-            Err(RaiseError::OutOfMemory) => Err(AllocError),
-            Err(RaiseError::WrongObserver) => Ok(()),
-            Err(RaiseError::WrongKind) => Ok(()),
-            Err(RaiseError::OldConfiguration) => Ok(()),
-            Err(RaiseError::TooManyJoiners) => Ok(()),
-        }
+        raised.raise(alert)
     }
 
     /// A vote was sent or heard.
