@@ -15,7 +15,7 @@ pub fn process(n: u16) -> Process {
 
 /// The processes with these numbers.
 pub fn processes(alloc: Global, first: u16, last: u16) -> Result<Vec<Process>> {
-    let mut all = Vec::new(alloc);
+    let mut all = Vec::with_capacity(alloc, usize::from(last.saturating_sub(first)) + 1)?;
     for n in first..=last {
         all.push(process(n))?;
     }

@@ -112,11 +112,7 @@ fn push_crashes(crashed: &[ProcessId], acts: &mut Vec<Act>) -> Result<()> {
 }
 
 /// Adds a tick of each that did not crash.
-fn push_ticks(
-    running: &[ProcessId],
-    crashed: &[ProcessId],
-    acts: &mut Vec<Act>,
-) -> Result<()> {
+fn push_ticks(running: &[ProcessId], crashed: &[ProcessId], acts: &mut Vec<Act>) -> Result<()> {
     for id in running {
         if !crashed.contains(id) {
             acts.push(Act::Tick(*id))?;
