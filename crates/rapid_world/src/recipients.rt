@@ -109,8 +109,15 @@ fn member_at(members: &[Process], left_out: Option<usize>, place: usize) -> Opti
 {
     match left_out {
         Some(out) if out <= place => after(members, place),
-        Some(_) | None => members.get(place).copied(),
+        Some(_) | None => at(members, place),
     }
+}
+
+/// The member at a place.
+fn at(members: &[Process], place: usize) -> Option<Process>
+    ensures { result ≡ slice_get members.now place }
+{
+    members.get(place).copied()
 }
 
 /// The member next after a place.
