@@ -8,6 +8,7 @@ import re
 import shutil
 import subprocess
 import tempfile
+import time
 from concurrent.futures import FIRST_COMPLETED, ThreadPoolExecutor, wait
 from pathlib import Path
 
@@ -157,26 +158,32 @@ def side_by_side(tasks):
     A task is what it waits for, and a call that is told how many jobs it may use, and gives how many passed, how many
     failed, and what to say of that. If one that it waits for failed, it is not run, and has failed too. As long as the
     longest chain would outlast all the rest, its tasks have up to three jobs, also beyond four lanes; all others have
-    one. Gives how many passed and failed in all, and which tasks failed."""
-    free = int(re.search(r"MemAvailable:\s+(\d+)", Path("/proc/meminfo").read_text())[1]) * 1024
-    lanes = max(1, min(len(os.sched_getaffinity(0)), free // MEMORY))
+    one, and if there is the memory for it, they have a lane more beside such a task. Gives how many passed and failed
+    in all, and which tasks failed."""
+    most = int(re.search(r"MemAvailable:\s+(\d+)", Path("/proc/meminfo").read_text())[1]) * 1024 // MEMORY
+    lanes = max(1, min(len(os.sched_getaffinity(0)), most))
     seconds, behind, running, ended = {it: SECONDS.get(it, 60) for it in tasks}, dict.fromkeys(tasks, 0), {}, {}
     for key in reversed([*tasks]):
         behind[key] += seconds[key]
         behind.update({it: max(behind[it], behind[key]) for it in tasks[key][0]})
     waiting = sorted(tasks, key=lambda it: -behind[it])
     with ThreadPoolExecutor(lanes + 1) as pool:
-        while left := [*waiting, *(key for key, _ in running.values())]:
-            longest, work = max(behind[it] for it in left), sum(seconds[it] for it in left) / lanes
+        while left := [*waiting, *(it[0] for it in running.values())]:
+            went = {key: min(seconds[key], time.monotonic() - began) for key, _, began in running.values()}
+            longest = max(behind[it] - went.get(it, 0) for it in left)
+            work = sum(seconds[it] - went.get(it, 0) for it in left) / lanes
             for key in [it for it in waiting if ended.keys() >= {*tasks[it][0]}]:
-                idle, is_first = lanes - sum(jobs for _, jobs in running.values()), behind[key] == longest > work
+                taken = [it[1] for it in running.values()]
+                idle = lanes + (lanes < most and max(taken, default=1) > 1) - sum(taken)
+                is_first = behind[key] == longest > work
                 if idle > 0 or is_first and lanes > 3:
                     jobs = min(3, max(idle, lanes - 1)) if is_first else 1
                     is_well = not any(ended[it][1] for it in tasks[key][0])
                     waiting.remove(key)
-                    running[pool.submit(tasks[key][1] if is_well else not_run, jobs)] = key, jobs
+                    task = pool.submit(tasks[key][1] if is_well else not_run, jobs)
+                    running[task] = key, jobs, time.monotonic()
             for done in wait(running, return_when=FIRST_COMPLETED).done:
-                key, _ = running.pop(done)
+                key, *_ = running.pop(done)
                 passed, failed, said = done.result()
                 ended[key] = passed, failed
                 left.remove(key)
