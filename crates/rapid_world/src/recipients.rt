@@ -92,8 +92,8 @@ impl Recipients {
     }
 
     /// The recipient at a place, by identifier.
-    pub(crate) fn get(&self, place: usize) -> Option<Process>
-        ensures { result ≡ slice_get self.now place }
+    pub(crate) fn get(&self, place: usize) -> Option<&Process>
+        ensures { option_map (λ p. p.now) result ≡ slice_get self.now place }
     {
         match &self.configuration {
             Some(configuration) => member_at(configuration.members(), self.left_out, place),
@@ -104,28 +104,21 @@ impl Recipients {
 
 /// The member at a place, if the one at another place is left out.
 #[tactic(auto, using(crate::proofs::Others::gets_below, crate::proofs::Others::gets_above))]
-fn member_at(members: &[Process], left_out: Option<usize>, place: usize) -> Option<Process>
-    ensures { result ≡ slice_get (without members.now left_out) place }
+fn member_at(members: &[Process], left_out: Option<usize>, place: usize) -> Option<&Process>
+    ensures { option_map (λ p. p.now) result ≡ slice_get (without members.now left_out) place }
 {
     match left_out {
         Some(out) if out <= place => after(members, place),
-        Some(_) | None => at(members, place),
+        Some(_) | None => members.get(place),
     }
 }
 
-/// The member at a place.
-fn at(members: &[Process], place: usize) -> Option<Process>
-    ensures { result ≡ slice_get members.now place }
-{
-    members.get(place).copied()
-}
-
 /// The member next after a place.
-fn after(members: &[Process], place: usize) -> Option<Process>
-    ensures { result ≡ slice_get members.now (suc place) }
+fn after(members: &[Process], place: usize) -> Option<&Process>
+    ensures { option_map (λ p. p.now) result ≡ slice_get members.now (suc place) }
 {
     if place < members.len() {
-        members.get(place + 1).copied()
+        members.get(place + 1)
     } else {
         None
     }

@@ -39,13 +39,13 @@ impl World {
     /// The node at a place takes another event by this one.
     fn hand(
         &mut self,
-        event: WorldEvent,
+        event: &WorldEvent,
         place: usize,
         taken: &Event,
     ) -> Result<Vec<Report>, WorldError>
-        requires { Hands self.old (event_of event) place (taken_of taken.now) }
-        ensures stored { IfOk result (λ reports. StoresEvent self.old self.new (event_of event) (map report_of reports.items)) }
-        ensures refused { IfErr result (Refuses (event_refusal self.old (event_of event))) }
+        requires { Hands self.old (event_of event.now) place (taken_of taken.now) }
+        ensures stored { IfOk result (λ reports. StoresEvent self.old self.new (event_of event.now) (map report_of reports.items)) }
+        ensures refused { IfErr result (Refuses (event_refusal self.old (event_of event.now))) }
         ensures unchanged { OnErr result (self.new ≡ self.old) }
     {
         match self.give(event, place, taken) {
@@ -63,7 +63,7 @@ impl World {
     {
         self.tell();
         match self.running_under(&id) {
-            Some(place) => self.hand(WorldEvent::Tick(id), place, &Event::Tick),
+            Some(place) => self.hand(&WorldEvent::Tick(id), place, &Event::Tick),
             None => Err(WorldError::NoSuchNode),
         }
     }
@@ -105,7 +105,7 @@ impl World {
         match self.arrival(number, last) {
             Ok((place, arrived)) => {
                 self.aim(place);
-                let result = self.hand(WorldEvent::Deliver(number), place, arrived.event());
+                let result = self.hand(&WorldEvent::Deliver(number), place, arrived.event());
                 self.keep_last(arrived);
                 result
             }
@@ -121,7 +121,7 @@ impl World {
         ensures unchanged { OnErr result (self.new ≡ self.old) }
     {
         match self.running_under(&id) {
-            Some(place) => match self.crash_at(WorldEvent::Crash(id), place) {
+            Some(place) => match self.crash_at(&WorldEvent::Crash(id), place) {
                 Ok(reports) => Ok(reports),
                 Err(AllocError) => Err(WorldError::OutOfMemory),
             },
@@ -138,7 +138,7 @@ impl World {
     {
         self.tell();
         match self.running_under(&id) {
-            Some(place) => self.hand(WorldEvent::Leave(id), place, &Event::Leave),
+            Some(place) => self.hand(&WorldEvent::Leave(id), place, &Event::Leave),
             None => Err(WorldError::NoSuchNode),
         }
     }
@@ -194,7 +194,7 @@ impl World {
         match self.edge(&id, ring, ok) {
             Ok((place, config, subject)) => {
                 let event = WorldEvent::Probe(id, ring, ok);
-                match self.probe_at(event, place, ring, ok, (config, subject)) {
+                match self.probe_at(&event, place, ring, ok, (config, subject)) {
                     Ok(reports) => Ok(reports),
                     Err(AllocError) => Err(WorldError::OutOfMemory),
                 }

@@ -173,12 +173,12 @@ impl World {
     /// The node at a place takes another event by this one, which is stored with its mark.
     pub(crate) fn give(
         &mut self,
-        event: WorldEvent,
+        event: &WorldEvent,
         place: usize,
         taken: &Event,
     ) -> Result<Vec<Report>, AllocError>
-        requires { Hands self.old (event_of event) place (taken_of taken.now) }
-        ensures stored { IfOk result (λ reports. StoresEvent self.old self.new (event_of event) (map report_of reports.items)) }
+        requires { Hands self.old (event_of event.now) place (taken_of taken.now) }
+        ensures stored { IfOk result (λ reports. StoresEvent self.old self.new (event_of event.now) (map report_of reports.items)) }
         ensures unchanged { OnErr result (self.new ≡ self.old) }
     {
         self.stored.reserve()?;
@@ -187,23 +187,23 @@ impl World {
         let has_outcome = has_outcome(self.peers.as_slice()[place].node(), taken)?;
         let told = self.peers.hand(place, &mut self.mail, taken)?;
         let mark = is_marked(told.halts, has_outcome);
-        self.stored.push(&event, place, mark);
+        self.stored.push(event, place, mark);
         Ok(self.room.take(told.report))
     }
 
     /// The node at a place crashes by this event, which is stored.
     pub(crate) fn crash_at(
         &mut self,
-        event: WorldEvent,
+        event: &WorldEvent,
         place: usize,
     ) -> Result<Vec<Report>, AllocError>
-        requires { (p : ModelPeer) × Does self.old (event_of event) place p (crash_of p) }
-        ensures stored { IfOk result (λ reports. StoresEvent self.old self.new (event_of event) (map report_of reports.items)) }
+        requires { (p : ModelPeer) × Does self.old (event_of event.now) place p (crash_of p) }
+        ensures stored { IfOk result (λ reports. StoresEvent self.old self.new (event_of event.now) (map report_of reports.items)) }
         ensures unchanged { OnErr result (self.new ≡ self.old) }
     {
         self.stored.reserve()?;
         self.peers.crash(place);
-        self.stored.push(&event, place, false);
+        self.stored.push(event, place, false);
         Ok(Vec::new(self.alloc))
     }
 
@@ -230,20 +230,20 @@ impl World {
     /// on a ring. The event is stored with its mark.
     pub(crate) fn probe_at(
         &mut self,
-        event: WorldEvent,
+        event: &WorldEvent,
         place: usize,
         ring: u8,
         ok: bool,
         observed: (ConfigId, Process),
     ) -> Result<Vec<Report>, AllocError>
-        requires { (p : ModelPeer) × Probes self.old (event_of event) place p ring ok (EdgeDown observed.0 ring observed.1) }
-        ensures stored { IfOk result (λ reports. StoresEvent self.old self.new (event_of event) (map report_of reports.items)) }
+        requires { (p : ModelPeer) × Probes self.old (event_of event.now) place p ring ok (EdgeDown observed.0 ring observed.1) }
+        ensures stored { IfOk result (λ reports. StoresEvent self.old self.new (event_of event.now) (map report_of reports.items)) }
         ensures unchanged { OnErr result (self.new ≡ self.old) }
     {
         self.stored.reserve()?;
         self.room.reserve()?;
         let told = self.peers.probe(place, ring, ok, observed)?;
-        self.stored.push(&event, place, told.halts);
+        self.stored.push(event, place, told.halts);
         Ok(self.room.take(told.report))
     }
 }

@@ -25,11 +25,11 @@ push-requires-clause-names c = named_at _ _ _ _ _ _ _ _ c.self.invariant c.self.
 pub invariant_of-self-2 : goal.invariant_of-self-2
 invariant_of-self-2 c =
     let at = at_place _ _ _ _ _ _ c.self.invariant c.self.view_is c.requires.1.at in
-    given_run c.args.self.now _ _ _ (record { event = event_of c.args.event; halts = false }) _ _ _ _ _ _ (crash_of c.requires.0)
+    given_run c.args.self.now _ _ _ (record { event = event_of c.args.event.now; halts = false }) _ _ _ _ _ _ (crash_of c.requires.0)
     c.self.view_is c.reserve.ensures.world c.push.ensures c.self.invariant c.requires.1 refl
     (c.crash.ensures c.requires.0 at) (nothing_more c.self.inside.mail.packets) (All-nil HasFrame)
 
 pub returns-clause-stored : goal.returns-clause-stored
 returns-clause-stored c =
-    given_stored c.args.self.now _ _ _ (record { event = event_of c.args.event; halts = false }) _ _ (crash_of c.requires.0) _
+    given_stored c.args.self.now _ _ _ (record { event = event_of c.args.event.now; halts = false }) _ _ (crash_of c.requires.0) _
     c.self.view_is c.reserve.ensures.world c.push.ensures c.requires.1 (no_reports _ c.new.ensures.items) (λ t. cc) (λ t. cc)

@@ -58,7 +58,7 @@ invariant_of-self-2 c =
     let goes : c.in_ok-has_outcome.has_outcome ≡ is_some (node_step c.requires.peer.node (taken_of c.args.taken.now)) =
     c.in_ok-has_outcome.ensures ∙ ap (λ (n : Node). is_some (node_step n (taken_of c.args.taken.now))) (c.node.ensures ∙ ap (λ (p : Peer). p.node) is) in
     let same = same_mark c.requires.peer (taken_of c.args.taken.now) c.in_ok-told.told.halts c.in_ok-has_outcome.has_outcome goes ∙ ap (handed c.requires.peer (taken_of c.args.taken.now)) (sym c.is_marked-mark.ensures) in
-    given_run c.args.self.now _ _ _ (record { event = event_of c.args.event; halts = c.is_marked-mark.result }) _ _ _ _ _ _ (handed c.requires.peer (taken_of c.args.taken.now))
+    given_run c.args.self.now _ _ _ (record { event = event_of c.args.event.now; halts = c.is_marked-mark.result }) _ _ _ _ _ _ (handed c.requires.peer (taken_of c.args.taken.now))
     c.self.view_is c.reserve.ensures.world c.push.ensures c.self.invariant c.requires.does
     (handed_me c.requires.peer (taken_of c.args.taken.now) c.is_marked-mark.result c.requires.keeps)
     (c.in_ok-told.ensures.peers c.requires.peer at ∙ ap (λ (d : Handed). slice_set c.self.inside.peers c.args.place d.peer) same)
@@ -72,7 +72,7 @@ returns-clause-stored c =
     let goes : c.in_ok-has_outcome.has_outcome ≡ is_some (node_step c.requires.peer.node (taken_of c.args.taken.now)) =
     c.in_ok-has_outcome.ensures ∙ ap (λ (n : Node). is_some (node_step n (taken_of c.args.taken.now))) (c.node.ensures ∙ ap (λ (p : Peer). p.node) is) in
     let same = same_mark c.requires.peer (taken_of c.args.taken.now) c.in_ok-told.told.halts c.in_ok-has_outcome.has_outcome goes ∙ ap (handed c.requires.peer (taken_of c.args.taken.now)) (sym c.is_marked-mark.ensures) in
-    given_stored c.args.self.now _ _ _ (record { event = event_of c.args.event; halts = c.is_marked-mark.result }) _ _ (handed c.requires.peer (taken_of c.args.taken.now)) _
+    given_stored c.args.self.now _ _ _ (record { event = event_of c.args.event.now; halts = c.is_marked-mark.result }) _ _ (handed c.requires.peer (taken_of c.args.taken.now)) _
     c.self.view_is c.reserve.ensures.world c.push.ensures c.requires.does
     (one_report [] _ _ c.take.ensures refl ∙ c.in_ok-told.ensures.reports c.requires.peer at ∙ ap (λ (d : Handed). d.reports) same)
     (handed_marks c.requires.peer (taken_of c.args.taken.now) c.is_marked-mark.result)

@@ -41,7 +41,7 @@ push-requires-clause-names c = named_at _ _ _ _ _ _ _ _ c.self.invariant c.self.
 pub invariant_of-self-2 : goal.invariant_of-self-2
 invariant_of-self-2 c =
     let at = at_place _ _ _ _ _ _ c.self.invariant c.self.view_is c.requires.1.does.at in
-    given_run c.args.self.now _ _ _ (record { event = event_of c.args.event; halts = c.in_ok-told.told.halts }) _ _ _ _ _ _ (told c.requires.0 c.args.ring c.args.ok (EdgeDown c.args.observed.0 c.args.ring c.args.observed.1))
+    given_run c.args.self.now _ _ _ (record { event = event_of c.args.event.now; halts = c.in_ok-told.told.halts }) _ _ _ _ _ _ (told c.requires.0 c.args.ring c.args.ok (EdgeDown c.args.observed.0 c.args.ring c.args.observed.1))
     c.self.view_is c.reserve.ensures.world c.push.ensures c.self.invariant c.requires.1.does
     (told_me c.requires.0 c.args.ring c.args.ok (EdgeDown c.args.observed.0 c.args.ring c.args.observed.1) c.in_ok-told.told.halts c.requires.1.keeps)
     (c.in_ok-told.ensures.peers c.requires.0 at) (none_more _ _ (c.in_ok-told.ensures.packets c.requires.0 at)) (none_framed _ (c.in_ok-told.ensures.packets c.requires.0 at))
@@ -49,7 +49,7 @@ invariant_of-self-2 c =
 pub returns-clause-stored : goal.returns-clause-stored
 returns-clause-stored c =
     let at = at_place _ _ _ _ _ _ c.self.invariant c.self.view_is c.requires.1.does.at in
-    given_stored c.args.self.now _ _ _ (record { event = event_of c.args.event; halts = c.in_ok-told.told.halts }) _ _ (told c.requires.0 c.args.ring c.args.ok (EdgeDown c.args.observed.0 c.args.ring c.args.observed.1)) _
+    given_stored c.args.self.now _ _ _ (record { event = event_of c.args.event.now; halts = c.in_ok-told.told.halts }) _ _ (told c.requires.0 c.args.ring c.args.ok (EdgeDown c.args.observed.0 c.args.ring c.args.observed.1)) _
     c.self.view_is c.reserve.ensures.world c.push.ensures c.requires.1.does
     (one_report [] _ _ c.take.ensures refl ∙ c.in_ok-told.ensures.reports c.requires.0 at)
     (told_marks c.requires.0 c.args.ring c.args.ok (EdgeDown c.args.observed.0 c.args.ring c.args.observed.1) c.in_ok-told.told.halts (c.in_ok-told.ensures.quiet c.requires.0 at))
