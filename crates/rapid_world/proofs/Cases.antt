@@ -29,7 +29,7 @@ use Rattle.rapid_world.specs.Worlds.{IsRunOf}
 use Rattle.rapid_world.proofs.Doing.{Read, new_acts, reads_hands, does_read, one_more, lives}
 use Rattle.rapid_world.proofs.Keeping.{keeps_at}
 use Rattle.rapid_world.proofs.Storing.{one_started}
-use Rattle.rapid_model.proofs.Lists.{contains_later, contains_at}
+use Rattle.rapid_model.proofs.Lists.{contains_at}
 
 -- ---- who is found
 

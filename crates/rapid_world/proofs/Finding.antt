@@ -1,12 +1,12 @@
 -- Where the peers of a world are found.
 use Rattle.std.proofs.Common.{◌≡◌, inl, inr, ℕ, ◌<◌, Bool, true, false, cond, not, ◌&&◌, ◌||◌, List, [], ◌∷◌, ◌++◌, map, take, length, slice_get, slice_set, get_or, refl, sym, ap, subst, ◌∙◌, Option, Some, None, arith, zero, suc, ◌+◌}
 use Rattle.std.specs.Prelude.{position, is_some}
-use Rattle.std.specs.List.{list_any, list_all, find, position_or_len}
+use Rattle.std.specs.List.{list_any, find, position_or_len}
 use Rattle.std.specs.Option.{option_map, option_and_then}
 use Rattle.std.specs.FinMap as finmap
 use Rattle.std.proofs.lemmas.Bool.{and_parts, false_from_ne_true, lt-ltb, le-ltb, not-true}
 use Rattle.std.proofs.lemmas.List.{set-get_or}
-use Rattle.std.proofs.lemmas.List.Folds.{list_any_at, find_at}
+use Rattle.std.proofs.lemmas.List.Folds.{find_at}
 use Rattle.std.proofs.lemmas.List.Sums.{position_or_len_is}
 use Rattle.std.proofs.lemmas.Option.{slice_get_within, slice_get-get_or, slice_get_past, get_or_from_slice_get, same_Some}
 use Rattle.rapid_model.proofs.Orders.{processes_total, same_bytes_decides}

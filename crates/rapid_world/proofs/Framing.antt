@@ -1,6 +1,6 @@
 -- Packets and the frames of their messages.
 use Rattle.std.proofs.Common.{◌≡◌, ℕ, zero, suc, ◌-◌, Bool, true, false, cond, ◌==◌, List, [], ◌∷◌, ◌++◌, map, slice_get, refl, sym, ap, subst, ◌∙◌, Option, Some, None}
-use Rattle.std.specs.Prelude.{All, flat_map, is_some, nat_eq}
+use Rattle.std.specs.Prelude.{All, IfOk, Result, Ok, Err, flat_map, is_some, nat_eq}
 use Rattle.std.specs.Cmp.Lexicographic.{pointwise, same_text}
 use Rattle.std.specs.Option.{option_map}
 use Rattle.std.proofs.lemmas.List.{map-append}
@@ -14,6 +14,8 @@ use Rattle.rapid_model.specs.Node.{Destination, To, Others, Itself, Output}
 use Rattle.rapid_model.specs.Packets.{packets_of, packets_to, packet_to}
 use Rattle.rapid_model.specs.World.{World, Packet, packet, can_receive, running_at}
 use Rattle.rapid_world.specs.Framed.{FramedPacket, framed_packet, framed_output, HasFrame, CanBeFramed, frame_to, output_to, frames_to, frames_of, IsFrameOf}
+use Rattle.rapid_model.specs.Node.{Event, Receive}
+use Rattle.rapid_world.specs.Arrivals.{Brings, IsReadFrom}
 use Rattle.rapid_world.specs.Sent.{numbered_packet}
 
 -- ---- what goes out
@@ -111,3 +113,32 @@ can_be_received w (Some p) to bytes h = ap (λ e. is_some (running_at w e)) h.0
 pub cannot_be_received : (w : World) (o : Option Packet) → IsFrameOf o None → false ≡ can_receive w o
 cannot_be_received w None h = refl
 cannot_be_received w (Some p) h = absurd h
+
+-- ---- what is read of a packet's frame
+
+numbered_is : (w : World) (k : ℕ) → numbered_packet (map framed_packet w.packets) k ≡ option_map framed_packet (packet w k)
+numbered_is w k = by (k == 0)
+  where
+    by : (b : Bool) → cond b None (slice_get (map framed_packet w.packets) (k - 1)) ≡ option_map framed_packet (cond b None (slice_get w.packets (k - 1)))
+    by true = refl
+    by false = slice_get-map framed_packet w.packets (k - 1)
+
+-- what is read from the frame of a packet
+pub brings_read : (w : World) (k : ℕ) (to : Endpoint) (bytes : List ℕ) (e : Event) → IsFrameOf (packet w k) (Some (to, bytes)) → IsReadFrom bytes e → Brings (map framed_packet w.packets) k e
+unfolding framed_packet
+brings_read w k to bytes e h reads q is = by (packet w k) refl h
+  where
+    by : (o : Option Packet) → packet w k ≡ o → IsFrameOf o (Some (to, bytes)) → IsReadFrom q.bytes e
+    by None i h = absurd h
+    by (Some p) i h =
+        let same : framed_packet p ≡ q = let j = sym (numbered_is w k ∙ ap (option_map framed_packet) i) ∙ is in cc in
+        subst (λ (l : List ℕ). IsReadFrom l e) (h.1.1 ∙ ap (λ (x : FramedPacket). x.bytes) same) reads
+
+-- is its message
+pub brings_message : (w : World) (k : ℕ) (p : Packet) (e : Event) → Brings (map framed_packet w.packets) k e → packet w k ≡ Some p → HasFrame p → e ≡ Receive p.message
+unfolding framed_packet
+brings_message w k p e h is framed = h (framed_packet p) (numbered_is w k ∙ ap (option_map framed_packet) is) p.message (framed, refl)
+
+pub ok_with : {A E : Type 0} {P Q : A → Type 0} (r : Result A E) → ((a : A) → P a → Q a) → IfOk r P → IfOk r Q
+ok_with (Ok a) f h = f a h
+ok_with (Err e) f h = h

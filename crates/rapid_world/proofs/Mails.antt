@@ -1,9 +1,11 @@
 -- Packets by number.
 use Rattle.std.proofs.Common.{◌≡◌, ℕ, zero, suc, ◌+◌, ◌-◌, ◌<◌, ◌≤◌, Bool, true, false, cond, ◌==◌, List, [], ◌∷◌, ◌++◌, length, get_or, slice_get, refl, sym, ap, subst, ◌∙◌, Option, Some, None, arith, append_assoc}
-use Rattle.std.specs.Prelude.{nat_lt}
+use Rattle.std.specs.Prelude.{nat_lt, IfSome}
 use Rattle.std.specs.List.Sorted.{IsPartitionPoint, IsPartitionedBy}
 use Rattle.std.proofs.lemmas.List.{length-append}
-use Rattle.std.proofs.lemmas.Option.{slice_get_past, slice_get_within, get_or_from_slice_get}
+use Rattle.std.proofs.lemmas.Option.{slice_get_past, slice_get_within, slice_get-get_or, get_or_from_slice_get}
+use Rattle.rapid_model.specs.Node.{Event}
+use Rattle.rapid_world.specs.Arrivals.{AreRead, Brings, HaveFrame, IsReadFrom}
 use Rattle.rapid_world.specs.Framed.{FramedPacket}
 use Rattle.rapid_world.specs.Sent.{Sent, all_packets, AreNumbered, HasSent, Tells, numbered_packet}
 use Rattle.rapid_world.proofs.Packets.{get_left, get_right}
@@ -206,3 +208,66 @@ last_tells ss total k i j h p e l =
 -- what is read at the place
 pub read_there : (ss : List Sent) (i : ℕ) (s x : Sent) → slice_get ss i ≡ Some s → x ≡ get_or ss i x → x ≡ s
 read_there ss i s x at is = is ∙ get_or_from_slice_get ss i s x at
+
+-- ---- what is read from one frame
+
+-- packets that come later change nothing of it
+pub still_read : (ps qs : List FramedPacket) (first end : ℕ) (e : Event) → AreRead ps first end e → AreRead (ps ++ qs) first end e
+still_read ps qs first end e h =
+    record {
+      there = let l = length-append ps qs in let t = h.there in omega arith;
+      read = λ k lo hi p is.
+          let t = h.there in
+          let some : 0 < k = omega (arith, lo) in
+          let within : (k - 1) - 0 < length ps = omega (arith, lo, hi, t) in
+          h.read k lo hi p (numbered_at ps k some ∙ sym (get_left ps qs ((k - 1) - 0) within) ∙ sym (numbered_at (ps ++ qs) k some) ∙ is);
+    }
+
+pub all_still_read : {A : Type 0} (o : Option A) (first end : A → ℕ) (e : A → Event) (ps qs : List FramedPacket) → IfSome o (λ a. AreRead ps (first a) (end a) (e a)) → IfSome o (λ a. AreRead (ps ++ qs) (first a) (end a) (e a))
+all_still_read None first end e ps qs h = h
+all_still_read (Some a) first end e ps qs h = still_read ps qs (first a) (end a) (e a) h
+
+-- what is read is that of each packet between the numbers
+pub reads_one : {A : Type 0} (o : Option A) (e : A → Event) (ps : List FramedPacket) (first end k : ℕ) (read : Event) → AreRead ps first end read → IfSome o (λ a. (e a ≡ read) × (first < k) × (k ≤ end)) → IfSome o (λ a. Brings ps k (e a))
+reads_one None e ps first end k read all h = h
+reads_one (Some a) e ps first end k read all h = subst (λ (x : Event). Brings ps k x) (sym h.0) (all.read k h.1 h.2)
+
+-- the packets of a step are among all
+sent_within : (n : ℕ) (ss : List Sent) (total i : ℕ) (s : Sent) → AreNumbered n ss total → slice_get ss i ≡ Some s → s.first + length s.packets ≤ n + length (all_packets ss)
+sent_within n [] total i s h at = absurd cc
+sent_within n (t ∷ ss) total zero s h at =
+    let same : t ≡ s = inside at in
+    let first : s.first ≡ n = sym (ap (λ (x : Sent). x.first) same) ∙ h.0 in
+    let len : length t.packets ≡ length s.packets = ap (λ (x : Sent). length x.packets) same in
+    let all = length-append t.packets (all_packets ss) in
+    omega (arith, first, len, all)
+sent_within n (t ∷ ss) total (suc i) s h at =
+    let r = sent_within (n + length t.packets) ss total i s h.1 at in
+    let all = length-append t.packets (all_packets ss) in
+    omega (arith, r, all)
+
+-- what is read from the frame of one packet is read from those of all that have it
+pub all_read : (ss : List Sent) (total k i : ℕ) (s : Sent) (first end : ℕ) (e : Event) → AreNumbered 0 ss total → slice_get ss i ≡ Some s → HaveFrame s first end k → Brings (all_packets ss) k e → AreRead (all_packets ss) first end e
+all_read ss total k i s first end e h at f reads =
+    record {
+      there = let w = sent_within 0 ss total i s h at in let t = f.there in omega (arith, w, t);
+      read = each;
+    }
+  where
+    packet_at : (j : ℕ) → first < j → j ≤ end → slice_get s.packets ((j - 1) - s.first) ≡ numbered_packet (all_packets ss) j
+    packet_at j lo hi =
+        let a = f.above in
+        let t = f.there in
+        sent_there 0 j ss total i s h at (omega (arith, a, lo)) (omega (arith, t, hi)) ∙ sym (numbered_at (all_packets ss) j (omega (arith, lo)))
+
+    each : (j : ℕ) → first < j → j ≤ end → Brings (all_packets ss) j e
+    each j lo hi p is =
+        let a = f.above in
+        let t = f.there in
+        let lo' = f.starts in
+        let hi' = f.ends in
+        let q : FramedPacket = get_or s.packets ((k - 1) - s.first) p in
+        let one : slice_get s.packets ((k - 1) - s.first) ≡ Some q = slice_get-get_or s.packets ((k - 1) - s.first) p (omega (arith, a, t, lo', hi')) in
+        let here : p.bytes ≡ f.bytes = f.same j p lo hi (packet_at j lo hi ∙ is) in
+        let there : q.bytes ≡ f.bytes = f.same k q lo' hi' one in
+        subst (λ (l : List ℕ). IsReadFrom l e) (there ∙ sym here) (reads q (sym (packet_at k lo' hi') ∙ one))

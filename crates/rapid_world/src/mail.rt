@@ -1,35 +1,46 @@
 // All packets that were ever sent.
 
 ghost use Rattle.std.specs.Prelude.{◌≡◌, ◌<◌, ◌-◌, ◌++◌, length, OnOk, IfSome, vec_len, vec_capacity, nat_lt, ℕ, ◌∷◌, [], true, None};
+ghost use Rattle.std.specs.Arc.{arc_value};
 ghost use Rattle.std.specs.Option.{option_map};
+ghost use Rattle.rapid_node.specs.Steps.{event_of};
+ghost use Rattle.rapid_world.specs.Arrivals.{AreRead, Brings};
 ghost use Rattle.rapid_world.specs.Framed.{frame_to};
 ghost use Rattle.rapid_world.specs.Sent.{AreNumbered, HasSent, Tells, all_packets, numbered_packet};
 
+use crate::arrived::Arrived;
 use crate::sending::Sending;
 use rapid_endpoint::Endpoint;
+use rapid_node::Event;
 use std::alloc::{AllocError, Global};
 use std::marker::Model;
+use std::sync::Arc;
 
 /// All packets that were ever sent, by the steps in which they were, each an endpoint and a frame.
 /// They are numbered from 1 in the order sent.
-#[derive(Debug, Drop)]
+#[derive(Drop)]
 pub(crate) struct Mail {
     sendings: Vec<Sending>,
     // how many packets there are
     sent: u64,
     // the place of the step whose packet was looked for last: mostly the next one is asked for next
     near: usize,
+    // the message that came last: mostly the next one that comes is the same
+    arrived: Option<Arrived>,
 }
 
 impl Model for Mail {
-    ghost use Rattle.std.specs.Prelude.{◌-◌, vec_len, vec_capacity};
+    ghost use Rattle.std.specs.Arc.{arc_value};
+    ghost use Rattle.std.specs.Prelude.{◌-◌, vec_len, vec_capacity, IfSome};
+    ghost use Rattle.rapid_node.specs.Steps.{event_of};
+    ghost use Rattle.rapid_world.specs.Arrivals.{AreRead};
     ghost use Rattle.rapid_world.specs.Sent.{Mailbox, all_packets, AreNumbered};
 
     ghost Value = { Mailbox };
 
     ghost view = { λ m. record { packets = all_packets m.sendings.items; room = vec_capacity m.sendings - vec_len m.sendings } };
 
-    ghost invariant = { λ m. AreNumbered 0 m.sendings.items m.sent };
+    ghost invariant = { λ m. AreNumbered 0 m.sendings.items m.sent × IfSome m.arrived (λ a. AreRead (all_packets m.sendings.items) a.first a.end (event_of (arc_value a.event))) };
 }
 
 /// Puts an element after the others, for which there is room.
@@ -59,6 +70,7 @@ impl Mail {
             sendings: Vec::new(alloc),
             sent: 0,
             near: 0,
+            arrived: None,
         }
     }
 
@@ -79,7 +91,7 @@ impl Mail {
     }
 
     /// Puts what one step sent after the others.
-    #[tactic(auto, using(crate::proofs::Mails::posted, crate::proofs::Mails::numbered))]
+    #[tactic(auto, using(crate::proofs::Mails::posted))]
     pub(crate) fn post(&mut self, sending: Sending)
         requires room { 0 < self.old.room }
         requires next { sending.first ≡ length self.old.packets }
@@ -104,6 +116,48 @@ impl Mail {
         if let Some(place) = place_of(self.sendings.as_slice(), self.near, number) {
             self.near = place;
         }
+    }
+
+    /// What a node takes as the message of the packet with a number, if it was read from the frame of
+    /// the packet that came last.
+    pub(crate) fn event(&self, number: u64) -> Option<&Arc<Event, Global>>
+        ensures { IfSome result (λ e. Brings self.now.packets number (event_of (arc_value e.now))) }
+    {
+        match &self.arrived {
+            Some(arrived) => arrived.of(number),
+            None => None,
+        }
+    }
+
+    /// Keeps what was read from the frame of the packet with a number, for those that have the same
+    /// frame. Nothing else changes.
+    pub(crate) fn keep(&mut self, number: u64, event: &Arc<Event, Global>)
+        requires { Brings self.old.packets number (event_of (arc_value event.now)) }
+        ensures { self.new ≡ self.old }
+    {
+        if self.event(number).is_none() {
+            self.arrived = arrived_at(self.sendings.as_slice(), self.near, number, event);
+        }
+    }
+}
+
+/// What was read from the frame of the packet with a number, and the packets that have this frame, in
+/// steps that are numbered from 1.
+fn arrived_at(
+    sendings: &[Sending],
+    near: usize,
+    number: u64,
+    event: &Arc<Event, Global>,
+) -> Option<Arrived>
+    requires numbered { (total : ℕ) × AreNumbered 0 sendings.now total }
+    requires read { Brings (all_packets sendings.now) number (event_of (arc_value event.now)) }
+    ensures { IfSome result (λ a. AreRead (all_packets sendings.now) a.first a.end (event_of (arc_value a.event))) }
+{
+    let place = place_of(sendings, near, number)?;
+    let (first, end) = sendings[place].span(number)?;
+    match Arc::try_clone(event) {
+        Ok(event) => Some(Arrived { first, end, event }),
+        Err(AllocError) => None,
     }
 }
 

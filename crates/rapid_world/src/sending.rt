@@ -1,7 +1,8 @@
 // What a node sent in one step.
 
-ghost use Rattle.std.specs.Prelude.{◌≡◌, ℕ, flat_map, length, slice_get, ◌+◌, IfSome};
+ghost use Rattle.std.specs.Prelude.{◌≡◌, ◌<◌, ℕ, flat_map, length, slice_get, ◌+◌, IfSome};
 ghost use Rattle.std.specs.Option.{option_map};
+ghost use Rattle.rapid_world.specs.Arrivals.{HaveFrame};
 ghost use Rattle.rapid_world.specs.Framed.{frames_of, frame_to};
 
 use crate::framed::FramedOutput;
@@ -98,6 +99,29 @@ fn find_packet<'a>(
     None
 }
 
+/// The numbers between which those packets of these outputs are that have the frame of the packet with
+/// a number: above the one, up to the other. The outputs' packets are numbered from `first` on, plus 1.
+#[tactic(auto, using(crate::proofs::Packets::count_on))]
+fn find_span(
+    outputs: &[FramedOutput],
+    recipients: &Recipients,
+    first: u64,
+    number: u64,
+) -> Option<(u64, u64)>
+    requires { first < number }
+    ensures { IfSome result (λ x. HaveFrame (record { first = first; packets = flat_map (frames_of recipients.now) outputs.now }) x.0 x.1 number) }
+{
+    let mut before = first;
+    for output in outputs {
+        let end = before.checked_add(count_of(output, recipients))?;
+        if number <= end {
+            return Some((before, end));
+        }
+        before = end;
+    }
+    None
+}
+
 impl Sending {
     /// What was sent in a step, after `first` packets; none if there are too many for the number.
     pub(crate) fn new(
@@ -136,6 +160,20 @@ impl Sending {
         ensures { option_map (λ x. frame_to x.1.now x.0) result ≡ slice_get self.now.packets place }
     {
         find_packet(self.outputs.as_slice(), &self.recipients, place)
+    }
+
+    /// The numbers between which those of these packets are that have the frame of the packet with a
+    /// number: above the one, up to the other.
+    pub(crate) fn span(&self, number: u64) -> Option<(u64, u64)>
+        requires { self.now.first < number }
+        ensures { IfSome result (λ x. HaveFrame self.now x.0 x.1 number) }
+    {
+        find_span(
+            self.outputs.as_slice(),
+            &self.recipients,
+            self.first,
+            number,
+        )
     }
 
     /// The frame that was sent last, shared, if any was.

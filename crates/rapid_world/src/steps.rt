@@ -1,25 +1,30 @@
 // The steps of a world, by event.
 
 ghost use Rattle.std.specs.Prelude.{◌≡◌, ◌++◌, ◌∷◌, [], ℕ, suc, List, if◌then◌else◌, true, false, is_some, nat_lt, map, length, IfOk, IfErr, OnErr, Some, None};
+ghost use Rattle.std.specs.Arc.{arc_value};
 ghost use Rattle.std.specs.Option.{option_map};
+ghost use Rattle.rapid_model.specs.Bytes.{Endpoint as ModelEndpoint};
 ghost use Rattle.rapid_model.specs.Agreement.{NoCollision};
 ghost use Rattle.rapid_model.specs.Node.{EdgeDown};
 ghost use Rattle.rapid_model.specs.RunHolds.{RunHolds};
 ghost use Rattle.rapid_model.specs.StoredWorld.{StoredWorld, StoresEvent, RunsTo, world_of, accepted, event_refusal};
 ghost use Rattle.rapid_model.specs.World as model;
-ghost use Rattle.rapid_model.specs.World.{Peer};
+ghost use Rattle.rapid_model.specs.World.{Peer, packet};
 ghost use Rattle.rapid_model.specs.Limits.{most_events};
 ghost use Rattle.rapid_node.specs.Steps.{event_of as taken_of};
+ghost use Rattle.rapid_world.specs.Arrivals.{Brings};
 ghost use Rattle.rapid_world.specs.Does.{Hands, Probes};
 ghost use Rattle.rapid_world.specs.Events.{event_of, report_of, Refuses};
+ghost use Rattle.rapid_world.specs.Framed.{framed_packet, IsFrameOf};
 
-use crate::arrived::Arrived;
+use crate::arrived::read_event;
 use crate::report::Report;
 use crate::{World, WorldError, WorldEvent};
 use rapid_config::ConfigId;
 use rapid_endpoint::{Endpoint, Process, ProcessId};
 use rapid_node::Event;
-use std::alloc::AllocError;
+use std::alloc::{AllocError, Global};
+use std::sync::Arc;
 
 impl World {
     /// The place of the node that runs under an identifier.
@@ -68,23 +73,30 @@ impl World {
         }
     }
 
-    /// The place of the node to which a packet comes, and the message of its frame.
-    fn arrival(
-        &self,
-        number: u64,
-        last: Option<Box<Arrived>>,
-    ) -> Result<(usize, Box<Arrived>), WorldError>
+    /// What a node takes as the message of the packet with a number, which has this frame.
+    fn read(&self, number: u64, frame: &[u8]) -> Result<Arc<Event, Global>, AllocError>
+        requires { (to : ModelEndpoint) × IsFrameOf (packet (world_of self.now) number) (Some (to, frame.now)) }
+        ensures { IfOk result (λ e. Brings (map framed_packet (world_of self.now).packets) number (taken_of (arc_value e))) }
+    {
+        match self.mail().event(number) {
+            Some(event) => Arc::try_clone(event),
+            // a host mostly confirms the view that was entered last: the joiner shares it
+            None => read_event(self.alloc(), self.peers().newest_view(), frame),
+        }
+    }
+
+    /// The place of the node to which a packet comes, and what it takes as its message.
+    fn arrival(&self, number: u64) -> Result<(usize, Arc<Event, Global>), WorldError>
         requires { nat_lt (accepted self.now) most_events ≡ true }
-        ensures hands { IfOk result (λ x. Hands self.now (model.Deliver number) x.0 x.1.value.taken) }
+        ensures hands { IfOk result (λ x. Hands self.now (model.Deliver number) x.0 (taken_of (arc_value x.1))) }
+        ensures read { IfOk result (λ x. Brings (map framed_packet (world_of self.now).packets) number (taken_of (arc_value x.1))) }
         ensures refused { IfErr result (Refuses (event_refusal self.now (model.Deliver number))) }
     {
         self.tell();
-        // a host mostly confirms the view that was entered last: the joiner shares it
-        let near = self.peers().newest_view();
         match self.frame(number) {
             Some(packet) => match self.running_at(packet.0) {
-                Some(place) => match Arrived::read(self.alloc(), near, last, packet.1) {
-                    Ok(arrived) => Ok((place, arrived)),
+                Some(place) => match self.read(number, packet.1) {
+                    Ok(event) => Ok((place, event)),
                     Err(AllocError) => Err(WorldError::OutOfMemory),
                 },
                 None => Err(WorldError::NoSuchNode),
@@ -101,13 +113,11 @@ impl World {
         ensures unchanged { OnErr result (self.new ≡ self.old) }
     {
         self.seek(number);
-        let last = self.take_last();
-        match self.arrival(number, last) {
-            Ok((place, arrived)) => {
+        match self.arrival(number) {
+            Ok((place, event)) => {
+                self.keep(number, &event);
                 self.aim(place);
-                let result = self.hand(&WorldEvent::Deliver(number), place, arrived.event());
-                self.keep_last(arrived);
-                result
+                self.hand(&WorldEvent::Deliver(number), place, &*event)
             }
             Err(error) => Err(error),
         }

@@ -1,6 +1,7 @@
 // A world of many nodes.
 
 ghost use Rattle.std.specs.Prelude.{◌≡◌, ◌≤◌, ◌<◌, ◌++◌, [], All, ℕ, vec_len, vec_capacity, true, false, is_some, nat_lt, length, map, slice_get, IfOk, IfErr, IfSome, OnErr, List, Bool, Option, Some, None};
+ghost use Rattle.std.specs.Arc.{arc_value};
 ghost use Rattle.std.specs.List.{list_any};
 ghost use Rattle.std.specs.Option.{option_map, option_to_list};
 ghost use Rattle.rapid_model.specs.Agreement.{NoCollision};
@@ -15,12 +16,12 @@ ghost use Rattle.rapid_node.specs.Steps.{event_of as taken_of};
 ghost use Rattle.rapid_model.specs.Node.{EdgeDown};
 ghost use Rattle.rapid_model.specs.World.{Peer as ModelPeer};
 ghost use Rattle.rapid_model.specs.Limits.{most_events};
+ghost use Rattle.rapid_world.specs.Arrivals.{Brings};
 ghost use Rattle.rapid_world.specs.Does.{Does, Hands, Probes};
 ghost use Rattle.rapid_world.specs.Framed.{framed_packet, HasFrame};
 ghost use Rattle.rapid_world.specs.Handed.{crash_of};
 ghost use Rattle.rapid_world.specs.Worlds.{IsRunOf};
 
-use crate::arrived::Arrived;
 use crate::mail::Mail;
 use crate::outcome::{has_outcome, is_marked};
 use crate::peer::Peer;
@@ -35,7 +36,7 @@ use rapid_node::Event;
 use rapid_safety::runs_hold;
 use std::alloc::{AllocError, Global};
 use std::marker::Model;
-use std::mem;
+use std::sync::Arc;
 
 /// A world of many nodes and the packets between them, which runs by events. Its value is how it
 /// was founded, and the events that it accepted. Each has a mark whether its node halted in it
@@ -48,8 +49,6 @@ pub struct World {
     mail: Mail,
     // for what the next step reports
     room: ReportRoom,
-    // the message that came last: mostly the next one that comes is the same
-    last: Option<Box<Arrived>>,
     alloc: Global,
 }
 
@@ -82,7 +81,6 @@ impl World {
             peers,
             mail: Mail::new(alloc),
             room: ReportRoom::new(alloc),
-            last: None,
             alloc,
         }
     }
@@ -130,18 +128,13 @@ impl World {
         self.peers.aim(place);
     }
 
-    /// Takes out the message that came last. Nothing else changes.
-    pub(crate) fn take_last(&mut self) -> Option<Box<Arrived>>
+    /// Keeps what was read from the frame of the packet with a number, for those that have the same
+    /// frame. Nothing else changes.
+    pub(crate) fn keep(&mut self, number: u64, event: &Arc<Event, Global>)
+        requires { Brings (map framed_packet (world_of self.old).packets) number (taken_of (arc_value event.now)) }
         ensures { self.new ≡ self.old }
     {
-        mem::replace(&mut self.last, None)
-    }
-
-    /// Keeps the message that came last. Nothing else changes.
-    pub(crate) fn keep_last(&mut self, arrived: Box<Arrived>)
-        ensures { self.new ≡ self.old }
-    {
-        self.last = Some(arrived);
+        self.mail.keep(number, event);
     }
 
     /// What it stores.

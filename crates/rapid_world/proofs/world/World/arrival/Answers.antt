@@ -4,16 +4,16 @@ use Rattle.rapid_model.specs.StoredWorld.{world_of}
 use Rattle.rapid_model.specs.World as model
 use Rattle.rapid_world.specs.Does.{Hands}
 use Rattle.rapid_world.proofs.Cases.{deliver_hands, deliver_refused, receiver_refused}
-use Rattle.rapid_world.proofs.Framing.{packet_there, packet_not_there}
+use Rattle.rapid_world.proofs.Framing.{packet_there, packet_not_there, brings_message}
 use Rattle.rapid_world.proofs.world.World.arrival.Goals as goal
 
 pub read-requires : goal.read-requires
-read-requires c = let t = packet_there _ _ _ c.in-Some.ensures in (t.0.message, t.3)
+read-requires c = (_, c.in-Some.ensures)
 
 pub returns-in-Ok-clause-hands : goal.returns-in-Ok-clause-hands
 returns-in-Ok-clause-hands c =
     let t = packet_there _ _ _ c.in-Some.ensures in
-    subst (λ (e : Event). Hands c.args.self.now (model.Deliver c.args.number) c.in-Some-running_at.place e) (sym (c.in-Ok.ensures t.0.message t.3))
+    subst (λ (e : Event). Hands c.args.self.now (model.Deliver c.args.number) c.in-Some-running_at.place e) (sym (brings_message (world_of c.args.self.now) c.args.number t.0 _ c.in-Ok.ensures t.1 t.3.0))
     (deliver_hands c.args.self.now c.args.number t.0 c.in-Some-running_at.place c.tell.ensures.members c.requires t.1 (ap (model.running_at (world_of c.args.self.now)) (sym t.2) ∙ sym c.in-Some-running_at.ensures))
 
 pub returns-in-Err-clause-refused : goal.returns-in-Err-clause-refused
