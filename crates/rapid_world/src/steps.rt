@@ -60,15 +60,16 @@ impl World {
     }
 
     /// The clock of a node ticks.
-    fn tick(&mut self, id: ProcessId) -> Result<Vec<Report>, WorldError>
-        requires { nat_lt (accepted self.old) most_events ≡ true }
-        ensures stored { IfOk result (λ reports. StoresEvent self.old self.new (model.Tick id) (map report_of reports.items)) }
-        ensures refused { IfErr result (Refuses (event_refusal self.old (model.Tick id))) }
+    fn tick(&mut self, event: &WorldEvent, id: ProcessId) -> Result<Vec<Report>, WorldError>
+        requires open { nat_lt (accepted self.old) most_events ≡ true }
+        requires is { event_of event.now ≡ model.Tick id }
+        ensures stored { IfOk result (λ reports. StoresEvent self.old self.new (event_of event.now) (map report_of reports.items)) }
+        ensures refused { IfErr result (Refuses (event_refusal self.old (event_of event.now))) }
         ensures unchanged { OnErr result (self.new ≡ self.old) }
     {
         self.tell();
         match self.running_under(&id) {
-            Some(place) => self.hand(&WorldEvent::Tick(id), place, &Event::Tick),
+            Some(place) => self.hand(event, place, &Event::Tick),
             None => Err(WorldError::NoSuchNode),
         }
     }
@@ -106,32 +107,34 @@ impl World {
     }
 
     /// A packet comes to the node at its endpoint.
-    fn deliver(&mut self, number: u64) -> Result<Vec<Report>, WorldError>
-        requires { nat_lt (accepted self.old) most_events ≡ true }
-        ensures stored { IfOk result (λ reports. StoresEvent self.old self.new (model.Deliver number) (map report_of reports.items)) }
-        ensures refused { IfErr result (Refuses (event_refusal self.old (model.Deliver number))) }
+    fn deliver(&mut self, event: &WorldEvent, number: u64) -> Result<Vec<Report>, WorldError>
+        requires open { nat_lt (accepted self.old) most_events ≡ true }
+        requires is { event_of event.now ≡ model.Deliver number }
+        ensures stored { IfOk result (λ reports. StoresEvent self.old self.new (event_of event.now) (map report_of reports.items)) }
+        ensures refused { IfErr result (Refuses (event_refusal self.old (event_of event.now))) }
         ensures unchanged { OnErr result (self.new ≡ self.old) }
     {
         self.seek(number);
         match self.arrival(number) {
-            Ok((place, event)) => {
-                self.keep(number, &event);
+            Ok((place, message)) => {
+                self.keep(number, &message);
                 self.aim(place);
-                self.hand(&WorldEvent::Deliver(number), place, &*event)
+                self.hand(event, place, &*message)
             }
             Err(error) => Err(error),
         }
     }
 
     /// A node crashes.
-    fn crash(&mut self, id: ProcessId) -> Result<Vec<Report>, WorldError>
-        requires { nat_lt (accepted self.old) most_events ≡ true }
-        ensures stored { IfOk result (λ reports. StoresEvent self.old self.new (model.Crash id) (map report_of reports.items)) }
-        ensures refused { IfErr result (Refuses (event_refusal self.old (model.Crash id))) }
+    fn crash(&mut self, event: &WorldEvent, id: ProcessId) -> Result<Vec<Report>, WorldError>
+        requires open { nat_lt (accepted self.old) most_events ≡ true }
+        requires is { event_of event.now ≡ model.Crash id }
+        ensures stored { IfOk result (λ reports. StoresEvent self.old self.new (event_of event.now) (map report_of reports.items)) }
+        ensures refused { IfErr result (Refuses (event_refusal self.old (event_of event.now))) }
         ensures unchanged { OnErr result (self.new ≡ self.old) }
     {
         match self.running_under(&id) {
-            Some(place) => match self.crash_at(&WorldEvent::Crash(id), place) {
+            Some(place) => match self.crash_at(event, place) {
                 Ok(reports) => Ok(reports),
                 Err(AllocError) => Err(WorldError::OutOfMemory),
             },
@@ -140,15 +143,16 @@ impl World {
     }
 
     /// A node is to leave.
-    fn leave(&mut self, id: ProcessId) -> Result<Vec<Report>, WorldError>
-        requires { nat_lt (accepted self.old) most_events ≡ true }
-        ensures stored { IfOk result (λ reports. StoresEvent self.old self.new (model.Leave id) (map report_of reports.items)) }
-        ensures refused { IfErr result (Refuses (event_refusal self.old (model.Leave id))) }
+    fn leave(&mut self, event: &WorldEvent, id: ProcessId) -> Result<Vec<Report>, WorldError>
+        requires open { nat_lt (accepted self.old) most_events ≡ true }
+        requires is { event_of event.now ≡ model.Leave id }
+        ensures stored { IfOk result (λ reports. StoresEvent self.old self.new (event_of event.now) (map report_of reports.items)) }
+        ensures refused { IfErr result (Refuses (event_refusal self.old (event_of event.now))) }
         ensures unchanged { OnErr result (self.new ≡ self.old) }
     {
         self.tell();
         match self.running_under(&id) {
-            Some(place) => self.hand(&WorldEvent::Leave(id), place, &Event::Leave),
+            Some(place) => self.hand(event, place, &Event::Leave),
             None => Err(WorldError::NoSuchNode),
         }
     }
@@ -246,13 +250,14 @@ impl World {
         if self.accepted() >= World::MOST_EVENTS {
             return Err(WorldError::EventsFull);
         }
-        match *event {
-            WorldEvent::Start(process, seed) => self.start(process, seed),
-            WorldEvent::Probe(id, ring, ok) => self.probe(id, ring, ok),
-            WorldEvent::Tick(id) => self.tick(id),
-            WorldEvent::Deliver(number) => self.deliver(number),
-            WorldEvent::Crash(id) => self.crash(id),
-            WorldEvent::Leave(id) => self.leave(id),
+        // an event is larger than what happens by most: it is not made anew, and not copied
+        match event {
+            WorldEvent::Start(process, seed) => self.start(*process, *seed),
+            WorldEvent::Probe(id, ring, ok) => self.probe(*id, *ring, *ok),
+            WorldEvent::Tick(id) => self.tick(event, *id),
+            WorldEvent::Deliver(number) => self.deliver(event, *number),
+            WorldEvent::Crash(id) => self.crash(event, *id),
+            WorldEvent::Leave(id) => self.leave(event, *id),
         }
     }
 }
