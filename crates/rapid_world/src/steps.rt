@@ -250,7 +250,7 @@ impl World {
         if self.accepted() >= World::MOST_EVENTS {
             return Err(WorldError::EventsFull);
         }
-        // an event is larger than what happens by most: it is not made anew, and not copied
+        // each event has room for a process: it is handed on as it came, and not made anew
         match event {
             WorldEvent::Start(process, seed) => self.start(*process, *seed),
             WorldEvent::Probe(id, ring, ok) => self.probe(*id, *ring, *ok),
