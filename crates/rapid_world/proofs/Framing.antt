@@ -139,6 +139,7 @@ pub brings_message : (w : World) (k : ℕ) (p : Packet) (e : Event) → Brings (
 unfolding framed_packet
 brings_message w k p e h is framed = h (framed_packet p) (numbered_is w k ∙ ap (option_map framed_packet) is) p.message (framed, refl)
 
+-- what follows of a value that is given follows of the result
 pub ok_with : {A E : Type 0} {P Q : A → Type 0} (r : Result A E) → ((a : A) → P a → Q a) → IfOk r P → IfOk r Q
 ok_with (Ok a) f h = f a h
 ok_with (Err e) f h = h

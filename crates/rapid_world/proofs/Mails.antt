@@ -223,6 +223,7 @@ still_read ps qs first end e h =
           h.read k lo hi p (numbered_at ps k some ∙ sym (get_left ps qs ((k - 1) - 0) within) ∙ sym (numbered_at (ps ++ qs) k some) ∙ is);
     }
 
+-- nor of what is kept, if anything is
 pub all_still_read : {A : Type 0} (o : Option A) (first end : A → ℕ) (e : A → Event) (ps qs : List FramedPacket) → IfSome o (λ a. AreRead ps (first a) (end a) (e a)) → IfSome o (λ a. AreRead (ps ++ qs) (first a) (end a) (e a))
 all_still_read None first end e ps qs h = h
 all_still_read (Some a) first end e ps qs h = still_read ps qs (first a) (end a) (e a) h

@@ -2,7 +2,7 @@
 use Rattle.std.proofs.Common.{◌≡◌, ℕ, zero, suc, ◌+◌, ◌-◌, ◌<◌, ◌≤◌, List, [], ◌∷◌, ◌++◌, map, length, get_or, take, drop, slice_get, refl, sym, ap, subst, ◌∙◌, Option, Some, None, arith}
 use Rattle.std.specs.Prelude.{flat_map}
 use Rattle.std.specs.Option.{option_map}
-use Rattle.std.proofs.lemmas.List.{length-map, length-append, drop_more, drop_all, take_more, append-nil}
+use Rattle.std.proofs.lemmas.List.{take-append-drop, length-map, length-append, drop_more, drop_all, take_more, append-nil}
 use Rattle.std.proofs.lemmas.Option.{slice_get-map, slice_get_past}
 use Rattle.rapid_model.specs.Process.{Process, endpoint}
 use Rattle.rapid_model.specs.Node.{Destination, To, Others, Itself}
@@ -78,14 +78,9 @@ frames_have rs bytes Itself i p is = absurd cc
 whole_made : (rs : List Process) (os : List FramedOutput) (i : ℕ) (d : FramedOutput) → i < length os →
     made rs os ≡ made rs (take i os) ++ (frames_of rs (get_or os i d) ++ made rs (drop (i + 1) os))
 whole_made rs os i d h =
-    ap (made rs) (sym (take_then_drop i os))
+    ap (made rs) (sym (take-append-drop i os))
     ∙ made_append rs (take i os) (drop i os)
     ∙ ap (λ l. made rs (take i os) ++ l) (made_more rs os i d h)
-  where
-    take_then_drop : (i : ℕ) (os : List FramedOutput) → take i os ++ drop i os ≡ os
-    take_then_drop zero os = refl
-    take_then_drop (suc i) [] = refl
-    take_then_drop (suc i) (o ∷ os) = ap (λ l. o ∷ l) (take_then_drop i os)
 
 -- the packets of one output, counted on
 pub count_on : (rs : List Process) (os : List FramedOutput) (i : ℕ) (d : FramedOutput) (first before end : ℕ) → i < length os → before ≡ first + length (made rs (take i os)) → end ≡ before + length (frames_of rs (get_or os i d)) →

@@ -100,7 +100,7 @@ fn find_packet<'a>(
 }
 
 /// The numbers between which those packets of these outputs are that have the frame of the packet with
-/// a number: above the one, up to the other. The outputs' packets are numbered from `first` on, plus 1.
+/// a number: above the one, up to the other. `first` packets were sent before these.
 #[tactic(auto, using(crate::proofs::Packets::count_on))]
 fn find_span(
     outputs: &[FramedOutput],

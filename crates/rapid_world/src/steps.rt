@@ -199,16 +199,22 @@ impl World {
     }
 
     /// A node has the result of a probe of the member that it observes on a ring.
-    fn probe(&mut self, id: ProcessId, ring: u8, ok: bool) -> Result<Vec<Report>, WorldError>
-        requires { nat_lt (accepted self.old) most_events ≡ true }
-        ensures stored { IfOk result (λ reports. StoresEvent self.old self.new (model.Probe id ring ok) (map report_of reports.items)) }
-        ensures refused { IfErr result (Refuses (event_refusal self.old (model.Probe id ring ok))) }
+    fn probe(
+        &mut self,
+        event: &WorldEvent,
+        id: ProcessId,
+        ring: u8,
+        ok: bool,
+    ) -> Result<Vec<Report>, WorldError>
+        requires open { nat_lt (accepted self.old) most_events ≡ true }
+        requires is { event_of event.now ≡ model.Probe id ring ok }
+        ensures stored { IfOk result (λ reports. StoresEvent self.old self.new (event_of event.now) (map report_of reports.items)) }
+        ensures refused { IfErr result (Refuses (event_refusal self.old (event_of event.now))) }
         ensures unchanged { OnErr result (self.new ≡ self.old) }
     {
         match self.edge(&id, ring, ok) {
             Ok((place, config, subject)) => {
-                let event = WorldEvent::Probe(id, ring, ok);
-                match self.probe_at(&event, place, ring, ok, (config, subject)) {
+                match self.probe_at(event, place, ring, ok, (config, subject)) {
                     Ok(reports) => Ok(reports),
                     Err(AllocError) => Err(WorldError::OutOfMemory),
                 }
@@ -253,7 +259,7 @@ impl World {
         // each event has room for a process: it is handed on as it came, and not made anew
         match event {
             WorldEvent::Start(process, seed) => self.start(*process, *seed),
-            WorldEvent::Probe(id, ring, ok) => self.probe(*id, *ring, *ok),
+            WorldEvent::Probe(id, ring, ok) => self.probe(event, *id, *ring, *ok),
             WorldEvent::Tick(id) => self.tick(event, *id),
             WorldEvent::Deliver(number) => self.deliver(event, *number),
             WorldEvent::Crash(id) => self.crash(event, *id),
