@@ -1,6 +1,6 @@
 -- Packets and the frames of their messages.
 use Rattle.std.proofs.Common.{◌≡◌, ℕ, zero, suc, ◌-◌, Bool, true, false, cond, ◌==◌, List, [], ◌∷◌, ◌++◌, map, slice_get, refl, sym, ap, subst, ◌∙◌, Option, Some, None}
-use Rattle.std.specs.Prelude.{All, IfOk, Result, Ok, Err, flat_map, is_some, nat_eq}
+use Rattle.std.specs.Prelude.{All, flat_map, is_some, nat_eq}
 use Rattle.std.specs.Cmp.Lexicographic.{pointwise, same_text}
 use Rattle.std.specs.Option.{option_map}
 use Rattle.std.proofs.lemmas.List.{map-append}
@@ -138,8 +138,3 @@ brings_read w k to bytes e h reads q is = by (packet w k) refl h
 pub brings_message : (w : World) (k : ℕ) (p : Packet) (e : Event) → Brings (map framed_packet w.packets) k e → packet w k ≡ Some p → HasFrame p → e ≡ Receive p.message
 unfolding framed_packet
 brings_message w k p e h is framed = h (framed_packet p) (numbered_is w k ∙ ap (option_map framed_packet) is) p.message (framed, refl)
-
--- what follows of a value that is given follows of the result
-pub ok_with : {A E : Type 0} {P Q : A → Type 0} (r : Result A E) → ((a : A) → P a → Q a) → IfOk r P → IfOk r Q
-ok_with (Ok a) f h = f a h
-ok_with (Err e) f h = h
