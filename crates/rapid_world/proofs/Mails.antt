@@ -1,6 +1,6 @@
 -- Packets by number.
 use Rattle.std.proofs.Common.{◌≡◌, ℕ, zero, suc, ◌+◌, ◌-◌, ◌<◌, ◌≤◌, Bool, true, false, cond, ◌==◌, List, [], ◌∷◌, ◌++◌, length, get_or, slice_get, refl, sym, ap, subst, ◌∙◌, Option, Some, None, arith, append_assoc}
-use Rattle.std.specs.Prelude.{nat_lt, IfSome}
+use Rattle.std.specs.Prelude.{nat_lt}
 use Rattle.std.specs.List.Sorted.{IsPartitionPoint, IsPartitionedBy}
 use Rattle.std.proofs.lemmas.List.{length-append}
 use Rattle.std.proofs.lemmas.Option.{slice_get_past, slice_get_within, slice_get-get_or, get_or_from_slice_get}
@@ -222,16 +222,6 @@ still_read ps qs first end e h =
           let within : (k - 1) - 0 < length ps = omega (arith, lo, hi, t) in
           h.read k lo hi p (numbered_at ps k some ∙ sym (get_left ps qs ((k - 1) - 0) within) ∙ sym (numbered_at (ps ++ qs) k some) ∙ is);
     }
-
--- nor of what is kept, if anything is
-pub all_still_read : {A : Type 0} (o : Option A) (first end : A → ℕ) (e : A → Event) (ps qs : List FramedPacket) → IfSome o (λ a. AreRead ps (first a) (end a) (e a)) → IfSome o (λ a. AreRead (ps ++ qs) (first a) (end a) (e a))
-all_still_read None first end e ps qs h = h
-all_still_read (Some a) first end e ps qs h = still_read ps qs (first a) (end a) (e a) h
-
--- what is read is that of each packet between the numbers
-pub reads_one : {A : Type 0} (o : Option A) (e : A → Event) (ps : List FramedPacket) (first end k : ℕ) (read : Event) → AreRead ps first end read → IfSome o (λ a. (e a ≡ read) × (first < k) × (k ≤ end)) → IfSome o (λ a. Brings ps k (e a))
-reads_one None e ps first end k read all h = h
-reads_one (Some a) e ps first end k read all h = subst (λ (x : Event). Brings ps k x) (sym h.0) (all.read k h.1 h.2)
 
 -- the packets of a step are among all
 sent_within : (n : ℕ) (ss : List Sent) (total i : ℕ) (s : Sent) → AreNumbered n ss total → slice_get ss i ≡ Some s → s.first + length s.packets ≤ n + length (all_packets ss)
