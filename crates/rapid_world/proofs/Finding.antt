@@ -10,6 +10,7 @@ use Rattle.std.proofs.lemmas.List.Folds.{find_at}
 use Rattle.std.proofs.lemmas.List.Sums.{position_or_len_is}
 use Rattle.std.proofs.lemmas.Option.{slice_get_within, slice_get-get_or, slice_get_past, get_or_from_slice_get, same_Some}
 use Rattle.rapid_model.proofs.Orders.{processes_total, same_bytes_decides}
+use Rattle.rapid_model.specs.Bytes.{Endpoint}
 use Rattle.rapid_model.specs.Configuration.{Configuration, AreMembers, identifiers_ascend, endpoints_differ}
 use Rattle.rapid_model.specs.Process.{Process, identifier, endpoint, same_endpoint}
 use Rattle.rapid_model.specs.Node.{Event, seed_node, is_halted, Outcome}
@@ -19,7 +20,7 @@ use Rattle.rapid_model.specs.Edge.{probed}
 use Rattle.rapid_model.specs.WorldStep.{added, edge_on, with_edge}
 use Rattle.rapid_safety.proofs.Histories.{get_set, get_push}
 use Rattle.rapid_safety.proofs.Lived.{get_map, apart_names}
-use Rattle.rapid_world.specs.Found.{Places, AreFound, IsOnlyAt, RunsAt, IsNew}
+use Rattle.rapid_world.specs.Found.{Places, AreFound, AreListed, IsOnlyAt, RunsAt, IsNew, endpoints_of}
 use Rattle.rapid_world.specs.Handed.{handed, told, stepped, KeepsAt}
 use Rattle.rapid_model.proofs.Lists.{all_at}
 use Rattle.std.proofs.lemmas.Map.Keys.{any_passes_from_place}
@@ -157,6 +158,12 @@ any_nowhere f xs place only at = sym (any_none f xs (nowhere f xs place only at)
 pub runs_only : (ps : List Peer) (place : Option ℕ) (id : List ℕ) → IsOnlyAt (has_identifier id) ps place → IsOnlyAt (λ p. is_running p && has_identifier id p) ps place
 runs_only ps place id only i p at ok = only i p at (and_parts (is_running p) (has_identifier id p) ok).1
 
+-- a peer of the same process in the place of one
+endpoints_set : (ps : List Peer) (i : ℕ) (p q : Peer) → slice_get ps i ≡ Some p → q.node.me ≡ p.node.me → endpoints_of (slice_set ps i q) ≡ endpoints_of ps
+endpoints_set [] i p q at same = cc
+endpoints_set (x ∷ ps) zero p q at same = ap (λ e. e ∷ endpoints_of ps) (ap endpoint (same ∙ ap (λ (y : Peer). y.node.me) (sym (same_Some _ _ at))))
+endpoints_set (x ∷ ps) (suc i) p q at same = ap (λ l. endpoint x.node.me ∷ l) (endpoints_set ps i p q at same)
+
 -- ---- by identifier and by endpoint
 
 module _ (ids ends : Places) (ps : List Peer) (are : AreFound ids ends ps) where
@@ -231,15 +238,20 @@ module _ (ids ends : Places) (ps : List Peer) (are : AreFound ids ends ps) where
             | inr there ↦ are.endpoints j r there.1 ok
           ]
 
+-- so all are listed
+one_listed : (ids ends : Places) (es : List Endpoint) (ps : List Peer) (i : ℕ) (p q : Peer) → AreListed ids ends es ps → slice_get ps i ≡ Some p → q.node.me ≡ p.node.me → (is_running q ≡ true → is_running p ≡ true) → AreListed ids ends es (slice_set ps i q)
+one_listed ids ends es ps i p q are at same runs =
+    record { found = one_changed ids ends ps are.found i p q at same runs; listed = are.listed ∙ sym (endpoints_set ps i p q at same) }
+
 -- the same, as the code tells it
-pub indexed_more : (ids ends ids' ends' : Places) (now ps qs : List Peer) (p : Peer) (key : List ℕ) (n : ℕ) → AreFound ids ends ps → IsNew now p → ps ≡ now → key ≡ identifier p.node.me → ids' ≡ finmap.insert ids key n → ends' ≡ ends → qs ≡ ps →
+indexed_more : (ids ends ids' ends' : Places) (now ps qs : List Peer) (p : Peer) (key : List ℕ) (n : ℕ) → AreFound ids ends ps → IsNew now p → ps ≡ now → key ≡ identifier p.node.me → ids' ≡ finmap.insert ids key n → ends' ≡ ends → qs ≡ ps →
     AreFound ids' ends' qs
 indexed_more ids ends ids' ends' now ps qs p key n are new same is more kept room =
     let first : AreFound (finmap.insert ids (identifier p.node.me) n) ends ps = id_more ids ends ps are p n (subst (λ (l : List Peer). IsNew l p) (sym same) new) in
     let by_key : ids' ≡ finmap.insert ids (identifier p.node.me) n = more ∙ ap (λ k. finmap.insert ids k n) is in
     subst (λ (m : Places). AreFound m ends' qs) (sym by_key) (subst (λ (m : Places). AreFound (finmap.insert ids (identifier p.node.me) n) m qs) (sym kept) (subst (λ (l : List Peer). AreFound (finmap.insert ids (identifier p.node.me) n) ends l) (sym room) first))
 
-pub added_more : (ids ends ids' ends' : Places) (now ps qs rs : List Peer) (p : Peer) (key place : List ℕ) (n : ℕ) → AreFound ids ends ps → IsNew now p → ps ≡ now → n ≡ length ps → key ≡ identifier p.node.me → place ≡ endpoint p.node.me →
+added_more : (ids ends ids' ends' : Places) (now ps qs rs : List Peer) (p : Peer) (key place : List ℕ) (n : ℕ) → AreFound ids ends ps → IsNew now p → ps ≡ now → n ≡ length ps → key ≡ identifier p.node.me → place ≡ endpoint p.node.me →
     ids' ≡ finmap.insert ids key n → ends' ≡ finmap.insert ends place n → qs ≡ ps → rs ≡ qs ++ p ∷ [] → AreFound ids' ends' rs
 added_more ids ends ids' ends' now ps qs rs p key place n are new same len is at more placed room push =
     let first : AreFound (finmap.insert ids (identifier p.node.me) (length ps)) (finmap.insert ends (endpoint p.node.me) (length ps)) (ps ++ p ∷ []) = one_more ids ends ps are p (subst (λ (l : List Peer). IsNew l p) (sym same) new) in
@@ -250,8 +262,30 @@ added_more ids ends ids' ends' now ps qs rs p key place n are new same len is at
     (subst (λ (m : Places). AreFound (finmap.insert ids (identifier p.node.me) (length ps)) m rs) (sym by_place)
     (subst (λ (l : List Peer). AreFound (finmap.insert ids (identifier p.node.me) (length ps)) (finmap.insert ends (endpoint p.node.me) (length ps)) l) (sym all) first))
 
-pub none_found : AreFound finmap.empty finmap.empty []
+-- with their endpoints
+pub indexed_listed : (ids ends ids' ends' : Places) (es es' : List Endpoint) (now ps qs : List Peer) (p : Peer) (key : List ℕ) (n : ℕ) → AreListed ids ends es ps → IsNew now p → ps ≡ now → key ≡ identifier p.node.me → ids' ≡ finmap.insert ids key n → ends' ≡ ends → qs ≡ ps → es' ≡ es →
+    AreListed ids' ends' es' qs
+indexed_listed ids ends ids' ends' es es' now ps qs p key n are new same is more kept room es_kept =
+    record { found = indexed_more ids ends ids' ends' now ps qs p key n are.found new same is more kept room; listed = es_kept ∙ are.listed ∙ ap endpoints_of (sym room) }
+
+endpoints_more : (ps : List Peer) (p : Peer) → endpoints_of (ps ++ p ∷ []) ≡ endpoints_of ps ++ endpoint p.node.me ∷ []
+endpoints_more [] p = refl
+endpoints_more (q ∷ ps) p = ap (λ l. endpoint q.node.me ∷ l) (endpoints_more ps p)
+
+pub added_listed : (ids ends ids' ends' : Places) (es es' es'' : List Endpoint) (now ps qs rs : List Peer) (p : Peer) (key place : List ℕ) (n : ℕ) → AreListed ids ends es ps → IsNew now p → ps ≡ now → n ≡ length ps → key ≡ identifier p.node.me → place ≡ endpoint p.node.me →
+    ids' ≡ finmap.insert ids key n → ends' ≡ finmap.insert ends place n → qs ≡ ps → rs ≡ qs ++ p ∷ [] → es' ≡ es → es'' ≡ es' ++ place ∷ [] → AreListed ids' ends' es'' rs
+added_listed ids ends ids' ends' es es' es'' now ps qs rs p key place n are new same len is at more placed room push es_kept last =
+    record {
+      found = added_more ids ends ids' ends' now ps qs rs p key place n are.found new same len is at more placed room push;
+      listed = last ∙ ap (λ (l : List Endpoint). l ++ place ∷ []) (es_kept ∙ are.listed) ∙ ap (λ k. endpoints_of ps ++ k ∷ []) at ∙ sym (endpoints_more ps p)
+          ∙ ap endpoints_of (sym (push ∙ ap (λ (l : List Peer). l ++ p ∷ []) room));
+    }
+
+none_found : AreFound finmap.empty finmap.empty []
 none_found = record { ids = λ i p at. cc; endpoints = λ i p at runs. cc }
+
+pub none_listed : AreListed finmap.empty finmap.empty [] []
+none_listed = record { found = none_found; listed = refl }
 
 -- ---- what becomes of the one at a place
 
@@ -278,10 +312,10 @@ still_runs : (p q : Peer) → q.crashed ≡ p.crashed → is_halted p.node ≡ f
 still_runs p q same up runs =
     ap (λ b. not b && not (is_halted p.node)) (sym same) ∙ ap (λ b. not q.crashed && not b) up ∙ ap (λ b. b && true) (and_parts (not q.crashed) (not (is_halted q.node)) runs).0
 
-pub handed_found : (ids ends : Places) (ps : List Peer) (i : ℕ) (p q : Peer) (e : Event) (h : Bool) → AreFound ids ends ps → slice_get ps i ≡ Some p → is_halted p.node ≡ false → KeepsAt p.node e →
-    q ≡ (handed p e h).peer → AreFound ids ends (slice_set ps i q)
-handed_found ids ends ps i p q e h found at up keeps is =
-    one_changed ids ends ps found i p q at
+pub handed_listed : (ids ends : Places) (es : List Endpoint) (ps : List Peer) (i : ℕ) (p q : Peer) (e : Event) (h : Bool) → AreListed ids ends es ps → slice_get ps i ≡ Some p → is_halted p.node ≡ false → KeepsAt p.node e →
+    q ≡ (handed p e h).peer → AreListed ids ends es (slice_set ps i q)
+handed_listed ids ends es ps i p q e h are at up keeps is =
+    one_listed ids ends es ps i p q are at
     (ap (λ (x : Peer). x.node.me) is ∙ handed_me p e h keeps)
     (still_runs p q (ap (λ (x : Peer). x.crashed) is ∙ handed_up p e h) up)
 
@@ -307,16 +341,16 @@ told_up p k ok e h = by (probed (edge_on p.edges k) ok).is_down
     by true = handed_up q e h
     by false = refl
 
-pub told_found : (ids ends : Places) (ps : List Peer) (i : ℕ) (p q : Peer) (k : ℕ) (ok : Bool) (e : Event) (h : Bool) → AreFound ids ends ps → slice_get ps i ≡ Some p → is_halted p.node ≡ false →
-    ((probed (edge_on p.edges k) ok).is_down ≡ true → KeepsAt p.node e) → q ≡ (told p k ok e h).peer → AreFound ids ends (slice_set ps i q)
-told_found ids ends ps i p q k ok e h found at up keeps is =
-    one_changed ids ends ps found i p q at
+pub told_listed : (ids ends : Places) (es : List Endpoint) (ps : List Peer) (i : ℕ) (p q : Peer) (k : ℕ) (ok : Bool) (e : Event) (h : Bool) → AreListed ids ends es ps → slice_get ps i ≡ Some p → is_halted p.node ≡ false →
+    ((probed (edge_on p.edges k) ok).is_down ≡ true → KeepsAt p.node e) → q ≡ (told p k ok e h).peer → AreListed ids ends es (slice_set ps i q)
+told_listed ids ends es ps i p q k ok e h are at up keeps is =
+    one_listed ids ends es ps i p q are at
     (ap (λ (x : Peer). x.node.me) is ∙ told_me p k ok e h keeps)
     (still_runs p q (ap (λ (x : Peer). x.crashed) is ∙ told_up p k ok e h) up)
 
-pub crashed_found : (ids ends : Places) (ps : List Peer) (i : ℕ) (p q : Peer) → AreFound ids ends ps → slice_get ps i ≡ Some p → q ≡ record p { crashed = true } → AreFound ids ends (slice_set ps i q)
-crashed_found ids ends ps i p q found at is =
-    one_changed ids ends ps found i p q at (ap (λ (x : Peer). x.node.me) is)
+pub crashed_listed : (ids ends : Places) (es : List Endpoint) (ps : List Peer) (i : ℕ) (p q : Peer) → AreListed ids ends es ps → slice_get ps i ≡ Some p → q ≡ record p { crashed = true } → AreListed ids ends es (slice_set ps i q)
+crashed_listed ids ends es ps i p q are at is =
+    one_listed ids ends es ps i p q are at (ap (λ (x : Peer). x.node.me) is)
     (λ runs. let no : false ≡ true = sym (ap (λ (x : Peer). is_running x) is) ∙ runs in cc)
 
 -- what was read at a place is the one there

@@ -26,6 +26,15 @@ pub record AreFound (by_id by_endpoint : Places) (ps : List Peer) : Type 0 where
   pub ids : (i : ℕ) (p : Peer) → slice_get ps i ≡ Some p → finmap.get by_id (identifier p.node.me) ≡ Some i
   pub endpoints : (i : ℕ) (p : Peer) → slice_get ps i ≡ Some p → is_running p ≡ true → finmap.get by_endpoint (endpoint p.node.me) ≡ Some i
 
+-- The endpoints of these peers, whether they run or not.
+abbrev pub endpoints_of : List Peer → List Endpoint
+endpoints_of ps = map (λ p. endpoint p.node.me) ps
+
+-- So they are found, and these are their endpoints.
+pub record AreListed (by_id by_endpoint : Places) (es : List Endpoint) (ps : List Peer) : Type 0 where
+  pub found : AreFound by_id by_endpoint ps
+  pub listed : es ≡ endpoints_of ps
+
 -- If an element passes the test, it stands at the place.
 abbrev pub IsOnlyAt : {A : Type 0} → (A → Bool) → List A → Option ℕ → Type 0
 IsOnlyAt {A} f xs place = (i : ℕ) (x : A) → slice_get xs i ≡ Some x → f x ≡ true → place ≡ Some i

@@ -6,7 +6,7 @@ ghost use Rattle.std.specs.Option.{option_map, option_and_then};
 ghost use Rattle.rapid_model.specs.InOrder.{in_order};
 ghost use Rattle.rapid_model.specs.Process.{bytes_cmp, identifier};
 ghost use Rattle.rapid_model.specs.World.{is_running, has_identifier, has_endpoint};
-ghost use Rattle.rapid_world.specs.Found.{IsOnlyAt, RunsAt};
+ghost use Rattle.rapid_world.specs.Found.{IsOnlyAt, RunsAt, endpoints_of};
 ghost use Rattle.rapid_world.specs.Worlds.{running_id};
 
 use crate::peer::Peer;
@@ -94,25 +94,34 @@ pub(crate) fn place_at(peers: &[Peer], place: Option<usize>, endpoint: &Endpoint
     }
 }
 
-/// Whether the peer at a place runs at the endpoint.
-fn is_at(peers: &[Peer], place: usize, endpoint: &Endpoint) -> bool
+/// Whether the peer at a place runs at the endpoint. The endpoints of all peers stand close together,
+/// so who the peer is need not be read.
+fn is_at(peers: &[Peer], endpoints: &[Endpoint], place: usize, endpoint: &Endpoint) -> bool
+    requires { endpoints.now ≡ endpoints_of peers.now }
     ensures { result ≡ true → RunsAt peers.now endpoint.now place }
 {
-    match peers.get(place) {
-        Some(peer) => runs_at(peer, endpoint),
+    match endpoints.get(place) {
+        Some(its) => *endpoint == *its && peers[place].is_running(),
         None => false,
     }
 }
 
-/// The place of the peer that runs at the endpoint, if it is the next one or this one.
-pub(crate) fn place_near(peers: &[Peer], near: usize, endpoint: &Endpoint) -> Option<usize>
+/// The place of the peer that runs at the endpoint, if it is the next one or this one. The peers have
+/// these endpoints.
+pub(crate) fn place_near(
+    peers: &[Peer],
+    endpoints: &[Endpoint],
+    near: usize,
+    endpoint: &Endpoint,
+) -> Option<usize>
+    requires { endpoints.now ≡ endpoints_of peers.now }
     ensures { IfSome result (RunsAt peers.now endpoint.now) }
 {
     let next = near.saturating_add(1);
-    if is_at(peers, next, endpoint) {
+    if is_at(peers, endpoints, next, endpoint) {
         return Some(next);
     }
-    if is_at(peers, near, endpoint) {
+    if is_at(peers, endpoints, near, endpoint) {
         return Some(near);
     }
     None

@@ -146,7 +146,6 @@ impl Peer {
         ensures packets { (handed self.old (event_of event.now) result.halts).packets ≡ [] }
         ensures report { option_to_list (option_map report_of result.report) ≡ (handed self.old (event_of event.now) result.halts).reports }
     {
-        let id = self.node.process().id();
         let was_member = is_in_a_configuration(&self.node);
         match self.node.step_in(views, event) {
             Ok(outputs) => {
@@ -154,6 +153,7 @@ impl Peer {
                 Told::nothing()
             }
             Err(fault) => {
+                let id = self.node.process().id();
                 self.windows.leave(was_member);
                 Told::halted(id, is_want_of_memory(fault))
             }

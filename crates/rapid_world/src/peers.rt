@@ -41,6 +41,8 @@ pub(crate) struct Nodes {
     by_id: PlacesById,
     // of those at one endpoint the last that started
     by_endpoint: PlacesByEndpoint,
+    // that of each peer
+    endpoints: Vec<Endpoint>,
     // the place of the one that took a packet last: mostly the next packet goes to the next one
     near: usize,
     views: Views,
@@ -52,7 +54,7 @@ impl Model for Nodes {
     ghost use Rattle.std.specs.Coded.{coded_list};
     ghost use Rattle.rapid_model.specs.World.{Peer as ModelPeer};
     ghost use Rattle.rapid_world.specs.Codes.{peer_code};
-    ghost use Rattle.rapid_world.specs.Found.{AreFound};
+    ghost use Rattle.rapid_world.specs.Found.{AreListed};
 
     ghost Value = { List ModelPeer };
 
@@ -60,12 +62,12 @@ impl Model for Nodes {
 
     ghost view = { λ p. p.peers.items };
 
-    ghost invariant = { λ p. AreFound p.by_id p.by_endpoint p.peers.items };
+    ghost invariant = { λ p. AreListed p.by_id p.by_endpoint p.endpoints.items p.peers.items };
 }
 
 impl Nodes {
     /// No peer.
-    #[tactic(auto, using(crate::proofs::Finding::none_found))]
+    #[tactic(auto, using(crate::proofs::Finding::none_listed))]
     pub(crate) fn new(alloc: Global) -> Nodes
         ensures { result ≡ [] }
     {
@@ -73,6 +75,7 @@ impl Nodes {
             peers: Vec::new(alloc),
             by_id: PlacesById::new(alloc),
             by_endpoint: PlacesByEndpoint::new(alloc),
+            endpoints: Vec::new(alloc),
             near: 0,
             views: Views::new(alloc, SHARED_VIEWS),
             alloc,
@@ -109,7 +112,8 @@ impl Nodes {
     pub(crate) fn place_at(&self, endpoint: &Endpoint) -> Option<usize>
         ensures { result ≡ position (λ p. is_running p && has_endpoint endpoint.now p) self.now }
     {
-        match place_near(self.peers.as_slice(), self.near, endpoint) {
+        let peers = self.peers.as_slice();
+        match place_near(peers, self.endpoints.as_slice(), self.near, endpoint) {
             Some(place) => Some(place),
             None => self.place_by_endpoint(endpoint),
         }
@@ -174,9 +178,12 @@ impl Nodes {
     {
         let place = self.peers.len();
         let process = peer.node().process();
+        let endpoint = process.endpoint();
         self.peers.reserve(1)?;
+        self.endpoints.reserve(1)?;
         self.by_id.insert(process.id(), place)?;
-        self.by_endpoint.insert(process.endpoint(), place)?;
+        self.by_endpoint.insert(endpoint, place)?;
+        push_within(&mut self.endpoints, endpoint);
         push_within(&mut self.peers, peer);
         Ok(())
     }

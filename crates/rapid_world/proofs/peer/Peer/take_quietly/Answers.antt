@@ -1,6 +1,6 @@
 use Rattle.std.proofs.Common.{ap, ◌∙◌}
 use Rattle.std.specs.Prelude.{is_some}
-use Rattle.rapid_model.specs.Node.{member_in}
+use Rattle.rapid_model.specs.Node.{Node, member_in}
 use Rattle.rapid_model.specs.Process.{identifier}
 use Rattle.rapid_model.specs.World.{Peer}
 use Rattle.rapid_world.proofs.Taking.{quiet_peer, quiet_packets, quiet_reports, stop_peer, faulted, no_packets, tells_halt}
@@ -29,4 +29,4 @@ returns-in-Err-clause-packets c =
 pub returns-in-Err-clause-report : goal.returns-in-Err-clause-report
 returns-in-Err-clause-report c =
     let stops = faulted _ _ _ _ _ _ (ap (λ (p : Peer). p.node) c.self.view_is) c.requires.runs c.in-Err.ensures.fault (c.halted.ensures.halts ∙ c.is_want_of_memory.ensures) in
-    tells_halt _ _ _ _ _ (stops.0) (c.id-id.ensures ∙ ap identifier (c.process.ensures ∙ ap (λ (p : Peer). p.node.me) c.self.view_is)) c.halted.ensures.report
+    tells_halt _ _ _ _ _ (stops.0) (c.id-id.ensures ∙ ap identifier (c.process.ensures ∙ ap (λ (n : Node). n.me) (stops.1))) c.halted.ensures.report

@@ -2,7 +2,7 @@ use Rattle.std.proofs.Common.{true, length, List, ap, ◌∙◌, arith}
 use Rattle.std.specs.Prelude.{slice_set}
 use Rattle.rapid_model.specs.World.{Peer}
 use Rattle.rapid_world.proofs.Cases.{stands_read}
-use Rattle.rapid_world.proofs.Finding.{read_at, crashed_found}
+use Rattle.rapid_world.proofs.Finding.{read_at, crashed_listed}
 use Rattle.rapid_world.proofs.peers.Nodes.crash.Goals as goal
 
 pub index_mut-requires : goal.index_mut-requires
@@ -15,7 +15,7 @@ pub invariant_of-self : goal.invariant_of-self
 invariant_of-self c =
     let e = ap length c.self.view_is in
     let l = c.requires in
-    crashed_found _ _ _ _ _ _ c.self.invariant (stands_read c.self.inside.peers.items c.args.place _ (omega (arith, l, e)) c.index_mut.ensures.value) c.crash.ensures
+    crashed_listed _ _ _ _ _ _ _ c.self.invariant (stands_read c.self.inside.peers.items c.args.place _ (omega (arith, l, e)) c.index_mut.ensures.value) c.crash.ensures
 
 pub returns : goal.returns
 returns c = λ p at.

@@ -5,10 +5,10 @@ use Rattle.std.proofs.lemmas.Result.{err_from_is_err_and}
 use Rattle.rapid_model.specs.Node as node
 use Rattle.rapid_model.specs.World.{Peer}
 use Rattle.rapid_node.specs.Steps.{event_of}
-use Rattle.rapid_world.specs.Found.{AreFound}
+use Rattle.rapid_world.specs.Found.{AreListed}
 use Rattle.rapid_world.specs.Framed.{framed_packet, HasFrame}
 use Rattle.rapid_world.specs.Handed.{handed, KeepsAt}
-use Rattle.rapid_world.proofs.Finding.{read_at, at_inside, put_back, handed_found}
+use Rattle.rapid_world.proofs.Finding.{read_at, at_inside, put_back, handed_listed}
 use Rattle.rapid_world.proofs.peers.Nodes.hand.Goals as goal
 
 pub index_mut-requires : goal.index_mut-requires
@@ -29,7 +29,7 @@ hand-requires-clause-keeps c =
 pub invariant_of-self-2 : goal.invariant_of-self-2
 invariant_of-self-2 c =
     let is = read_at _ _ _ _ _ c.self.view_is c.requires.at c.index_mut.ensures.value in
-    handed_found _ _ _ _ c.requires.peer _ (event_of c.args.event.now) c.in_ok-told.told.halts c.self.invariant (at_inside _ _ _ _ c.self.view_is c.requires.at) c.requires.up c.requires.keeps
+    handed_listed _ _ _ _ _ c.requires.peer _ (event_of c.args.event.now) c.in_ok-told.told.halts c.self.invariant (at_inside _ _ _ _ c.self.view_is c.requires.at) c.requires.up c.requires.keeps
     (c.in_ok-told.ensures.peer ∙ ap (λ (p : Peer). (handed p (event_of c.args.event.now) c.in_ok-told.told.halts).peer) is)
 
 pub returns-clause-peers : goal.returns-clause-peers
@@ -55,7 +55,7 @@ returns-clause-reports c = λ p at.
 
 pub invariant_of-self : goal.invariant_of-self
 invariant_of-self c =
-    subst (λ (l : List Peer). AreFound c.self.inside.by_id c.self.inside.by_endpoint l) (sym (put_back _ _ _ _ c.index_mut.ensures.value c.in_err-told.ensures.peer_unchanged)) c.self.invariant
+    subst (AreListed c.self.inside.by_id c.self.inside.by_endpoint c.self.inside.endpoints.items) (sym (put_back _ _ _ _ c.index_mut.ensures.value c.in_err-told.ensures.peer_unchanged)) c.self.invariant
 
 pub returns-in_err-told-clause-unchanged : goal.returns-in_err-told-clause-unchanged
 returns-in_err-told-clause-unchanged c =

@@ -8,9 +8,9 @@ use Rattle.rapid_model.specs.Edge.{probed}
 use Rattle.rapid_model.specs.Monitors.{edge_at}
 use Rattle.rapid_model.specs.Node.{EdgeDown}
 use Rattle.rapid_model.specs.WorldStep.{edge_on}
-use Rattle.rapid_world.specs.Found.{AreFound}
+use Rattle.rapid_world.specs.Found.{AreListed}
 use Rattle.rapid_world.specs.Handed.{told, KeepsAt}
-use Rattle.rapid_world.proofs.Finding.{read_at, at_inside, put_back, told_found}
+use Rattle.rapid_world.proofs.Finding.{read_at, at_inside, put_back, told_listed}
 use Rattle.rapid_world.proofs.peers.Nodes.probe.Goals as goal
 
 pub index_mut-requires : goal.index_mut-requires
@@ -41,7 +41,7 @@ probe-requires-clause-keeps c =
 pub invariant_of-self-2 : goal.invariant_of-self-2
 invariant_of-self-2 c =
     let is = read_at _ _ _ _ _ c.self.view_is c.requires.at c.index_mut.ensures.value in
-    told_found _ _ _ _ c.requires.peer _ c.args.ring c.args.ok (EdgeDown c.args.observed.0 c.args.ring c.args.observed.1) c.in_ok-told.told.halts c.self.invariant (at_inside _ _ _ _ c.self.view_is c.requires.at) c.requires.up c.requires.keeps
+    told_listed _ _ _ _ _ c.requires.peer _ c.args.ring c.args.ok (EdgeDown c.args.observed.0 c.args.ring c.args.observed.1) c.in_ok-told.told.halts c.self.invariant (at_inside _ _ _ _ c.self.view_is c.requires.at) c.requires.up c.requires.keeps
     (c.in_ok-told.ensures.peer ∙ ap (λ (p : Peer). (told p c.args.ring c.args.ok (EdgeDown c.args.observed.0 c.args.ring c.args.observed.1) c.in_ok-told.told.halts).peer) is)
 
 pub returns-clause-peers : goal.returns-clause-peers
@@ -67,7 +67,7 @@ returns-clause-quiet c = λ p at up.
 
 pub invariant_of-self : goal.invariant_of-self
 invariant_of-self c =
-    subst (λ (l : List Peer). AreFound c.self.inside.by_id c.self.inside.by_endpoint l) (sym (put_back _ _ _ _ c.index_mut.ensures.value c.in_err-told.ensures.peer_unchanged)) c.self.invariant
+    subst (AreListed c.self.inside.by_id c.self.inside.by_endpoint c.self.inside.endpoints.items) (sym (put_back _ _ _ _ c.index_mut.ensures.value c.in_err-told.ensures.peer_unchanged)) c.self.invariant
 
 pub returns-in_err-told-clause-unchanged : goal.returns-in_err-told-clause-unchanged
 returns-in_err-told-clause-unchanged c =

@@ -16,7 +16,7 @@ pub returns-then-is_some : goal.returns-then-is_some
 returns-then-is_some c =
     let start : c.into_iter-id-iterator.result ≡ filter (λ id. is_lt (bytes_cmp c.args.last.now id) && true) c.ids.result.now.keys =
     c.into_iter-id-iterator.ensures.into_iter_gives ∙ c.range-id-items.ensures.between tt in
-    let are : AreFound c.self.inside.by_id c.self.inside.by_endpoint c.args.self.now = subst (λ (l : List Peer). AreFound c.self.inside.by_id c.self.inside.by_endpoint l) c.self.view_is c.self.invariant in
+    let are : AreFound c.self.inside.by_id c.self.inside.by_endpoint c.args.self.now = subst (λ (l : List Peer). AreFound c.self.inside.by_id c.self.inside.by_endpoint l) c.self.view_is c.self.invariant.found in
     stopped (runs c.args.self.now) c.in-Some.id.now _ _ c.in-Some.ensures.steps (sym (c.is_some.ensures ∙ ap is_some c.place_under.ensures) ∙ c.if-is_some.true)
     ∙ c.loop-id.invariant ∙ ap (find (runs c.args.self.now)) start ∙ above_runs c.ids.result.now.keys c.self.inside.by_id c.self.inside.by_endpoint c.args.self.now c.args.last.now c.ids.ensures are c.range-id-items.ensures.ordered
 
@@ -24,6 +24,6 @@ pub returns : goal.returns
 returns c =
     let start : c.into_iter-id-iterator.result ≡ filter (λ id. is_lt (bytes_cmp c.args.last.now id) && true) c.ids.result.now.keys =
     c.into_iter-id-iterator.ensures.into_iter_gives ∙ c.range-id-items.ensures.between tt in
-    let are : AreFound c.self.inside.by_id c.self.inside.by_endpoint c.args.self.now = subst (λ (l : List Peer). AreFound c.self.inside.by_id c.self.inside.by_endpoint l) c.self.view_is c.self.invariant in
+    let are : AreFound c.self.inside.by_id c.self.inside.by_endpoint c.args.self.now = subst (λ (l : List Peer). AreFound c.self.inside.by_id c.self.inside.by_endpoint l) c.self.view_is c.self.invariant.found in
     ended (runs c.args.self.now) _ c.in-None.ensures.steps.0
     ∙ c.loop-id.invariant ∙ ap (find (runs c.args.self.now)) start ∙ above_runs c.ids.result.now.keys c.self.inside.by_id c.self.inside.by_endpoint c.args.self.now c.args.last.now c.ids.ensures are c.range-id-items.ensures.ordered
