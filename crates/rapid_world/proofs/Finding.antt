@@ -5,7 +5,8 @@ use Rattle.std.specs.List.{list_any, find, position_or_len}
 use Rattle.std.specs.Option.{option_map, option_and_then}
 use Rattle.std.specs.FinMap as finmap
 use Rattle.std.proofs.lemmas.Bool.{and_parts, false_from_ne_true, lt-ltb, le-ltb, not-true}
-use Rattle.std.proofs.lemmas.List.{set-get_or}
+use Rattle.std.proofs.Math.Seq.{map-set_same}
+use Rattle.std.proofs.lemmas.List.{set-get_or, map-append}
 use Rattle.std.proofs.lemmas.List.Folds.{find_at}
 use Rattle.std.proofs.lemmas.List.Sums.{position_or_len_is}
 use Rattle.std.proofs.lemmas.Option.{slice_get_within, slice_get-get_or, slice_get_past, get_or_from_slice_get, same_Some}
@@ -160,9 +161,7 @@ runs_only ps place id only i p at ok = only i p at (and_parts (is_running p) (ha
 
 -- a peer of the same process in the place of one
 endpoints_set : (ps : List Peer) (i : ℕ) (p q : Peer) → slice_get ps i ≡ Some p → q.node.me ≡ p.node.me → endpoints_of (slice_set ps i q) ≡ endpoints_of ps
-endpoints_set [] i p q at same = cc
-endpoints_set (x ∷ ps) zero p q at same = ap (λ e. e ∷ endpoints_of ps) (ap endpoint (same ∙ ap (λ (y : Peer). y.node.me) (sym (same_Some _ _ at))))
-endpoints_set (x ∷ ps) (suc i) p q at same = ap (λ l. endpoint x.node.me ∷ l) (endpoints_set ps i p q at same)
+endpoints_set ps i p q at same = map-set_same (λ (x : Peer). endpoint x.node.me) ps i q p (ap endpoint (same ∙ ap (λ (x : Peer). x.node.me) (sym (get_or_from_slice_get ps i p p at))))
 
 -- ---- by identifier and by endpoint
 
@@ -268,16 +267,12 @@ pub indexed_listed : (ids ends ids' ends' : Places) (es es' : List Endpoint) (no
 indexed_listed ids ends ids' ends' es es' now ps qs p key n are new same is more kept room es_kept =
     record { found = indexed_more ids ends ids' ends' now ps qs p key n are.found new same is more kept room; listed = es_kept ∙ are.listed ∙ ap endpoints_of (sym room) }
 
-endpoints_more : (ps : List Peer) (p : Peer) → endpoints_of (ps ++ p ∷ []) ≡ endpoints_of ps ++ endpoint p.node.me ∷ []
-endpoints_more [] p = refl
-endpoints_more (q ∷ ps) p = ap (λ l. endpoint q.node.me ∷ l) (endpoints_more ps p)
-
 pub added_listed : (ids ends ids' ends' : Places) (es es' es'' : List Endpoint) (now ps qs rs : List Peer) (p : Peer) (key place : List ℕ) (n : ℕ) → AreListed ids ends es ps → IsNew now p → ps ≡ now → n ≡ length ps → key ≡ identifier p.node.me → place ≡ endpoint p.node.me →
     ids' ≡ finmap.insert ids key n → ends' ≡ finmap.insert ends place n → qs ≡ ps → rs ≡ qs ++ p ∷ [] → es' ≡ es → es'' ≡ es' ++ place ∷ [] → AreListed ids' ends' es'' rs
 added_listed ids ends ids' ends' es es' es'' now ps qs rs p key place n are new same len is at more placed room push es_kept last =
     record {
       found = added_more ids ends ids' ends' now ps qs rs p key place n are.found new same len is at more placed room push;
-      listed = last ∙ ap (λ (l : List Endpoint). l ++ place ∷ []) (es_kept ∙ are.listed) ∙ ap (λ k. endpoints_of ps ++ k ∷ []) at ∙ sym (endpoints_more ps p)
+      listed = last ∙ ap (λ (l : List Endpoint). l ++ place ∷ []) (es_kept ∙ are.listed) ∙ ap (λ k. endpoints_of ps ++ k ∷ []) at ∙ sym (map-append (λ (x : Peer). endpoint x.node.me) ps (p ∷ []))
           ∙ ap endpoints_of (sym (push ∙ ap (λ (l : List Peer). l ++ p ∷ []) room));
     }
 

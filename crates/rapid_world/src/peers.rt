@@ -41,7 +41,7 @@ pub(crate) struct Nodes {
     by_id: PlacesById,
     // of those at one endpoint the last that started
     by_endpoint: PlacesByEndpoint,
-    // that of each peer
+    // those of the peers, in their order
     endpoints: Vec<Endpoint>,
     // the place of the one that took a packet last: mostly the next packet goes to the next one
     near: usize,
