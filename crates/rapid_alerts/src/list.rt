@@ -3,6 +3,7 @@
 ghost use Rattle.std.specs.Prelude.{◌≡◌, ◌<◌, ◌≤◌, ◌+◌, ◌++◌, ◌∷◌, true, [], None, Some, List, slice_get, is_some, length, map, take, drop, nat_lt, IfOk, IfErr, IfSome, OnOk, OnErr};
 ghost use Rattle.std.specs.List.{list_all};
 ghost use Rattle.rapid_model.specs.Message.{AlertItem, item_of};
+ghost use Rattle.rapid_model.specs.Process.{IsProcess};
 ghost use Rattle.rapid_alerts.specs.Alerts.{ArePlaced, alert_of, alert_of_ref, alerts_in, kind_of};
 ghost use Rattle.rapid_alerts.specs.Listing.{Grows, IsSpeltIn};
 ghost use Rattle.rapid_alerts.specs.Spelt.{Adds, Says};
@@ -267,8 +268,8 @@ impl AlertList {
         Ok(length)
     }
 
-    /// The same, where the process is made of the bytes. It stands alone, so that this process is
-    /// not cleared where none is made.
+    /// The same, where the process is made of the bytes. It stands alone, since this is needed once a
+    /// subject.
     #[inline(never)]
     fn push_read(&mut self, ring: u8, kind: Kind, bytes: &[u8]) -> Result<usize, SpeltError>
         ensures added { IfOk result (Adds self.old self.new ring (kind_of kind) bytes.now) }
@@ -276,13 +277,26 @@ impl AlertList {
         ensures refused { IfErr result (Says bytes.now) }
         ensures unchanged { OnErr result (self.new ≡ self.old) }
     {
-        match Process::read(bytes) {
-            Ok((subject, length)) => match self.push(&subject, ring, kind) {
-                Ok(()) => Ok(length),
-                Err(_refused) => Err(SpeltError::OutOfMemory),
-            },
-            Err(error) => Err(SpeltError::NoProcess(error)),
+        let length = match Process::length_at(bytes) {
+            Ok(length) => length,
+            Err(error) => return Err(SpeltError::NoProcess(error)),
+        };
+        match self.push_made(ring, kind, &bytes[..length]) {
+            Ok(()) => Ok(length),
+            Err(_refused) => Err(SpeltError::OutOfMemory),
         }
+    }
+
+    /// Adds an alert at the end on the process of these bytes, which is put behind all other
+    /// subjects. If it is refused the list is as it was.
+    fn push_made(&mut self, ring: u8, kind: Kind, bytes: &[u8]) -> Result<(), AllocError>
+        requires { IsProcess bytes.now }
+        ensures pushed { OnOk result (self.new ≡ record self.old { items = self.old.items ++ (record { ring = ring; kind = kind_of kind; subject = bytes.now }) ∷ [] }) }
+        ensures unchanged { OnErr result (self.new ≡ self.old) }
+    {
+        let subject = SharedProcess::spelt(self.alloc, bytes)?;
+        self.push_behind(subject, ring, kind)?;
+        Ok(())
     }
 
     /// Takes the last subject out if no alert is on it.

@@ -13,4 +13,5 @@ pub mod Rooms
 pub mod Spellings
 pub mod TagLists
 pub mod TagReading
+mod Untagged
 pub mod Walking

@@ -10,6 +10,7 @@ mod endpoint;
 mod endpoint_text;
 mod half;
 mod identifier_text;
+mod kept_process;
 mod key;
 mod number;
 mod parse_error;
@@ -28,6 +29,7 @@ mod word;
 
 pub use endpoint::Endpoint;
 pub use endpoint_text::endpoints_have_one_spelling;
+pub use kept_process::KeptProcess;
 pub use parse_error::ParseError;
 pub use process::{Process, processes_have_one_spelling};
 pub use process_id::ProcessId;

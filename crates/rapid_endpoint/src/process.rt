@@ -1,6 +1,6 @@
 // Processes.
 
-ghost use Rattle.std.specs.Prelude.{◌≡◌, ◌≤◌, ◌↔◌, ◌++◌, true, [], ◌∷◌, ◌⊎◌, Ok, map, length, take, drop, IfOk, IfErr, OnOk, OnErr};
+ghost use Rattle.std.specs.Prelude.{◌≡◌, ◌≤◌, ◌↔◌, ◌≢◌, ◌++◌, true, false, [], ◌∷◌, ◌⊎◌, Ok, map, length, take, drop, IfOk, IfErr, OnOk, OnErr};
 ghost use Rattle.std.specs.Ordering.{as_partial_cmp};
 ghost use Rattle.std.specs.Cmp.{partial_equiv_from_equiv, partial_order_from_total};
 ghost use Rattle.std.proofs.lemmas.Cmp.{nat_list_cmp_total, eq_by_cmp_equiv};
@@ -100,6 +100,35 @@ impl Process {
         Process { key, tags }
     }
 
+    /// The identifier and the endpoint.
+    #[inline(always)]
+    pub(crate) fn key(&self) -> Key
+        ensures front { result ≡ take 22 self.now }
+        ensures whole { self.now ≡ result ++ tags_bytes_of self.now }
+        ensures length { length result ≡ 22 }
+    {
+        self.key
+    }
+
+    /// The process of this identifier and endpoint, without tags.
+    pub(crate) fn untagged(key: Key) -> Process
+        ensures { result ≡ key ++ 0 ∷ [] }
+    {
+        Process::joined(key, Tags::none())
+    }
+
+    /// Whether it has no tags.
+    #[inline(always)]
+    pub(crate) fn has_no_tags(&self) -> bool
+        ensures yes { result ≡ true → tags_bytes_of self.now ≡ 0 ∷ [] }
+        ensures no { result ≡ false → tags_bytes_of self.now ≢ 0 ∷ [] }
+    {
+        match self.tags.as_bytes() {
+            [only] => *only == 0,
+            _ => false,
+        }
+    }
+
     /// The identifier.
     pub fn id(&self) -> ProcessId
         ensures { result ≡ identifier self.now }
@@ -189,8 +218,14 @@ impl Process {
         }
     }
 
+    /// Some process, over which another is to be read.
+    #[inline(always)]
+    pub(crate) fn blank() -> Process {
+        Process::new(ProcessId::new([0; 16]), Endpoint::new([0; 4], 0))
+    }
+
     /// Puts the process of these bytes in place of this one.
-    fn replace(&mut self, bytes: &[u8])
+    pub(crate) fn replace(&mut self, bytes: &[u8])
         requires { IsProcess bytes.now }
         ensures { self.new ≡ bytes.now }
     {

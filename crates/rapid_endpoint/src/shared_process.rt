@@ -3,7 +3,7 @@
 ghost use Rattle.std.specs.Prelude.{◌≡◌, IfOk};
 ghost use Rattle.std.specs.Cmp.{partial_equiv_from_equiv};
 ghost use Rattle.std.proofs.lemmas.Cmp.{nat_list_cmp_total, eq_by_cmp_equiv};
-ghost use Rattle.rapid_model.specs.Process.{same_bytes};
+ghost use Rattle.rapid_model.specs.Process.{IsProcess, same_bytes};
 
 use crate::{Process, ProcessId};
 use std::alloc::{AllocError, Global};
@@ -41,6 +41,17 @@ impl SharedProcess {
             id: process.id(),
             process: Arc::new(alloc, *process)?,
         })
+    }
+
+    /// The process of these bytes, to be shared. It is read in its block, over a blank one.
+    pub fn spelt(alloc: Global, bytes: &[u8]) -> Result<SharedProcess, AllocError>
+        requires { IsProcess bytes.now }
+        ensures { IfOk result (λ shared. shared ≡ bytes.now) }
+    {
+        let mut process = Arc::new(alloc, Process::blank())?;
+        Arc::make_mut(&mut process)?.replace(bytes);
+        let id = process.id();
+        Ok(SharedProcess { id, process })
     }
 
     /// The process.
