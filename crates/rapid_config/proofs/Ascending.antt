@@ -1,18 +1,19 @@
 -- Lists in which each element passes a test with all later ones, checked by neighbours.
-use Rattle.std.proofs.Common.{◌≡◌, ℕ, zero, suc, ◌+◌, ◌<◌, Bool, true, false, ◌&&◌, List, [], ◌∷◌, length, refl, sym, ap, ◌∙◌, arith, get_or, take, cond}
+use Rattle.std.proofs.Common.{◌≡◌, map, ℕ, zero, suc, ◌+◌, ◌<◌, Bool, true, false, ◌&&◌, List, [], ◌∷◌, length, refl, sym, ap, ◌∙◌, arith, get_or, take, cond}
 use Rattle.std.proofs.Math.Nat.{suc-add}
 use Rattle.std.specs.declared.cmp.Ordering.{Ordering}
 use Rattle.std.specs.declared.cmp.Ordering.TheVariants.{Less, Equal, Greater}
 use Rattle.std.specs.Ordering.{is_lt, nat_cmp, ordering_then, ordering_reverse}
 use Rattle.std.specs.Cmp.{IsTotalOrder}
 use Rattle.std.proofs.lemmas.Cmp.{nat_list_cmp_total}
+use Rattle.std.proofs.lemmas.List.{get_or-map, length-map}
 use Rattle.rapid_model.specs.Process.{Process, identifier, bytes_cmp, process_cmp}
 use Rattle.rapid_model.specs.Cut.{is_ascending}
 use Rattle.rapid_model.specs.Configuration.{identifiers_ascend}
 use Rattle.std.specs.List.{IsAllAdjacentAnswer, list_all, filter}
 use Rattle.std.proofs.lemmas.Bool.{and_parts, and_from, and_left, and_right}
 use Rattle.rapid_model.proofs.Logic.{less_is}
-use Rattle.rapid_endpoint.proofs.Ascents.{all_later}
+use Rattle.rapid_endpoint.proofs.Ascents.{all_later, is_lt_trans}
 
 pub bytes_total : IsTotalOrder bytes_cmp
 bytes_total = nat_list_cmp_total
@@ -111,3 +112,22 @@ members_ascend (p ∷ ps) h =
     weaker (q ∷ qs) h =
         let r = and_parts (is_lt (bytes_cmp (identifier p) (identifier q))) (list_all (λ q. is_lt (bytes_cmp (identifier p) (identifier q))) qs) h in
         and_from (is_lt (process_cmp p q)) (list_all (λ q. is_lt (process_cmp p q)) qs) (ap is_lt (below_by_identifier p q (less_is (bytes_cmp (identifier p) (identifier q)) r.0))) (weaker qs r.1)
+
+-- identifiers ascend as those that have them do
+pub identifiers_ascend_alone : (ps : List Process) (r : Bool) → IsAllAdjacentAnswer (λ a b c. c ≡ is_lt (bytes_cmp a b)) (map identifier ps) r → r ≡ identifiers_ascend ps
+identifiers_ascend_alone ps r h =
+    ascends_by_neighbours (λ p q. is_lt (bytes_cmp (identifier p) (identifier q))) identifiers_ascend (λ x y z. is_lt_trans bytes_total (identifier x) (identifier y) (identifier z)) refl (λ _ _. refl) ps r (of_images r h)
+  where
+    elements : (k : ℕ) (d : Process) → k + 1 < length ps → is_lt (bytes_cmp (get_or (map identifier ps) k (identifier d)) (get_or (map identifier ps) (k + 1) (identifier d))) ≡ is_lt (bytes_cmp (identifier (get_or ps k d)) (identifier (get_or ps (k + 1) d)))
+    elements k d l =
+        ap (λ a. is_lt (bytes_cmp a (get_or (map identifier ps) (k + 1) (identifier d)))) (get_or-map identifier ps k d (identifier d) (omega (arith, l)))
+        ∙ ap (λ b. is_lt (bytes_cmp (identifier (get_or ps k d)) b)) (get_or-map identifier ps (k + 1) d (identifier d) l)
+
+    of_images : (r : Bool) → IsAllAdjacentAnswer (λ a b c. c ≡ is_lt (bytes_cmp a b)) (map identifier ps) r → IsAllAdjacentAnswer (λ p q c. c ≡ is_lt (bytes_cmp (identifier p) (identifier q))) ps r
+    of_images true h = λ k d l.
+        let n = length-map ps identifier in
+        h k (identifier d) (omega (arith, l, n)) ∙ elements k d l
+    of_images false (k, l, h) =
+        let n = length-map ps identifier in
+        let below : k + 1 < length ps = omega (arith, l, n) in
+        (k, below, λ d. h (identifier d) ∙ elements k d below)

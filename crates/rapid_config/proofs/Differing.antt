@@ -89,3 +89,11 @@ endpoints_push ps q s n h g e =
 
 pub endpoints_more : (ps : List Process) (i : ℕ) (d : Process) (s n : List (List ℕ)) → i < length ps → AreEndpointsOf (take i ps) s → Gains s n (endpoint (get_or ps i d)) → AreEndpointsOf (take (i + 1) ps) n
 endpoints_more ps i d s n l h g = subst (λ qs. AreEndpointsOf qs n) (sym (take_more ps i d l)) (endpoints_push (take i ps) (get_or ps i d) s n h g)
+
+-- endpoints one after another, and that of one process more
+pub seen_more : (ps : List Process) (i : ℕ) (d : Process) (s : List (List ℕ)) → i < length ps → AreEndpointsOf (take i ps) s → AreEndpointsOf (take (i + 1) ps) (s ++ endpoint (get_or ps i d) ∷ [])
+seen_more ps i d s l h =
+    subst (λ qs. AreEndpointsOf qs (s ++ endpoint (get_or ps i d) ∷ [])) (sym (take_more ps i d l))
+    (λ e. any_push (same_bytes e) s (endpoint (get_or ps i d))
+    ∙ ap (λ b. same_bytes e (endpoint (get_or ps i d)) || b) (h e)
+    ∙ sym (any_push (λ p. same_bytes e (endpoint p)) (take i ps) (get_or ps i d)))

@@ -6,3 +6,4 @@ pub mod Differing
 pub mod Insertions
 pub mod Kept
 pub mod Announced
+pub mod Slots

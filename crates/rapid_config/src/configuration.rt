@@ -1,8 +1,9 @@
 // Configurations: views of who the members are.
 
-ghost use Rattle.std.specs.Prelude.{◌≡◌, ◌+◌, ◌^◌, ◌<◌, ◌≤◌, ◌↔◌, ◌⊎◌, None, Err, length, IfOk, IfErr, OnOk, IfSome};
+ghost use Rattle.std.specs.Prelude.{◌≡◌, ◌+◌, ◌^◌, ◌<◌, ◌≤◌, ◌↔◌, ◌⊎◌, None, Err, length, map, IfOk, IfErr, OnOk, IfSome};
 ghost use Rattle.rapid_model.specs.Apply.{apply};
 ghost use Rattle.std.specs.Arc.{arc_slice_items};
+ghost use Rattle.rapid_model.specs.Process.{identifier};
 ghost use Rattle.rapid_model.specs.Configuration as model;
 ghost use Rattle.rapid_model.specs.Configuration.{AreMembers, IsConfiguration, founding, configuration_bytes, configuration_id, position_of};
 ghost use Rattle.rapid_model.specs.Reading.{members_fault, bytes_fault, configuration_in};
@@ -52,31 +53,30 @@ impl Model for Configuration {
 
 /// The configuration of these parts, whose canonical bytes are these.
 fn assemble_spelled(
-    alloc: Global,
     params: Params,
     height: u64,
     previous: ConfigId,
     members: ArcSlice<Process>,
+    identifiers: ArcSlice<ProcessId>,
     bytes: &[u8],
-) -> Result<Configuration, AllocError>
+) -> Configuration
     requires members { AreMembers (arc_slice_items members) }
+    requires identifiers { arc_slice_items identifiers ≡ map identifier (arc_slice_items members) }
     requires bytes { bytes.now
         ≡ configuration_bytes (record { params = params; height = height; previous = previous; members = arc_slice_items members }) }
-    ensures { IfOk result
-        (λ c. c ≡ record { params = params; height = height; previous = previous; members = arc_slice_items members }) }
+    ensures { result ≡ record { params = params; height = height; previous = previous; members = arc_slice_items members } }
 {
     params.tell();
     previous.tell();
     let id = ConfigId::new(Sha256::digest(bytes));
-    let identifiers = identifiers_of(alloc, members.as_slice())?;
-    Ok(Configuration {
+    Configuration {
         params,
         height,
         previous,
         members,
         identifiers,
         id,
-    })
+    }
 }
 
 /// The configuration of these parts.
@@ -92,7 +92,9 @@ pub(crate) fn assemble(
         (λ c. c ≡ record { params = params; height = height; previous = previous; members = arc_slice_items members }) }
 {
     let bytes = spell(alloc, params, height, previous, members.as_slice())?;
-    assemble_spelled(alloc, params, height, previous, members, bytes.as_slice())
+    let identifiers = identifiers_of(alloc, members.as_slice())?;
+    let bytes = bytes.as_slice();
+    Ok(assemble_spelled(params, height, previous, members, identifiers, bytes))
 }
 
 impl Configuration {
@@ -135,12 +137,12 @@ impl Configuration {
         ensures refused { IfErr result (ReportsOfBytes (bytes_fault bytes.now)) }
     {
         let (params, count) = check_head(bytes)?;
-        let members = members_in(alloc, count, bytes)?;
+        let (members, identifiers) = members_in(alloc, count, bytes)?;
         let previous = ConfigId::new(chunk_at(bytes, 4));
         let height = u64::from_be_bytes(chunk_at(bytes, 36));
         // these are the canonical bytes: a configuration has one spelling
         tell_bytes(bytes);
-        let configuration = assemble_spelled(alloc, params, height, previous, members, bytes)?;
+        let configuration = assemble_spelled(params, height, previous, members, identifiers, bytes);
         configuration.tell();
         Ok(configuration)
     }

@@ -140,7 +140,7 @@ impl PartialEq for Cut {
 
     fn eq(&self, other: &Cut) -> bool {
         let (mine, others) = (self.processes(), other.processes());
-        mine.len() == others.len() && mine.compare(others).is_eq()
+        mine.len() == others.len() && mine == others
     }
 }
 

@@ -6,6 +6,7 @@ ghost use Rattle.rapid_config.specs.Endpoints.{AreEndpointsOf};
 
 use crate::endpoint_key::EndpointKey;
 use crate::references::References;
+use crate::seen::Seen;
 use rapid_endpoint::Process;
 use std::alloc::{AllocError, Global};
 use std::collections::HashSet;
@@ -14,9 +15,9 @@ use std::collections::HashSet;
 pub(crate) fn endpoints_differ(alloc: Global, processes: &[Process]) -> Result<bool, AllocError>
     ensures { IfOk result (λ differ. differ ≡ endpoints_differ processes.now) }
 {
-    let mut seen = HashSet::with_capacity(alloc, processes.len())?;
+    let mut seen = Seen::with_capacity(alloc, processes.len())?;
     for process in processes {
-        if !seen.insert(EndpointKey::new(process.endpoint()))? {
+        if !seen.insert(process.endpoint())? {
             return Ok(false);
         }
     }

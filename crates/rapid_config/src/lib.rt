@@ -12,6 +12,7 @@ mod members;
 mod params;
 mod reading;
 mod references;
+mod seen;
 mod spelling;
 mod stamp;
 mod told;

@@ -1,9 +1,10 @@
 // Lists of members: whether they may be one, and where a process stands in one.
 
-ghost use Rattle.std.specs.Prelude.{◌≡◌, ◌<◌, ◌≤◌, true, None, map, position, length, IsTrue, IfOk, IfErr, IfSome, OnOk};
+ghost use Rattle.std.specs.Prelude.{◌≡◌, ◌<◌, ◌≤◌, List, true, None, map, position, length, IsTrue, IfOk, IfErr, IfSome, OnOk};
 ghost use Rattle.std.specs.Arc.{arc_slice_items};
-ghost use Rattle.rapid_model.specs.Process.{identifier, same_bytes};
+ghost use Rattle.rapid_model.specs.Process.{Process as ModelProcess, identifier, same_bytes};
 ghost use Rattle.rapid_model.specs.Configuration.{AreMembers, identifiers_ascend};
+ghost use Rattle.rapid_model.specs.Limits.{most_members};
 ghost use Rattle.rapid_model.specs.Reading.{members_fault};
 ghost use Rattle.rapid_config.specs.Faults.{ReportsOfFounders};
 
@@ -37,6 +38,37 @@ pub(crate) fn check_members(alloc: Global, processes: &[Process]) -> Result<(), 
         return Err(ConfigError::TooMany);
     }
     if !identifiers_ascend(processes) {
+        return Err(ConfigError::NotSorted);
+    }
+    if !endpoints_differ(alloc, processes)? {
+        return Err(ConfigError::EndpointTwice);
+    }
+    tell_processes(processes);
+    Ok(())
+}
+
+/// Whether these identifiers strictly ascend.
+fn ascend(identifiers: &[ProcessId]) -> bool
+    ensures { (ps : List ModelProcess) → identifiers.now ≡ map identifier ps → result ≡ identifiers_ascend ps }
+{
+    identifiers.is_sorted_by(|a, b| a < b)
+}
+
+/// Ok if these can be the members of a configuration, as `check_members` says it. There are no more
+/// than 1,024, and their identifiers are given: these stand close together, so to go over them reads
+/// little memory.
+pub(crate) fn check_identified(
+    alloc: Global,
+    processes: &[Process],
+    identifiers: &[ProcessId],
+) -> Result<(), ConfigError>
+    requires few { length processes.now ≤ most_members }
+    requires identifiers { identifiers.now ≡ map identifier processes.now }
+    ensures valid { OnOk result (AreMembers processes.now) }
+    ensures allowed { OnOk result (members_fault processes.now ≡ None) }
+    ensures refused { IfErr result (ReportsOfFounders (members_fault processes.now)) }
+{
+    if !ascend(identifiers) {
         return Err(ConfigError::NotSorted);
     }
     if !endpoints_differ(alloc, processes)? {

@@ -1,8 +1,8 @@
 // Configurations in bytes.
 
-ghost use Rattle.std.specs.Prelude.{◌≡◌, ◌≢◌, ◌+◌, ◌≤◌, None, length, take, drop, IfOk, IfErr, OnOk};
+ghost use Rattle.std.specs.Prelude.{◌≡◌, ◌≢◌, ◌+◌, ◌≤◌, None, length, map, take, drop, IfOk, IfErr, OnOk};
 ghost use Rattle.std.specs.Arc.{arc_slice_items};
-ghost use Rattle.rapid_model.specs.Process.{same_bytes, process_at};
+ghost use Rattle.rapid_model.specs.Process.{identifier, same_bytes, process_at};
 ghost use Rattle.rapid_model.specs.Configuration.{magic, AreMembers};
 ghost use Rattle.rapid_model.specs.Reading.{params_in, count_in, configuration_in, processes_at, read_in, read_fault, members_fault, bytes_fault};
 ghost use Rattle.rapid_model.specs.Limits.{most_members};
@@ -10,11 +10,12 @@ ghost use Rattle.rapid_endpoint.specs.Ends.{EndsAt, AreAll};
 ghost use Rattle.rapid_endpoint.specs.ReadErrors.{Gives};
 ghost use Rattle.rapid_config.specs.Faults.{ReportsOfBytes};
 
-use crate::members::{MOST_MEMBERS, check_members};
+use crate::members::{MOST_MEMBERS, check_identified};
 use crate::spelling::{HEAD_BYTES, MAGIC};
 use crate::{ConfigError, Params};
 use rapid_endpoint::{Endpoint, Process, ProcessId, ProcessList, ReadError};
 use std::alloc::{AllocError, Global};
+use std::slice;
 use std::sync::ArcSlice;
 
 /// Some bytes from a place on.
@@ -119,43 +120,53 @@ fn read_from(process: &mut Process, bytes: &[u8], at: usize) -> Result<usize, Re
     }
 }
 
-/// The members behind the head, one after another. They are read over one process, so that each is
-/// copied once.
-fn read_members(alloc: Global, count: usize, bytes: &[u8]) -> Result<Vec<Process>, AllocError>
+/// The members behind the head, one after another, and their identifiers. They are read over one
+/// process, so that each is copied once, and its identifier is taken while it is at hand.
+fn read_members(
+    alloc: Global,
+    count: usize,
+    bytes: &[u8],
+) -> Result<(Vec<Process>, Vec<ProcessId>), AllocError>
     requires long { 49 ≤ length bytes.now }
     requires all { AreAll (processes_at count (drop 49 bytes.now)) }
-    ensures { IfOk result (λ members. members.items ≡ read_in (processes_at count (drop 49 bytes.now))) }
+    ensures members { IfOk result (λ r. r.0.items ≡ read_in (processes_at count (drop 49 bytes.now))) }
+    ensures identifiers { IfOk result (λ r. r.1.items ≡ map identifier r.0.items) }
 {
     let mut members = Vec::with_capacity(alloc, count)?;
+    let mut identifiers = Vec::with_capacity(alloc, count)?;
     let mut member = Process::new(ProcessId::new([0; 16]), Endpoint::new([0; 4], 0));
     let mut at = HEAD_BYTES;
     for _ in 0..count {
         let Ok(next) = read_from(&mut member, bytes, at) else {
             unreachable!()
         };
-        members.push(member)?;
+        // from the slice, a process is copied once; `push` copies it twice
+        members.extend_from_slice(slice::from_ref(&member))?;
+        identifiers.push(member.id())?;
         at = next;
     }
-    Ok(members)
+    Ok((members, identifiers))
 }
 
-/// The members that the bytes announce; or why they cannot be members.
+/// The members that the bytes announce, and their identifiers; or why they cannot be members.
 pub(crate) fn members_in(
     alloc: Global,
     count: usize,
     bytes: &[u8],
-) -> Result<ArcSlice<Process>, ConfigError>
+) -> Result<(ArcSlice<Process>, ArcSlice<ProcessId>), ConfigError>
     requires count { count ≡ count_in bytes.now }
     requires few { count ≤ most_members }
     requires long { 49 ≤ length bytes.now }
     requires all { AreAll (processes_at (count_in bytes.now) (drop 49 bytes.now)) }
-    ensures members { IfOk result (λ members. arc_slice_items members ≡ (configuration_in bytes.now).members) }
-    ensures valid { IfOk result (λ members. AreMembers (arc_slice_items members)) }
+    ensures members { IfOk result (λ r. arc_slice_items r.0 ≡ (configuration_in bytes.now).members) }
+    ensures identifiers { IfOk result (λ r. arc_slice_items r.1 ≡ map identifier (arc_slice_items r.0)) }
+    ensures valid { IfOk result (λ r. AreMembers (arc_slice_items r.0)) }
     ensures allowed { OnOk result (members_fault (configuration_in bytes.now).members ≡ None) }
     ensures refused { IfErr result (ReportsOfBytes (members_fault (configuration_in bytes.now).members)) }
 {
-    let members = read_members(alloc, count, bytes)?;
-    check_members(alloc, members.as_slice())?;
-    let shared = ArcSlice::from_vec(members)?;
-    Ok(shared)
+    let (members, identifiers) = read_members(alloc, count, bytes)?;
+    check_identified(alloc, members.as_slice(), identifiers.as_slice())?;
+    let members = ArcSlice::from_vec(members)?;
+    let identifiers = ArcSlice::from_vec(identifiers)?;
+    Ok((members, identifiers))
 }

@@ -6,6 +6,7 @@ mod cuts;
 mod cuts_of_lists;
 mod endpoints;
 mod hexadecimal;
+mod kept;
 mod lists;
 mod readings;
 mod shared;

@@ -8,7 +8,7 @@ use crate::numbered::{are_numbered, process, shared};
 use rapid_alerts::{Alert, AlertList, Kind};
 use rapid_config::{ConfigId, Cut, Params};
 use rapid_cut::Detector;
-use rapid_rings::Table;
+use rapid_rings::{ObserverTable, Table};
 use std::alloc::{AllocError, Global};
 use std::test::Fail;
 
@@ -244,5 +244,14 @@ fn new_copy_skips_none(alloc: Global, params: Params) -> Result<bool, AllocError
 fn a_detector_is_copied(rt: HostRuntime) -> Result<(), Fail> {
     let params = Params::new(2, 2, 1)?;
     assert!(rt; matches!(new_copy_skips_none(rt.alloc(), params), Ok(true)));
+    Ok(())
+}
+
+#[test]
+fn a_detector_shows_its_table(rt: HostRuntime) -> Result<(), Fail> {
+    let detector = Detector::new(rt.alloc(), table(rt.alloc(), &FIVE)?);
+    let table = detector.table();
+    assert!(rt; table.observer(1, &process(5)) == Some(process(2)));
+    assert!(rt; table.observer(1, &process(4)).is_none());
     Ok(())
 }

@@ -1,6 +1,5 @@
-use Rattle.std.proofs.Common.{List, map, ap, ◌∙◌, arith}
+use Rattle.std.proofs.Common.{ap, ◌∙◌, arith}
 use Rattle.sha2.specs.Sha256.{sha256}
-use Rattle.rapid_model.specs.Process.{Process, identifier}
 use Rattle.rapid_model.specs.Configuration.{configuration_id}
 use Rattle.rapid_config.proofs.configuration.assemble_spelled.Goals as goal
 
@@ -9,5 +8,5 @@ unfolding configuration_id
 invariant_of-result c = (
   record { params = c.tell.ensures; height = omega arith; previous = (c.tell-2.ensures.length, c.tell-2.ensures.bytes); members = c.requires.members },
   c.new-id.ensures ∙ c.digest.ensures ∙ ap sha256 c.requires.bytes,
-  c.in_ok-identifiers.ensures ∙ ap (λ (ps : List Process). map identifier ps) c.as_slice.ensures.value,
+  c.requires.identifiers,
 )

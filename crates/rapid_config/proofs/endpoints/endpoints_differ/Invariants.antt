@@ -6,5 +6,5 @@ use Rattle.rapid_config.proofs.endpoints.endpoints_differ.Given as goal
 abbrev pub invariant-loop-process : goal.invariant-loop-process
 invariant-loop-process l = record {
   differ : endpoints_differ (take l.process-index l.processes) ≡ true;
-  seen : AreEndpointsOf (take l.process-index l.processes) l.seen.keys;
+  seen : AreEndpointsOf (take l.process-index l.processes) l.seen;
 }

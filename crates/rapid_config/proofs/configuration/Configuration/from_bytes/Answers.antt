@@ -4,8 +4,8 @@ use Rattle.rapid_model.specs.Configuration.{configuration_bytes}
 use Rattle.rapid_model.proofs.Spelled.{spelling_one}
 use Rattle.rapid_config.proofs.configuration.Configuration.from_bytes.Goals as goal
 
-pub assemble_spelled-requires-clause-bytes : goal.assemble_spelled-requires-clause-bytes
-assemble_spelled-requires-clause-bytes c =
+pub assemble_spelled-configuration-requires-clause-bytes : goal.assemble_spelled-configuration-requires-clause-bytes
+assemble_spelled-configuration-requires-clause-bytes c =
     sym
     (spelling_one c.args.bytes.now c.tell_bytes.ensures (c.in_ok-params.ensures.fault ∙ c.in_ok-members.ensures.allowed))
     ∙ (λ i. configuration_bytes
