@@ -1,21 +1,24 @@
 -- The next rings are made of the rings before.
-use Rattle.std.proofs.Common.{◌≡◌, ℕ, ◌+◌, ◌<◌, Bool, true, false, cond, not, ◌&&◌, ◌||◌, List, [], ◌∷◌, ◌++◌, get_or, Some, position, map, filter, length, refl, sym, ap, subst, ◌∙◌}
+use Rattle.std.proofs.Common.{◌≡◌, ℕ, ◌+◌, ◌<◌, Bool, true, false, cond, not, ◌&&◌, ◌||◌, List, [], ◌∷◌, ◌++◌, get_or, Option, Some, None, inl, inr, ◌⊎◌, ◌≤◌, arith, slice_get, position, map, filter, length, refl, sym, ap, subst, ◌∙◌}
 use Rattle.std.specs.Prelude.{Ok, Err, Result, IfOk}
 use Rattle.std.specs.List.{list_any, range_with_len}
 use Rattle.std.specs.declared.cmp.Ordering.TheVariants.{Equal}
 use Rattle.std.specs.Cmp.{both_ways, eq_by_cmp_equiv, tied_itself}
 use Rattle.std.specs.FinSet as set
 use Rattle.std.proofs.lemmas.Map.Made.{is_member-filter}
-use Rattle.std.proofs.lemmas.List.{append-nil, get_or_default}
+use Rattle.std.proofs.lemmas.List.{append-nil, get_or_default, get_or-map, length-map}
+use Rattle.std.proofs.lemmas.Option.{slice_get_cases, get_or_from_slice_get}
 use Rattle.std.proofs.lemmas.List.Elements.{filter-append}
 use Rattle.std.proofs.lemmas.List.Folds.{list_any-append}
 use Rattle.rapid_model.specs.Configuration.{identifiers_ascend}
 use Rattle.rapid_model.specs.Process.{Process, identifier, same_bytes, is_in}
-use Rattle.rapid_model.proofs.Orders.{processes_total, same_bytes_decides}
+use Rattle.rapid_model.proofs.Orders.{same_bytes_decides}
 use Rattle.rapid_config.proofs.Ascending.{bytes_total}
 use Rattle.rapid_config.proofs.Places.{found_at, by_identifier}
 use Rattle.rapid_rings.specs.Seats.{Seat, Seats, seat, seats_of, same_seat}
+use Rattle.rapid_rings.proofs.Lookups.{found_member}
 use Rattle.rapid_rings.proofs.Numbers.{range_more}
+use Rattle.rapid_rings.proofs.Sets.{own}
 use Rattle.rapid_rings.proofs.Rounds.{seats_total, seats_exact, contains-seats, seated, seats_have, same_seat_is, own_seat}
 use Rattle.rapid_model.proofs.Among.{filter_among}
 
@@ -80,3 +83,22 @@ at_guess ms p q i up l at t =
     found_at ms p i up l
     (λ d. subst (λ x. by_identifier p x ≡ Equal) (same ∙ get_or_default ms i p d l) (tied_itself bytes_total (identifier p)))
     (subst (λ x. same_bytes p x ≡ true) here t)
+
+-- a process that stands at a place after stood at the place before that names it
+pub stays_there : (olds news : List Process) (places : List (Option ℕ)) (g i : ℕ) → identifiers_ascend olds ≡ true → places ≡ map (λ p. position (same_bytes p) news) olds → slice_get places g ≡ Some (Some i) → Some g ≡ position (same_bytes (get_or news i [])) olds
+stays_there olds news places g i up b h =
+    let at = slice_get_cases places g in
+    from at.1
+  where
+    from : ((x : Option ℕ) × (g < length places) × (slice_get places g ≡ Some x) × (get_or places g x ≡ x)) ⊎ ((length places ≤ g) × (slice_get places g ≡ None)) → Some g ≡ position (same_bytes (get_or news i [])) olds
+    from (inr (_, e)) = absurd (some_is_not_none (sym h ∙ e))
+      where
+        some_is_not_none : ◌≡◌ {A = Option (Option ℕ)} (Some (Some i)) None → ⊥
+        some_is_not_none e = cc
+    from (inl (x, l, e, _)) =
+        let within : g < length olds = omega (arith, l, ap (λ (ps : List (Option ℕ)). length ps) b, length-map olds (λ p. position (same_bytes p) news)) in
+        let o = get_or olds g [] in
+        let named : position (same_bytes o) news ≡ Some i =
+        sym (get_or-map (λ p. position (same_bytes p) news) olds g [] None within) ∙ ap (λ (ps : List (Option ℕ)). get_or ps g None) (sym b) ∙ get_or_from_slice_get places g (Some i) None h in
+        let same : get_or news i [] ≡ o = get_or_from_slice_get news i o [] (found_member news o i named) in
+        sym (at_guess olds (get_or news i []) o g up within (sym (get_or_default olds g o [] within)) (subst (λ q. same_bytes q o ≡ true) (sym same) (own o)))

@@ -1,10 +1,11 @@
 // The places of members, which are guessed first: lists that differ in few have most members in a
 // row.
 
-ghost use Rattle.std.specs.Prelude.{◌≡◌, ◌≤◌, ◌<◌, ◌∷◌, ◌++◌, [], true, length, map, if◌then◌else◌, Some, IfSome, IfOk, OnOk};
+ghost use Rattle.std.specs.Prelude.{◌≡◌, ◌≤◌, ◌<◌, ◌∷◌, ◌++◌, [], true, length, map, position, slice_get, get_or, if◌then◌else◌, Some, IfSome, IfOk, OnOk};
 ghost use Rattle.std.specs.List.{range_with_len};
 ghost use Rattle.rapid_model.specs.Configuration.{position_of};
 ghost use Rattle.rapid_model.specs.Limits.{most_members};
+ghost use Rattle.rapid_model.specs.Process.{same_bytes};
 ghost use Rattle.rapid_rings.specs.Following.{places_of_new};
 
 use rapid_config::Configuration;
@@ -29,23 +30,67 @@ pub(crate) fn places_in(
     Ok(places)
 }
 
-/// The places of those of the processes that are no members of a configuration.
+/// The places of those of the processes that are no members of a configuration. `places` has the
+/// place of each member among the processes, if it is one of them.
 pub(crate) fn places_of_strangers(
     alloc: Global,
     configuration: &Configuration,
     processes: &[Process],
+    places: &[Option<u16>],
 ) -> Result<Vec<u16>, AllocError>
-    requires { length processes.now ≤ most_members }
+    requires few { length processes.now ≤ most_members }
+    requires places { places.now ≡ map (λ p. position (same_bytes p) processes.now) configuration.now.members }
     ensures { IfOk result (λ places. places.items ≡ places_of_new configuration.now.members processes.now) }
 {
-    let mut places = Vec::new(alloc);
+    let mut strangers = Vec::new(alloc);
     let mut guess = 0;
     for place in 0..processes.len() {
-        let known = place_near(configuration, guess, &processes[place]);
+        let known = place_before(configuration, processes, places, guess, place);
         guess = guess_after(known, guess);
-        push_unless(&mut places, known.is_some(), place as u16)?;
+        push_unless(&mut strangers, known.is_some(), place as u16)?;
     }
-    Ok(places)
+    Ok(strangers)
+}
+
+// The place in a configuration of the process at a place, by a guess. The process is looked at only
+// if the guess is wrong.
+fn place_before(
+    configuration: &Configuration,
+    processes: &[Process],
+    places: &[Option<u16>],
+    guess: u16,
+    place: usize,
+) -> Option<u16>
+    requires within { place < length processes.now }
+    requires places { places.now ≡ map (λ p. position (same_bytes p) processes.now) configuration.now.members }
+    ensures { result ≡ position_of configuration.now (get_or processes.now place []) }
+{
+    if stands_at(places, guess, place) {
+        configuration.tell();
+        return Some(guess);
+    }
+    place_of(configuration, &processes[place])
+}
+
+// Whether the member at a place before stands at this place after.
+fn stands_at(places: &[Option<u16>], before: u16, after: usize) -> bool
+    ensures { result ≡ true → slice_get places.now before ≡ Some (Some after) }
+{
+    match places.get(usize::from(before)) {
+        Some(Some(place)) => usize::from(*place) == after,
+        _ => false,
+    }
+}
+
+// The place of a process in a configuration.
+fn place_of(configuration: &Configuration, process: &Process) -> Option<u16>
+    ensures { result ≡ position_of configuration.now process.now }
+{
+    configuration.tell();
+    match configuration.position(process) {
+        Some(place) => Some(place as u16),
+        None => None,
+    }
 }
 
 /// The places below a number.

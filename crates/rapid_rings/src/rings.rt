@@ -66,8 +66,9 @@ impl Rings {
         let members = configuration.members();
         // searched for once: a place in a configuration is the same on all rings
         let places = places_in(alloc, configuration, self.configuration.members())?;
-        let newcomers = places_of_strangers(alloc, &self.configuration, members)?;
-        let (places, newcomers) = (places.as_slice(), newcomers.as_slice());
+        let places = places.as_slice();
+        let newcomers = places_of_strangers(alloc, &self.configuration, members, places)?;
+        let newcomers = newcomers.as_slice();
         let params = configuration.params();
         let mut rings = Vec::new(alloc);
         for number in 0..params.k() {
