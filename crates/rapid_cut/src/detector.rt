@@ -290,6 +290,13 @@ impl<T: ObserverTable> Detector<T> {
         }
     }
 
+    /// Its table.
+    pub fn table(&self) -> &T
+        ensures { result.now ≡ self.now.table }
+    {
+        &self.table
+    }
+
     /// Takes a batch of alerts; the cut of all that were taken, at the first batch that has one.
     /// After that the detector is closed: it answers `None` and takes nothing. If out of memory the
     /// detector is as it was.

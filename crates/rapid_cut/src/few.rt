@@ -5,14 +5,14 @@ ghost use Rattle.rapid_model.specs.Process.{Process as Bytes, same_bytes};
 ghost use Rattle.rapid_cut.specs.Listed.{masks_at, StandsAt};
 
 use crate::mask::Masks;
-use rapid_endpoint::{Process, SharedProcess};
+use rapid_endpoint::{KeptProcess, Process};
 use rapid_rings::ProcessKey;
 use std::alloc::{AllocError, Global};
 use std::collections::HashMap;
 
 /// The place of the first entry of a process, if there is one.
 #[inline(always)]
-pub fn place_in(entries: &[(SharedProcess, Masks)], subject: &Process) -> Option<usize>
+pub fn place_in(entries: &[(KeptProcess, Masks)], subject: &Process) -> Option<usize>
     ensures found { IfSome result (StandsAt entries.now subject.now) }
     ensures none { IfNone result (masks_at entries.now subject.now ≡ None) }
 {
@@ -27,13 +27,13 @@ pub fn place_in(entries: &[(SharedProcess, Masks)], subject: &Process) -> Option
 /// A map with the masks that the list has.
 pub fn map_of(
     alloc: Global,
-    entries: &[(SharedProcess, Masks)],
+    entries: &[(KeptProcess, Masks)],
 ) -> Result<HashMap<ProcessKey, Masks>, AllocError>
     ensures { IfOk result (λ map. (q : Bytes) → masks_at map.entries q ≡ masks_at entries.now q) }
 {
     let mut map = HashMap::new(alloc);
     for (subject, masks) in entries {
-        let key = ProcessKey::new(*subject.get());
+        let key = ProcessKey::new(subject.to_process());
         if !map.contains_key(&key) {
             map.insert(key, *masks)?;
         }
@@ -68,25 +68,25 @@ pub fn put_in(
 /// stay as short.
 #[inline(never)]
 pub fn push_to(
-    entries: &mut Vec<(SharedProcess, Masks)>,
-    subject: &SharedProcess,
+    entries: &mut Vec<(KeptProcess, Masks)>,
+    subject: KeptProcess,
     masks: Masks,
 ) -> Result<(), AllocError>
-    ensures pushed { OnOk result (entries.new.items ≡ entries.old.items ++ (subject.now, masks) ∷ []) }
+    ensures pushed { OnOk result (entries.new.items ≡ entries.old.items ++ (subject, masks) ∷ []) }
     ensures unchanged { OnErr result (entries.new.items ≡ entries.old.items) }
 {
     if entries.is_empty() {
         entries.reserve_exact(1)?;
     }
-    entries.push((subject.share()?, masks))?;
+    entries.push((subject, masks))?;
     Ok(())
 }
 
 /// The same entries, with room for some more. An empty list takes no memory.
 pub fn copy_of(
     alloc: Global,
-    entries: &[(SharedProcess, Masks)],
-) -> Result<Vec<(SharedProcess, Masks)>, AllocError>
+    entries: &[(KeptProcess, Masks)],
+) -> Result<Vec<(KeptProcess, Masks)>, AllocError>
     ensures { IfOk result (λ copy. copy.items ≡ entries.now) }
 {
     let mut copy = Vec::new(alloc);
@@ -99,13 +99,13 @@ pub fn copy_of(
 
 /// Adds the same entries.
 fn share_all(
-    copy: &mut Vec<(SharedProcess, Masks)>,
-    entries: &[(SharedProcess, Masks)],
+    copy: &mut Vec<(KeptProcess, Masks)>,
+    entries: &[(KeptProcess, Masks)],
 ) -> Result<(), AllocError>
     ensures { OnOk result (copy.new.items ≡ copy.old.items ++ entries.now) }
 {
     for (subject, masks) in entries {
-        copy.push((subject.share()?, *masks))?;
+        copy.push((subject.try_copy()?, *masks))?;
     }
     Ok(())
 }

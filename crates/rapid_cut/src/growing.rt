@@ -10,13 +10,13 @@ ghost use Rattle.rapid_cut.specs.Growing.{AddsRings, is_for, is_added, all_added
 use crate::mask::Masks;
 use crate::reports::KnownReports;
 use crate::subject::Subject;
-use rapid_endpoint::SharedProcess;
+use rapid_endpoint::KeptProcess;
 use std::alloc::{AllocError, Global};
 
 /// Rings for which reports on a process were added.
 #[derive(Debug, Drop)]
 struct Added {
-    subject: SharedProcess,
+    subject: KeptProcess,
     rings: Masks,
 }
 
@@ -45,26 +45,24 @@ impl GrowingReports {
         }
     }
 
-    /// Adds the reports on a process for these rings; those on it so far are for the others. The
-    /// result is the process, shared, so that it can be listed too.
+    /// Adds the reports on a process for these rings; those on it so far are for the others.
     pub fn add(
         &mut self,
         subject: &Subject<'_>,
         so_far: Masks,
         rings: Masks,
-    ) -> Result<SharedProcess, AllocError>
+    ) -> Result<(), AllocError>
         requires direct { (k : ℕ) → set.contains self.old.reports.direct (subject.now.process.now, k) ≡ has_ring so_far.direct k }
         requires all { (k : ℕ) → set.contains self.old.reports.all (subject.now.process.now, k) ≡ has_ring so_far.all k }
         ensures direct { OnOk result (AddsRings subject.now.process.now rings.direct self.old.reports.direct self.new.reports.direct) }
         ensures all { OnOk result (AddsRings subject.now.process.now rings.all self.old.reports.all self.new.reports.all) }
-        ensures kept { IfOk result (λ kept. kept ≡ subject.now.process.now) }
         ensures before { before self.new ≡ before self.old }
     {
         let added = rings.without(so_far);
-        let subject = self.reports.kept(subject)?;
-        note_joined(&mut self.last, &mut self.others, &subject, added)?;
-        self.reports.put(&subject, so_far.with(rings))?;
-        Ok(subject)
+        let kept = self.reports.to_keep(subject)?;
+        note_joined(&mut self.last, &mut self.others, subject, &kept, added)?;
+        self.reports.put(subject.get(), kept, so_far.with(rings))?;
+        Ok(())
     }
 
     /// Keeps what was added.
@@ -84,7 +82,8 @@ impl GrowingReports {
         ensures kept { before self.new ≡ self.new.reports }
     {
         if let Some(added) = &self.last {
-            self.reports.take_out(added.subject.get(), added.rings);
+            let subject = added.subject.to_process();
+            self.reports.take_out(&subject, added.rings);
         }
         take_out(&mut self.reports, self.others.as_slice());
         self.last = None;
@@ -110,7 +109,8 @@ fn take_out(reports: &mut KnownReports, others: &[Added])
     ensures { reports.new ≡ without_all reports.old others.now }
 {
     for added in others {
-        reports.take_out(added.subject.get(), added.rings);
+        let subject = added.subject.to_process();
+        reports.take_out(&subject, added.rings);
     }
 }
 
@@ -118,11 +118,13 @@ fn take_out(reports: &mut KnownReports, others: &[Added])
 fn note_joined(
     last: &mut Option<Added>,
     others: &mut Vec<Added>,
-    subject: &SharedProcess,
+    subject: &Subject<'_>,
+    kept: &KeptProcess,
     rings: Masks,
 ) -> Result<(), AllocError>
-    ensures direct { OnOk result ((x : Report) → is_added (λ m. m.direct) (all_added last.new others.new.items) x ≡ (is_added (λ m. m.direct) (all_added last.old others.old.items) x || is_for subject.now rings.direct x)) }
-    ensures all { OnOk result ((x : Report) → is_added (λ m. m.all) (all_added last.new others.new.items) x ≡ (is_added (λ m. m.all) (all_added last.old others.old.items) x || is_for subject.now rings.all x)) }
+    requires { kept.now ≡ subject.now.process.now }
+    ensures direct { OnOk result ((x : Report) → is_added (λ m. m.direct) (all_added last.new others.new.items) x ≡ (is_added (λ m. m.direct) (all_added last.old others.old.items) x || is_for kept.now rings.direct x)) }
+    ensures all { OnOk result ((x : Report) → is_added (λ m. m.all) (all_added last.new others.new.items) x ≡ (is_added (λ m. m.all) (all_added last.old others.old.items) x || is_for kept.now rings.all x)) }
     ensures unchanged { OnErr result (all_added last.new others.new.items ≡ all_added last.old others.old.items) }
 {
     if let Some(noted) = last {
@@ -131,7 +133,7 @@ fn note_joined(
             return Ok(());
         }
     }
-    note(last, others, subject, rings)
+    note(last, others, kept, rings)
 }
 
 /// Notes what is added.
@@ -139,19 +141,19 @@ fn note_joined(
 fn note(
     last: &mut Option<Added>,
     others: &mut Vec<Added>,
-    subject: &SharedProcess,
+    subject: &KeptProcess,
     rings: Masks,
 ) -> Result<(), AllocError>
     ensures more { OnOk result ((part : masks.Masks → ℕ) (x : Report) → is_added part (all_added last.new others.new.items) x ≡ (is_added part (all_added last.old others.old.items) x || is_for subject.now (part rings) x)) }
     ensures unchanged { OnErr result (all_added last.new others.new.items ≡ all_added last.old others.old.items) }
 {
     let added = Added {
-        subject: subject.share()?,
+        subject: subject.try_copy()?,
         rings,
     };
     if let Some(noted) = last {
         others.push(Added {
-            subject: noted.subject.share()?,
+            subject: noted.subject.try_copy()?,
             rings: noted.rings,
         })?;
     }

@@ -8,7 +8,7 @@ ghost use Rattle.rapid_alerts.specs.RingMasks.{has_ring};
 use crate::few::{copy_of, map_of, masks_in, place_in, push_to, put_in};
 use crate::mask::Masks;
 use crate::subject::Subject;
-use rapid_endpoint::{Process, SharedProcess};
+use rapid_endpoint::{KeptProcess, Process, SharedProcess};
 use rapid_rings::ProcessKey;
 use std::alloc::{AllocError, Global};
 use std::collections::HashMap;
@@ -26,7 +26,7 @@ const NONE: Masks = Masks { direct: 0, all: 0 };
 /// then in a map.
 #[derive(Debug, Drop)]
 pub struct KnownReports {
-    few: Vec<(SharedProcess, Masks)>,
+    few: Vec<(KeptProcess, Masks)>,
     many: HashMap<ProcessKey, Masks>,
     alloc: Global,
 }
@@ -69,40 +69,58 @@ impl KnownReports {
         masks_in(&self.many, subject).unwrap_or(NONE)
     }
 
-    /// The process, to be kept. Unless it is shared already, the list shares it if it is there.
-    pub fn kept(&self, subject: &Subject<'_>) -> Result<SharedProcess, AllocError>
+    /// The process, to be kept. Unless it is shared already, it is kept as in the list if it is there.
+    pub fn to_keep(&self, subject: &Subject<'_>) -> Result<KeptProcess, AllocError>
         ensures { IfOk result (λ kept. kept ≡ subject.now.process.now) }
+    {
+        if subject.is_shared() {
+            return subject.keep(self.alloc);
+        }
+        match place_in(self.few.as_slice(), subject.get()) {
+            Some(place) => self.few[place].0.try_copy(),
+            None => subject.keep(self.alloc),
+        }
+    }
+
+    /// The process, to be listed. Unless it is shared already, the list shares it if it does so.
+    pub fn to_share(&self, subject: &Subject<'_>) -> Result<SharedProcess, AllocError>
+        ensures { IfOk result (λ shared. shared ≡ subject.now.process.now) }
     {
         if subject.is_shared() {
             return subject.share(self.alloc);
         }
         match place_in(self.few.as_slice(), subject.get()) {
-            Some(place) => self.few[place].0.share(),
+            Some(place) => self.few[place].0.share(self.alloc),
             None => subject.share(self.alloc),
         }
     }
 
-    /// Puts these rings in the place of those of the reports on the process.
-    pub fn put(&mut self, subject: &SharedProcess, masks: Masks) -> Result<(), AllocError>
+    /// Puts these rings in the place of those of the reports on the process, which is kept so.
+    pub fn put(
+        &mut self,
+        subject: &Process,
+        kept: KeptProcess,
+        masks: Masks,
+    ) -> Result<(), AllocError>
+        requires { kept ≡ subject.now }
         ensures direct { OnOk result (PutsMask subject.now masks.direct self.old.direct self.new.direct) }
         ensures all { OnOk result (PutsMask subject.now masks.all self.old.all self.new.all) }
         ensures unchanged { OnErr result (self.new ≡ self.old) }
     {
-        let process = subject.get();
-        if let Some(place) = place_in(self.few.as_slice(), process) {
+        if let Some(place) = place_in(self.few.as_slice(), subject) {
             self.few[place].1 = masks;
             return Ok(());
         }
         if !self.many.is_empty() {
-            put_in(&mut self.many, process, masks)?;
+            put_in(&mut self.many, subject, masks)?;
             return Ok(());
         }
         if self.few.len() < FEW {
-            push_to(&mut self.few, subject, masks)?;
+            push_to(&mut self.few, kept, masks)?;
             return Ok(());
         }
         let mut many = map_of(self.alloc, self.few.as_slice())?;
-        put_in(&mut many, process, masks)?;
+        put_in(&mut many, subject, masks)?;
         self.many = many;
         self.few.clear();
         Ok(())

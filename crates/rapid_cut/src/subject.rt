@@ -3,10 +3,10 @@
 ghost use Rattle.std.specs.Prelude.{◌≡◌, is_some, IfOk, IfSome};
 ghost use Rattle.std.specs.Option.{ForSome};
 
-use rapid_endpoint::{Process, SharedProcess};
+use rapid_endpoint::{KeptProcess, Process, SharedProcess};
 use std::alloc::{AllocError, Global};
 
-/// A process that is reported on. If it is shared already, to keep it takes no memory.
+/// A process that is reported on. If it is shared already, or has no tags, to keep it takes no memory.
 #[derive(Drop)]
 pub struct Subject<'a> {
     process: &'a Process,
@@ -42,6 +42,17 @@ impl<'a> Subject<'a> {
     }
 
     /// The process, to be kept.
+    #[inline(always)]
+    pub fn keep(&self, alloc: Global) -> Result<KeptProcess, AllocError>
+        ensures { IfOk result (λ kept. kept ≡ self.now.process.now) }
+    {
+        match self.shared {
+            Some(shared) => KeptProcess::of(shared),
+            None => KeptProcess::new(alloc, self.process),
+        }
+    }
+
+    /// The process, to be shared.
     #[inline(always)]
     pub fn share(&self, alloc: Global) -> Result<SharedProcess, AllocError>
         ensures { IfOk result (λ kept. kept ≡ self.now.process.now) }

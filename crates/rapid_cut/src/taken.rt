@@ -117,14 +117,15 @@ fn comes_to_low<T: ObserverTable>(table: &T, before: u16, now: u16) -> bool
 
 /// Lists a process that comes to L reports.
 fn list(
+    reports: &KnownReports,
     grown: &mut Vec<SharedProcess>,
     comes_to_low: bool,
-    subject: SharedProcess,
+    subject: &Subject<'_>,
 ) -> Result<(), AllocError>
-    ensures { OnOk result (grown.new.items ≡ (if comes_to_low then grown.old.items ++ subject ∷ [] else grown.old.items)) }
+    ensures { OnOk result (grown.new.items ≡ (if comes_to_low then grown.old.items ++ subject.now.process.now ∷ [] else grown.old.items)) }
 {
     if comes_to_low {
-        grown.push(subject)?;
+        grown.push(reports.to_share(subject)?)?;
     }
     Ok(())
 }
@@ -153,8 +154,8 @@ fn put<T: ObserverTable>(
         direct: one,
         all: one,
     };
-    let kept = known.add(subject, so_far, rings)?;
-    list(grown, comes_to_low, kept)?;
+    known.add(subject, so_far, rings)?;
+    list(&known.reports, grown, comes_to_low, subject)?;
     Ok(())
 }
 

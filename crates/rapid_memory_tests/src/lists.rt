@@ -8,7 +8,7 @@ ghost use Rattle.rapid_endpoint.specs.Ends.{AreAll};
 use crate::numbered::{process, shared, tagged};
 use rapid_alerts::{AlertList, Kind, SpeltError};
 use rapid_config::{ConfigError, ConfigId, Cut};
-use rapid_endpoint::{ParseError, Process, ProcessList, SharedProcess};
+use rapid_endpoint::{KeptProcess, ParseError, Process, ProcessList, SharedProcess};
 use std::alloc::{AllocError, Global};
 use std::test::Fail;
 
@@ -31,6 +31,33 @@ fn out_of_memory_in_shared_processes(rt: HostRuntime) -> Result<(), Fail> {
     let second = first.share()?;
     assert!(rt; *first.get() == other && *second.get() == other);
     assert!(rt; second.is(&other) && !second.is(&one));
+    Ok(())
+}
+
+/// What is kept without tags takes no memory, and one with tags no more than to share it.
+#[test]
+fn out_of_memory_in_kept_processes(rt: HostRuntime) -> Result<(), Fail> {
+    for process in &two()? {
+        let first = KeptProcess::of(&shared(rt.alloc(), process)?)?;
+        let second = KeptProcess::new(rt.alloc(), process)?;
+        let copy = second.try_copy()?;
+        assert!(rt; first.is(process) && second.is(process));
+        assert!(rt; copy.share(rt.alloc())?.is(process));
+    }
+    Ok(())
+}
+
+/// The process that is made of the bytes of another, to be shared.
+fn spelt(alloc: Global, process: &Process) -> Result<SharedProcess, AllocError> {
+    let bytes = process.to_bytes(alloc)?;
+    SharedProcess::spelt(alloc, &bytes)
+}
+
+#[test]
+fn out_of_memory_in_processes_made_of_bytes(rt: HostRuntime) -> Result<(), Fail> {
+    for process in &two()? {
+        assert!(rt; spelt(rt.alloc(), process)?.is(process));
+    }
     Ok(())
 }
 

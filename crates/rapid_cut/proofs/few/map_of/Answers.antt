@@ -11,7 +11,7 @@ loop-subject-preserved c q =
     let i = c.loop-subject.subject-index in
     let x = c.loop-subject-item.result in
     let ms = c.loop-subject.map.entries in
-    let key : c.new-key.result ≡ x.0 = c.new-key.ensures ∙ c.get.ensures in
+    let key : c.new-key.result ≡ x.0 = c.new-key.ensures ∙ c.to_process.ensures in
     let seen : is_some (masks_at ms x.0) ≡ c.contains_key.result = sym (c.contains_key.ensures ∙ ap (λ (p : Process). is_some (masks_at ms p)) key) in
     elim c.if-not-contains_key.branch [
       | then-not-contains_key+in_ok-insert w ↦

@@ -13,7 +13,7 @@ loop-subject-preserved c =
     let x = c.loop-subject-item.result in
     let start = c.args.copy.now.items in
     c.in_ok-push.ensures.items
-    ∙ ap (λ (p : Process). c.loop-subject.copy.items ++ (p, x.1) ∷ []) c.in_ok-share.ensures
+    ∙ ap (λ (p : Process). c.loop-subject.copy.items ++ (p, x.1) ∷ []) c.in_ok-try_copy.ensures
     ∙ ap (λ ys. ys ++ x ∷ []) c.loop-subject.invariant
     ∙ append_assoc start (take i es) (x ∷ [])
     ∙ ap (λ ys. start ++ ys) (sym (take_more es i x c.loop-subject-test.true ∙ ap (λ y. take i es ++ y ∷ []) (sym c.loop-subject-item.is)))

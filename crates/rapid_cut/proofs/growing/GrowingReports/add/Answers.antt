@@ -7,12 +7,12 @@ use Rattle.rapid_cut.proofs.growing.GrowingReports.add.Goals as goal
 pub returns-clause-direct : goal.returns-clause-direct
 returns-clause-direct c =
     puts_adds c.args.subject.now.process.now c.args.self.now.reports.direct c.put.new.self.direct c.args.so_far.direct c.args.rings.direct c.with.result.direct c.requires.direct c.with.ensures.direct
-    (puts_for c.in_ok-subject.subject c.args.subject.now.process.now c.with.result.direct c.args.self.now.reports.direct c.put.new.self.direct c.in_ok-subject.ensures c.in_ok-put.ensures.direct)
+    (puts_for c.get.result.now c.args.subject.now.process.now c.with.result.direct c.args.self.now.reports.direct c.put.new.self.direct c.get.ensures c.in_ok-put.ensures.direct)
 
 pub returns-clause-all : goal.returns-clause-all
 returns-clause-all c =
     puts_adds c.args.subject.now.process.now c.args.self.now.reports.all c.put.new.self.all c.args.so_far.all c.args.rings.all c.with.result.all c.requires.all c.with.ensures.all
-    (puts_for c.in_ok-subject.subject c.args.subject.now.process.now c.with.result.all c.args.self.now.reports.all c.put.new.self.all c.in_ok-subject.ensures c.in_ok-put.ensures.all)
+    (puts_for c.get.result.now c.args.subject.now.process.now c.with.result.all c.args.self.now.reports.all c.put.new.self.all c.get.ensures c.in_ok-put.ensures.all)
 
 pub returns-clause-before : goal.returns-clause-before
 returns-clause-before c =
@@ -24,16 +24,16 @@ returns-clause-before c =
     λ i. record {
       direct =
           without_more (λ m. m.direct) r.direct c.put.new.self.direct xs ys a c.args.rings.direct
-          (noted_for (λ m. m.direct) xs ys c.in_ok-subject.subject s c.without-added.result.direct c.in_ok-subject.ensures c.in_ok-note_joined.ensures.direct)
+          (noted_for (λ m. m.direct) xs ys c.in_ok-kept.kept s c.without-added.result.direct c.in_ok-kept.ensures c.in_ok-note_joined.ensures.direct)
           (new_for s r.direct c.args.so_far.direct c.args.rings.direct c.without-added.result.direct c.requires.direct c.without-added.ensures.direct)
           (puts_adds s r.direct c.put.new.self.direct c.args.so_far.direct c.args.rings.direct c.with.result.direct c.requires.direct c.with.ensures.direct
-          (puts_for c.in_ok-subject.subject c.args.subject.now.process.now c.with.result.direct c.args.self.now.reports.direct c.put.new.self.direct c.in_ok-subject.ensures c.in_ok-put.ensures.direct)) i;
+          (puts_for c.get.result.now c.args.subject.now.process.now c.with.result.direct c.args.self.now.reports.direct c.put.new.self.direct c.get.ensures c.in_ok-put.ensures.direct)) i;
       all =
           without_more (λ m. m.all) r.all c.put.new.self.all xs ys a c.args.rings.all
-          (noted_for (λ m. m.all) xs ys c.in_ok-subject.subject s c.without-added.result.all c.in_ok-subject.ensures c.in_ok-note_joined.ensures.all)
+          (noted_for (λ m. m.all) xs ys c.in_ok-kept.kept s c.without-added.result.all c.in_ok-kept.ensures c.in_ok-note_joined.ensures.all)
           (new_for s r.all c.args.so_far.all c.args.rings.all c.without-added.result.all c.requires.all c.without-added.ensures.all)
           (puts_adds s r.all c.put.new.self.all c.args.so_far.all c.args.rings.all c.with.result.all c.requires.all c.with.ensures.all
-          (puts_for c.in_ok-subject.subject c.args.subject.now.process.now c.with.result.all c.args.self.now.reports.all c.put.new.self.all c.in_ok-subject.ensures c.in_ok-put.ensures.all)) i;
+          (puts_for c.get.result.now c.args.subject.now.process.now c.with.result.all c.args.self.now.reports.all c.put.new.self.all c.get.ensures c.in_ok-put.ensures.all)) i;
     }
 
 pub returns-in_err-put-clause-before : goal.returns-in_err-put-clause-before
@@ -47,10 +47,10 @@ returns-in_err-put-clause-before c =
     ∙ (λ i. record {
       direct =
           without_noted (λ m. m.direct) r.direct xs ys a c.args.rings.direct
-          (noted_for (λ m. m.direct) xs ys c.in_ok-subject.subject s c.without-added.result.direct c.in_ok-subject.ensures c.in_ok-note_joined.ensures.direct)
+          (noted_for (λ m. m.direct) xs ys c.in_ok-kept.kept s c.without-added.result.direct c.in_ok-kept.ensures c.in_ok-note_joined.ensures.direct)
           (new_for s r.direct c.args.so_far.direct c.args.rings.direct c.without-added.result.direct c.requires.direct c.without-added.ensures.direct) i;
       all =
           without_noted (λ m. m.all) r.all xs ys a c.args.rings.all
-          (noted_for (λ m. m.all) xs ys c.in_ok-subject.subject s c.without-added.result.all c.in_ok-subject.ensures c.in_ok-note_joined.ensures.all)
+          (noted_for (λ m. m.all) xs ys c.in_ok-kept.kept s c.without-added.result.all c.in_ok-kept.ensures c.in_ok-note_joined.ensures.all)
           (new_for s r.all c.args.so_far.all c.args.rings.all c.without-added.result.all c.requires.all c.without-added.ensures.all) i;
     })
