@@ -18,7 +18,7 @@ mod ticking;
 mod voting;
 
 use crate::shared_rings::SharedRings;
-use parts::{Context, Rest, Votes};
+use parts::{Context, Detection, Rest, Votes};
 use rapid_config::Configuration;
 use rapid_endpoint::{Process, SharedProcess};
 use rapid_fast::FastRound;
@@ -30,10 +30,11 @@ use std::sync::Arc;
 
 /// What a member keeps in a configuration. Its parts are shared with all copies until one of them
 /// changes a part.
-#[derive(Debug, Drop)]
+#[derive(Debug)]
 pub struct MemberState {
     context: Arc<Context, Global>,
     votes: Arc<Votes, Global>,
+    detection: Arc<Detection, Global>,
     rest: Arc<Rest, Global>,
     // it has cast a fast vote
     voted: bool,
@@ -42,6 +43,22 @@ pub struct MemberState {
     // the tick of the first vote sent or heard
     first_vote: Option<u64>,
     alloc: Global,
+}
+
+// By hand: it is proved here that all parts can be dropped, and no crate above has to prove it again.
+impl Drop for MemberState {
+    fn drop(self) {
+        let MemberState {
+            context: _,
+            votes: _,
+            detection: _,
+            rest: _,
+            voted: _,
+            tick: _,
+            first_vote: _,
+            alloc: _,
+        } = self;
+    }
 }
 
 impl Model for MemberState {
@@ -54,9 +71,9 @@ impl Model for MemberState {
 
     ghost coded = { member_code };
 
-    ghost view = { λ s. member_of (arc_value s.context) (arc_value s.votes) (arc_value s.rest) s.voted s.tick s.first_vote };
+    ghost view = { λ s. member_of (arc_value s.context) (arc_value s.votes) (arc_value s.detection) (arc_value s.rest) s.voted s.tick s.first_vote };
 
-    ghost invariant = { λ s. IsContext (arc_value s.context) × AreParts (arc_value s.context) (arc_value s.votes) (arc_value s.rest) };
+    ghost invariant = { λ s. IsContext (arc_value s.context) × AreParts (arc_value s.context) (arc_value s.votes) (arc_value s.detection) (arc_value s.rest) };
 }
 
 impl MemberState {
@@ -82,11 +99,13 @@ impl MemberState {
             me,
             place,
         };
+        let detection = Arc::new(alloc, Detection::new(alloc, &context.rings)?)?;
         let rest = Arc::new(alloc, Rest::new(alloc, &context, tables)?)?;
         let round = FastRound::new(alloc, size, place);
         Ok(MemberState {
             context: Arc::new(alloc, context)?,
             votes: Arc::new(alloc, Votes { round })?,
+            detection,
             rest,
             voted: false,
             tick: 0,
@@ -162,10 +181,12 @@ impl MemberState {
     {
         let context = Arc::try_clone(&self.context)?;
         let votes = Arc::try_clone(&self.votes)?;
+        let detection = Arc::try_clone(&self.detection)?;
         let rest = Arc::try_clone(&self.rest)?;
         Ok(MemberState {
             context,
             votes,
+            detection,
             rest,
             voted: self.voted,
             tick: self.tick,

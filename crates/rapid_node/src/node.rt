@@ -41,12 +41,24 @@ use std::sync::Arc;
 
 /// One node of the service: a process that joins, is a member, was removed or has halted. It does
 /// no input or output: it takes events, one [`Node::step`] each, and answers what is to be sent.
-#[derive(Debug, Drop)]
+#[derive(Debug)]
 pub struct Node {
     me: SharedProcess,
     state: State,
     past: Arc<Past, Global>,
     alloc: Global,
+}
+
+// By hand: it is proved here that all parts can be dropped, and no crate above has to prove it again.
+impl Drop for Node {
+    fn drop(self) {
+        let Node {
+            me: _,
+            state: _,
+            past: _,
+            alloc: _,
+        } = self;
+    }
 }
 
 impl Model for Node {

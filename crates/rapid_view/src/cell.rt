@@ -19,9 +19,17 @@ use std::sync::Wait;
 
 /// The words of a published list: the count, and for each stamp that there is room for a place of
 /// six words. No place below the count is written again.
-#[derive(Drop)]
 pub struct ViewCell {
     pub(crate) table: Table<(), CellKnowledge, u64, Published, Global>,
+}
+
+// By hand: it is proved here that all parts can be dropped, and no crate above has to prove it again.
+impl Drop for ViewCell {
+    fn drop(self) {
+        let ViewCell {
+            table: _,
+        } = self;
+    }
 }
 
 /// A seat of the writer's cell, with a place at the list of members, which keeps this view.

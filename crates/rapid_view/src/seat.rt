@@ -19,12 +19,23 @@ use std::sync::Wait;
 /// A seat at the published view: it reads the last stamp, and the last view. It keeps the view that
 /// it found last, so that nobody else is asked while the last stamp stays the same. Contracts see
 /// which cell it reads, the published list as far as it has seen it, and the view that it keeps.
-#[derive(Drop)]
 pub struct ViewSeat {
     alloc: Global,
     stamps: StampReader,
     list: ReadHandle<Page>,
     kept: View,
+}
+
+// By hand: it is proved here that all parts can be dropped, and no crate above has to prove it again.
+impl Drop for ViewSeat {
+    fn drop(self) {
+        let ViewSeat {
+            alloc: _,
+            stamps: _,
+            list: _,
+            kept: _,
+        } = self;
+    }
 }
 
 impl Model for ViewSeat {

@@ -41,7 +41,6 @@ use std::sync::Arc;
 /// A world of many nodes and the packets between them, which runs by events. Its value is how it
 /// was founded, and the events that it accepted. Each has a mark whether its node halted in it
 /// because it was out of memory.
-#[derive(Drop)]
 pub struct World {
     // how it was founded, and all events that it accepted, with their marks
     stored: Stored,
@@ -50,6 +49,19 @@ pub struct World {
     // for what the next step reports
     room: ReportRoom,
     alloc: Global,
+}
+
+// By hand: it is proved here that all parts can be dropped, and no crate above has to prove it again.
+impl Drop for World {
+    fn drop(self) {
+        let World {
+            stored: _,
+            peers: _,
+            mail: _,
+            room: _,
+            alloc: _,
+        } = self;
+    }
 }
 
 impl Model for World {

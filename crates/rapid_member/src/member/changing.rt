@@ -43,8 +43,7 @@ impl MemberState {
         ensures cut { IfOk result (λ cut. cut ≡ detector.batch_cut (observers_of self.old.config) self.old.detector (alerts_in alerts.now)) }
         ensures same { IsSameMember self.old self.new }
     {
-        let rest = Arc::make_mut(&mut self.rest)?;
-        let detection = Arc::make_mut(&mut rest.detection)?;
+        let detection = Arc::make_mut(&mut self.detection)?;
         detection.detector.batch_of(alerts)
     }
 
@@ -52,7 +51,7 @@ impl MemberState {
     pub(super) fn unstable(&self) -> Result<Vec<Process>, AllocError>
         ensures { IfOk result (λ found. found.items ≡ unstable (observers_of self.now.config) self.now.detector.direct) }
     {
-        self.rest.detection.detector.unstable()
+        self.detection.detector.unstable()
     }
 
     /// Whether no process was unstable at the last tick.
@@ -106,7 +105,6 @@ impl MemberState {
     }
 
     /// Begins the next ballot of the coordinator; none if its rounds are used up.
-    #[tactic(auto, using(crate::proofs::Ballots::next_is_classic))]
     pub(super) fn begin(&mut self) -> Result<Option<Ballot>, AllocError>
         ensures next { IfOk result (λ b. b ≡ coordinator.next_ballot self.old.coordinator self.old.acceptor.rnd) }
         ensures state { IfOk result (λ b. IfSome b (λ x. self.new ≡ record self.old { coordinator = coordinator.begun self.old.coordinator x })) }

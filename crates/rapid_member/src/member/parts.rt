@@ -1,6 +1,7 @@
 // The parts of a member, which its copies share until one of them changes a part. They are shared on
-// two levels: the context, the fast votes, and the rest, which shares its four parts in turn. So a
-// vote on a copy copies the fast votes alone, and a tick at which nothing is due copies nothing.
+// two levels: the context, the fast votes, the detector, and the rest, which shares its three parts in
+// turn. So a vote on a copy copies the fast votes alone, a batch the detector, and a tick at which
+// nothing is due copies nothing.
 
 ghost use Rattle.std.specs.Prelude.{◌≡◌, ◌<◌, ◌≤◌, [], false, None, All, IfOk, IfSome, IfNone, Ok, Err, OnOk, OnErr, length};
 ghost use Rattle.std.specs.Arc.{arc_value};
@@ -252,11 +253,9 @@ impl Clone for Raised {
 #[derive(Debug, Drop)]
 pub(crate) struct Detection {
     pub(crate) detector: Detector<SharedRings>,
-    rings: SharedRings,
 }
 
 impl Model for Detection {
-    ghost use Rattle.std.specs.Prelude.{◌≡◌};
     ghost use Rattle.rapid_model.specs.Configuration.{Configuration as ModelConfiguration};
     ghost use Rattle.rapid_cut.specs.Watching.{Watching, watching_code};
     ghost use Rattle.rapid_join.specs.Hosts.{configuration_code};
@@ -266,8 +265,6 @@ impl Model for Detection {
     ghost coded = { watching_code configuration_code };
 
     ghost view = { λ w. w.detector };
-
-    ghost invariant = { λ w. w.rings ≡ w.detector.table };
 }
 
 impl Detection {
@@ -275,12 +272,8 @@ impl Detection {
     pub(crate) fn new(alloc: Global, rings: &SharedRings) -> Result<Detection, AllocError>
         ensures { IfOk result (λ w. w ≡ record { table = rings.now; detector = empty_detector }) }
     {
-        let own = rings.try_copy()?;
         let detector = Detector::new(alloc, rings.try_copy()?);
-        Ok(Detection {
-            detector,
-            rings: own,
-        })
+        Ok(Detection { detector })
     }
 }
 
@@ -288,9 +281,9 @@ impl Clone for Detection {
     ghost is_clone = { λ a b. b ≡ a };
 
     fn clone(&self) -> Result<Detection, AllocError> {
-        let rings = self.rings.try_copy()?;
-        let detector = self.detector.try_copy(self.rings.try_copy()?)?;
-        Ok(Detection { detector, rings })
+        let rings = self.detector.table().try_copy()?;
+        let detector = self.detector.try_copy(rings)?;
+        Ok(Detection { detector })
     }
 }
 
@@ -329,7 +322,6 @@ impl Clone for Waiting {
 pub(crate) struct Rest {
     pub(crate) ballots: Arc<Ballots, Global>,
     pub(crate) raised: Arc<Raised, Global>,
-    pub(crate) detection: Arc<Detection, Global>,
     pub(crate) waiting: Arc<Waiting, Global>,
 }
 
@@ -344,19 +336,16 @@ impl Rest {
         requires tables { tables.now ≡ context.now.configuration }
         ensures ballots { IfOk result (λ r. arc_value r.ballots ≡ record { acceptor = fresh_acceptor; coordinator = fresh_coordinator (length context.now.configuration.members) context.now.place; learner = fresh_learner (length context.now.configuration.members); proposal = None; alloc = alloc }) }
         ensures raised { IfOk result (λ r. arc_value r.raised ≡ record { table = context.now.rings; owner = context.now.me; outbox = outbox.empty_outbox }) }
-        ensures detection { IfOk result (λ r. arc_value r.detection ≡ record { table = context.now.rings; detector = empty_detector }) }
         ensures waiting { IfOk result (λ r. arc_value r.waiting ≡ record { host = fresh_host context.now.configuration context.now.me; ages = map.empty }) }
     {
         let size = context.configuration.members().len();
         let ballots = Arc::new(alloc, Ballots::new(alloc, size, context.place))?;
         let me = context.me.share()?;
         let raised = Arc::new(alloc, Raised::new(alloc, &context.rings, me)?)?;
-        let detection = Arc::new(alloc, Detection::new(alloc, &context.rings)?)?;
         let waiting = Arc::new(alloc, Waiting::new(alloc, context, tables)?)?;
         Ok(Rest {
             ballots,
             raised,
-            detection,
             waiting,
         })
     }
@@ -371,12 +360,10 @@ impl Clone for Rest {
     fn clone(&self) -> Result<Rest, AllocError> {
         let ballots = Arc::try_clone(&self.ballots)?;
         let raised = Arc::try_clone(&self.raised)?;
-        let detection = Arc::try_clone(&self.detection)?;
         let waiting = Arc::try_clone(&self.waiting)?;
         Ok(Rest {
             ballots,
             raised,
-            detection,
             waiting,
         })
     }
