@@ -14,8 +14,11 @@ from pathlib import Path
 
 TOP = Path(__file__).resolve().parent.parent
 SOURCES = ("src", "specs", "proofs")
-FIRST = "rapid_node"  # the longest chain of crates up to where most others join it
-MEMORY = 4_000_000_000  # of one check, in bytes
+KEPT = "the others are kept from earlier runs"  # what rt ci says if it had not to prove all
+MEMORY = 5_000_000_000  # of one check, in bytes
+DISK = 12_000_000_000  # what has to be free for what is kept of all crates, in bytes
+NICE = {1: 10, 2: 5, 3: 0}  # by how many jobs a check has: the more, the longer is the chain that waits for it
+NEAR = 0.6  # a chain of at least so much of the longest is nearly as long
 SECONDS = json.loads(Path(__file__).with_name("seconds.json").read_text())
 LISTED = [it for it in (TOP / "crates.txt").read_text().splitlines() if ":" in it.partition("#")[0]]
 LINES = {it.partition(":")[0].split()[0]: it for it in LISTED}
@@ -109,8 +112,7 @@ def prove(name, jobs):
     with tree_over_libraries(name, "out", os.link) as tree:
         is_program = (folder_of(name) / "src/main.rt").is_file()
         words = ["run", "--jobs", str(jobs), "--", "--help"] if is_program else ["lib", "--jobs", str(jobs)]
-        # only the longest chain has more jobs than one: the others are not to take its processors
-        ran = rt(words, folder_of(name, tree), nice=0 if jobs > 1 else 10)
+        ran = rt(words, folder_of(name, tree), nice=NICE[jobs])
         take(tree, name)
     return int(not ran.returncode), int(ran.returncode != 0), ran.stdout if ran.returncode else ""
 
@@ -129,20 +131,44 @@ def prove_all(names):
     return passed + len(wanted) - len(tasks), failed
 
 
+def ci_alone(name, jobs):
+    """Proves a crate by an rt ci of its own, over a tree of it and those below it: a full one, which proves what rt has
+    not kept. It takes more processors than one if it may have more jobs."""
+    with tempfile.TemporaryDirectory(prefix="check-") as room:
+        write_tree(Path(room), [*below(name), name])
+        how = {} if jobs > 1 else {"env": {**os.environ, "RT_JOBS": "1"}}
+        ran = rt(["ci"], room, nice=NICE[jobs], **how)
+    return int(not ran.returncode), int(ran.returncode != 0), ran.stdout if ran.returncode else ""
+
+
+def is_kept(name):
+    """Whether rt keeps what an rt ci passed: of a crate that an earlier one proved, another has nothing to prove. It
+    keeps nothing where the disk is nearly full."""
+    if shutil.disk_usage(Path(told("doc").strip()).parent).free < DISK:
+        return False
+    with tempfile.TemporaryDirectory(prefix="check-") as room:
+        write_tree(Path(room), [*below(name), name])
+        return KEPT in rt(["ci"], room).stdout
+
+
 def ci(names):
     """Proves these crates from nothing by rt ci, which also runs their tests and programs, and takes what it built; how
-    many passed, and how many failed. FIRST and those below it go first, since rt ci proves a crate by more than one
-    job only if no other waits; it keeps what it proved, and the second run judges."""
+    many passed, and how many failed. One run over all of them judges, and tries again what failed before. If rt keeps
+    what a run passed, each crate is first proved by one of its own, since a run gives the longest chain of crates more
+    than one processor only if no other crate waits."""
     for it in LINES:
         (folder_of(it) / f"out/{it}_tests").unlink(missing_ok=True)
+    first, *others = sorted(names, key=lambda it: len(below(it)))
+    if not ci_alone(first, 1)[1] and is_kept(first):
+        tasks = {it: ([low for low in below(it) if low in others], functools.partial(ci_alone, it)) for it in others}
+        side_by_side(tasks)
     with tempfile.TemporaryDirectory(prefix="check-") as room:
         tree, stamps, line = Path(room) / "tree", {it: stamp(it) for it in names}, ""
         write_tree(tree, names)
-        for words in ([FIRST], []) if FIRST in names else ([],):
-            how = {"stdout": subprocess.PIPE, "text": True, "errors": "replace"}
-            with subprocess.Popen(["rt", "ci", *words], cwd=tree, **how) as ran:
-                for line in ran.stdout:
-                    print(line, end="", flush=True)
+        how = {"stdout": subprocess.PIPE, "text": True, "errors": "replace"}
+        with subprocess.Popen(["rt", "ci"], cwd=tree, **how) as ran:
+            for line in ran.stdout:
+                print(line, end="", flush=True)
         for name in (it.parent.name for it in tree.glob("crates/*/out")):
             take(tree, name)
             if (folder_of(name) / f"out/rlib/{name}.rlib").is_dir():
@@ -156,12 +182,13 @@ def side_by_side(tasks):
     """Runs tasks side by side, each after those that it waits for, the longest chain first, and says what each came to.
 
     A task is what it waits for, and a call that is told how many jobs it may use, and gives how many passed, how many
-    failed, and what to say of that. If one that it waits for failed, it is not run, and has failed too. As long as the
-    longest chain would outlast all the rest, its tasks have up to three jobs, also beyond four lanes; all others have
-    one, and if there is the memory for it, they have a lane more beside such a task. Gives how many passed and failed
-    in all, and which tasks failed."""
+    failed, and what to say of that. If one that it waits for failed, it is not run, and has failed too. As many tasks
+    run as there are processors, and memory for. As long as the longest chain would outlast all the rest, its tasks have
+    three jobs, and where at least four may run they wait for no other; those of chains nearly as long have two jobs,
+    all others one. Gives how many passed and failed in all, and which tasks failed."""
     most = int(re.search(r"MemAvailable:\s+(\d+)", Path("/proc/meminfo").read_text())[1]) * 1024 // MEMORY
-    lanes = max(1, min(len(os.sched_getaffinity(0)), most))
+    processors = len(os.sched_getaffinity(0))
+    lanes = max(1, min(processors, most))
     seconds, behind, running, ended = {it: SECONDS.get(it, 60) for it in tasks}, dict.fromkeys(tasks, 0), {}, {}
     for key in reversed([*tasks]):
         behind[key] += seconds[key]
@@ -169,19 +196,17 @@ def side_by_side(tasks):
     waiting = sorted(tasks, key=lambda it: -behind[it])
     with ThreadPoolExecutor(lanes + 1) as pool:
         while left := [*waiting, *(it[0] for it in running.values())]:
-            went = {key: min(seconds[key], time.monotonic() - began) for key, _, began in running.values()}
+            went = {key: min(seconds[key], time.monotonic() - began) for key, began in running.values()}
             longest = max(behind[it] - went.get(it, 0) for it in left)
-            work = sum(seconds[it] - went.get(it, 0) for it in left) / lanes
+            work = sum(seconds[it] - went.get(it, 0) for it in left) / processors
             for key in [it for it in waiting if ended.keys() >= {*tasks[it][0]}]:
-                taken = [it[1] for it in running.values()]
-                idle = lanes + (lanes < most and max(taken, default=1) > 1) - sum(taken)
                 is_first = behind[key] == longest > work
-                if idle > 0 or is_first and lanes > 3:
-                    jobs = min(3, max(idle, lanes - 1)) if is_first else 1
+                if len(running) < lanes or is_first and len(running) == lanes > 3:
+                    jobs = 3 if is_first else 2 if behind[key] > NEAR * longest else 1
                     is_well = not any(ended[it][1] for it in tasks[key][0])
                     waiting.remove(key)
-                    task = pool.submit(tasks[key][1] if is_well else not_run, jobs)
-                    running[task] = key, jobs, time.monotonic()
+                    task = pool.submit(tasks[key][1] if is_well else not_run, min(jobs, max(1, processors - 1)))
+                    running[task] = key, time.monotonic()
             for done in wait(running, return_when=FIRST_COMPLETED).done:
                 key, *_ = running.pop(done)
                 passed, failed, said = done.result()

@@ -14,7 +14,7 @@ from crates import tree_over_libraries
 RECORD = TOP / "mutants.txt"
 NOTING = threading.Lock()
 HEAD = "# crate, mutants that the prover refuses, sum of what that rests on; ./check mutants writes it\n"
-COMMENT = re.compile(rb"\s*(//|--)")
+COMMENT = re.compile(r"\s*(//|--)")
 ONLY = re.compile(r"only=\d+ proved=\d+")
 VERDICT = re.compile(r"^fn (?:\S+::)?(\w+): (proved|not proved|no proof(?!: it calls))\b", re.M)
 # A function with a body, in the layout of rt fmt, from its docstring and attributes on: its indent and its name.
@@ -31,13 +31,26 @@ def mutants_of(name):
 
 
 @functools.lru_cache(maxsize=None)
-def sum_of_files(folder):
-    """A SHA-256 of the files below a folder, with their names, but for lines of comment."""
+def sum_of_files(folder, is_whole):
+    """A SHA-256 of the files below a folder, with their names, but for empty lines and those of comment; of all of
+    their functions, or of what the crates above know of these."""
     found = hashlib.sha256()
     for file in sorted(it for it in folder.rglob("*") if it.is_file()):
-        text = b"\n".join(it for it in file.read_bytes().split(b"\n") if not COMMENT.match(it))
-        found.update(f"{file.relative_to(folder)}\n".encode() + hashlib.sha256(text).digest())
+        text = file.read_text()
+        text = text if is_whole else FUNCTION.sub(known_above, text)
+        text = "\n".join(it for it in text.split("\n") if it and not COMMENT.match(it))
+        found.update(f"{file.relative_to(folder)}\n".encode() + hashlib.sha256(text.encode()).digest())
     return found.digest()
+
+
+def known_above(function):
+    """What the crates above know of a function: its contract, if it is public or of a trait. What is constant they may
+    compute."""
+    head, *_ = split(function)
+    if re.search(r"^ *(?:pub(?:\(\w+\))? )?const fn ", head, re.M):
+        return function[0]
+    is_seen = re.search(r"^ *pub fn ", head, re.M) or owner_of(function.string, function) is False
+    return head if is_seen else ""
 
 
 def line_of(name):
@@ -46,7 +59,7 @@ def line_of(name):
     for crate in [*below(name), name]:
         found.update(LINES[crate].encode())
         for part in (*SOURCES, "must-fail") if crate == name else ("src", "specs"):
-            found.update(sum_of_files(folder_of(crate) / part))
+            found.update(sum_of_files(folder_of(crate) / part, crate == name))
     return f"{name} {len(mutants_of(name))} {found.hexdigest()}"
 
 
@@ -69,6 +82,13 @@ def module_of(file):
     return [it for it in file[:-3].split("/")[1:] if it not in ("lib", "main")]
 
 
+def split(function):
+    """What stands before a function's body, what opens that, and the body."""
+    opens = f"\n{function[1]}{{\n"
+    head, opens, body = function[0].partition(opens if opens in function[0] else "{\n")
+    return head, opens, body
+
+
 def owner_of(text, function):
     """The type whose method a function is, none if it is of no type; false if it is one that a trait asks for."""
     if not function[1]:
@@ -87,8 +107,7 @@ def twin_of(crate, stem, pairs):
     owner = function and owner_of(text, function)
     if not function or owner is False or any(it != file for it, _, _ in pairs):
         return None
-    opens = f"\n{function[1]}{{\n"
-    head, opens, body = function[0].partition(opens if opens in function[0] else "{\n")
+    head, opens, body = split(function)
     for _, old, new in pairs:
         if text.count(old) != 1 or old not in body:
             return None
