@@ -26,9 +26,7 @@ pub struct ViewCell {
 // By hand: it is proved here that all parts can be dropped, and no crate above has to prove it again.
 impl Drop for ViewCell {
     fn drop(self) {
-        let ViewCell {
-            table: _,
-        } = self;
+        let ViewCell { table: _ } = self;
     }
 }
 
