@@ -107,9 +107,18 @@ def take(tree, name):
     shutil.move(made, out)
 
 
+def laid_out_otherwise(name, tree):
+    """The files of a crate that rt fmt changes in a tree of its own."""
+    rt(["fmt"], folder_of(name, tree))
+    files = (it for part in SOURCES for it in (folder_of(name) / part).rglob("*") if it.is_file())
+    return [it for it in files if it.read_bytes() != (tree / it.relative_to(TOP)).read_bytes()]
+
+
 def prove(name, jobs):
-    """Proves a crate, and builds it. What a proof that failed had found is kept too."""
+    """Proves a crate in the layout of rt fmt, and builds it. What a proof that failed had found is kept too."""
     with tree_over_libraries(name, "out", os.link) as tree:
+        if others := laid_out_otherwise(name, tree):
+            return 0, 1, "".join(f"check: {it} is not in the layout of rt fmt\n" for it in others)
         is_program = (folder_of(name) / "src/main.rt").is_file()
         words = ["run", "--jobs", str(jobs), "--", "--help"] if is_program else ["lib", "--jobs", str(jobs)]
         ran = rt(words, folder_of(name, tree), nice=NICE[jobs])

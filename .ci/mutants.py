@@ -10,16 +10,13 @@ from collections import namedtuple
 
 from crates import LINES, SOURCES, TOP, below, copy_sources, folder_of, rt, side_by_side, tasks_of, told
 from crates import tree_over_libraries
+from sources import FUNCTION, files_of, known_to, owner_of, said_in, split
 
 RECORD = TOP / "mutants.txt"
 NOTING = threading.Lock()
 HEAD = "# crate, mutants that the prover refuses, sum of what that rests on; ./check mutants writes it\n"
-COMMENT = re.compile(r"\s*(//|--)")
 ONLY = re.compile(r"only=\d+ proved=\d+")
 VERDICT = re.compile(r"^fn (?:\S+::)?(\w+): (proved|not proved|no proof(?!: it calls))\b", re.M)
-# A function with a body, in the layout of rt fmt, from its docstring and attributes on: its indent and its name.
-FUNCTION = re.compile(r"(?:^ *(?:///|#\[).*\n)*^( *)(?:pub(?:\(\w+\))? )?(?:const )?fn (\w+)(?s:.*?)\n\1\}$", re.M)
-BLOCK = re.compile(r"^(?:pub(?:\(\w+\))? )?(impl|trait)\b.*", re.M)
 
 # A mutant's twin: its file, name and text, that of the function behind which it comes, and the folder of the proofs of
 # that function, if it has one.
@@ -30,36 +27,13 @@ def mutants_of(name):
     return sorted((folder_of(name) / "must-fail").glob("*.edit"))
 
 
-@functools.lru_cache(maxsize=None)
-def sum_of_files(folder, is_whole):
-    """A SHA-256 of the files below a folder, with their names, but for empty lines and those of comment; of all of
-    their functions, or of what the crates above know of these."""
-    found = hashlib.sha256()
-    for file in sorted(it for it in folder.rglob("*") if it.is_file()):
-        text = file.read_text()
-        text = text if is_whole else FUNCTION.sub(known_above, text)
-        text = "\n".join(it for it in text.split("\n") if it and not COMMENT.match(it))
-        found.update(f"{file.relative_to(folder)}\n".encode() + hashlib.sha256(text.encode()).digest())
-    return found.digest()
-
-
-def known_above(function):
-    """What the crates above know of a function: its contract, if it is public or of a trait. What is constant they may
-    compute."""
-    head, *_ = split(function)
-    if re.search(r"^ *(?:pub(?:\(\w+\))? )?const fn ", head, re.M):
-        return function[0]
-    is_seen = re.search(r"^ *pub fn ", head, re.M) or owner_of(function.string, function) is False
-    return head if is_seen else ""
-
-
 def line_of(name):
     """The line of a crate all of whose mutants are refused."""
-    found = hashlib.sha256(told("version").encode())
-    for crate in [*below(name), name]:
-        found.update(LINES[crate].encode())
-        for part in (*SOURCES, "must-fail") if crate == name else ("src", "specs"):
-            found.update(sum_of_files(folder_of(crate) / part, crate == name))
+    found = hashlib.sha256((told("version") + LINES[name]).encode())
+    for file in (it for part in (*SOURCES, "must-fail") for it in files_of(folder_of(name) / part)):
+        found.update(f"\n{file.relative_to(TOP)}\n{chr(10).join(said_in(file))}".encode())
+    for it in known_to(name):
+        found.update("\n".join(it).encode())
     return f"{name} {len(mutants_of(name))} {found.hexdigest()}"
 
 
@@ -80,22 +54,6 @@ def text_of(file):
 def module_of(file):
     """The path of a file's module below its crate; none for the crate's own file."""
     return [it for it in file[:-3].split("/")[1:] if it not in ("lib", "main")]
-
-
-def split(function):
-    """What stands before a function's body, what opens that, and the body."""
-    opens = f"\n{function[1]}{{\n"
-    head, opens, body = function[0].partition(opens if opens in function[0] else "{\n")
-    return head, opens, body
-
-
-def owner_of(text, function):
-    """The type whose method a function is, none if it is of no type; false if it is one that a trait asks for."""
-    if not function[1]:
-        return None
-    block = [*BLOCK.finditer(text, 0, function.start())][-1]
-    words = re.sub(r"<(?:[^<>]|<[^<>]*>)*>", "", block[0])
-    return block[1] == "impl" and " for " not in words and re.search(r"\b[A-Z]\w*", words)[0]
 
 
 def twin_of(crate, stem, pairs):

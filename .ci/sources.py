@@ -1,0 +1,116 @@
+"""What the sources of a crate say, as rt fmt lays them out, and what of that the crates above may know."""
+import functools
+import re
+
+from crates import SOURCES, below, folder_of
+
+COMMENT = re.compile(r"\s*(//|--)")
+# A function with a body, in the layout of rt fmt, from its docstring and attributes on: its indent and its name.
+FUNCTION = re.compile(r"(?:^ *(?:///|#\[).*\n)*^( *)(?:pub(?:\(\w+\))? )?(?:const )?fn (\w+)(?s:.*?)\n\1\}$", re.M)
+BLOCK = re.compile(r"^(?:pub(?:\(\w+\))? )?(impl|trait)\b.*", re.M)
+KIND = re.compile(r"^(?:pub\S* )?(?:const (?=fn))?(impl|trait|fn|struct|enum|const|static|type)\b[ <]*(\w*)", re.M)
+KEPT = re.compile(r"^    (?!pub )\w.*\n", re.M)  # how a value is kept: a field that is not public
+MODEL = re.compile(r"^ +ghost (?:use\b|(?:view|invariant|inverse|inverse_ok) =)[^\n]*\n", re.M)
+DEFINED = r"^(?:abbrev |unfoldable )*pub (?:record |data )?(\w+)"
+USE = re.compile(r" *(?:ghost )?use Rattle\.([\w.]+)(.*)")
+WORD = re.compile(r"[^\W\d]\w*")
+
+
+def split(function):
+    """What stands before a function's body, what opens that, and the body."""
+    opens = f"\n{function[1]}{{\n"
+    head, opens, body = function[0].partition(opens if opens in function[0] else "{\n")
+    return head, opens, body
+
+
+def owner_of(text, function):
+    """The type whose method a function is, none if it is of no type; false if it is one that a trait asks for."""
+    if not function[1]:
+        return None
+    block = [*BLOCK.finditer(text, 0, function.start())][-1]
+    words = re.sub(r"<(?:[^<>]|<[^<>]*>)*>", "", block[0])
+    return block[1] == "impl" and " for " not in words and re.search(r"\b[A-Z]\w*", words)[0]
+
+
+def said_in(file):
+    """The lines of a file, but for empty ones and those of comment."""
+    return [it for it in file.read_text().split("\n") if it and not COMMENT.match(it)]
+
+
+def files_of(folder):
+    return sorted(it for it in folder.rglob("*") if it.is_file())
+
+
+def chunks_of(lines):
+    """What stands side by side in a file, each with its attributes: lines up to one that is not indented, and ends in a
+    brace that closes or in a semicolon."""
+    chunk = []
+    for line in (it for it in lines if not it.startswith("#![")):
+        chunk.append(line)
+        if line[0] != " " and line[-1] in "};":
+            yield "\n".join(chunk)
+            chunk = []
+
+
+def contract_of(function):
+    """What is known of a function from without: its contract. What is constant may be computed."""
+    head, *_ = split(function)
+    return function[0] if re.search(r"^ *(?:pub(?:\(\w+\))? )?const fn ", head, re.M) else head
+
+
+def known_of_block(chunk):
+    """What the crates above may know of an impl block or a trait, and which words they have to name for that: of
+    methods of a type's own each that is public, of a model what the value is, not how it is kept, of others all but
+    bodies."""
+    words = re.sub(r"<(?:[^<>]|<[^<>]*>)*>", "", BLOCK.search(chunk)[0])
+    name, functions = re.findall(r"\b[A-Z]\w*", words)[-1], [*FUNCTION.finditer(chunk)]
+    is_own = functions and owner_of(chunk, functions[0])
+    for it in functions:
+        if not is_own or re.search(r"^ *pub (?:const )?fn ", it[0], re.M):
+            yield ({name, it[2]} if is_own else {name}), contract_of(it)
+    rest = FUNCTION.sub("", chunk)
+    yield {name}, MODEL.sub("", rest) if " Model for " in words else rest
+
+
+def known_of_chunk(chunk, modelled):
+    """The same of what stands in a file, where these types have a model: of them nothing is known of how they are kept,
+    nor of any how it is dropped."""
+    kind, name = said.groups() if (said := KIND.search(chunk)) else ("", "")
+    if kind in ("impl", "trait"):
+        return [] if " Drop for " in BLOCK.search(chunk)[0] else [*known_of_block(chunk)]
+    if kind == "fn":
+        text = contract_of(it) if (it := FUNCTION.search(chunk)) else chunk
+        return [({name}, text)] if re.search(r"^pub (?:const )?fn ", chunk, re.M) else []
+    text = KEPT.sub("", chunk) if kind == "struct" and name in modelled else chunk
+    return [({name}, text.replace(", Drop)", ")"))] if kind else []
+
+
+@functools.lru_cache(maxsize=None)
+def known_of(crate):
+    """What the crates above may know of a crate: the words that all have to be named for that, a text, and which words
+    that names, with the modules of those that are definitions."""
+    sources = [said_in(it) for it in files_of(folder_of(crate) / "src")]
+    modelled = {*re.findall(r"^impl\b.* Model for (\w+)", "\n".join(sum(sources, [])), re.M)}
+    known = []
+    for lines in sources:
+        uses = [(it[1].split("."), {*WORD.findall(it[2])}) for line in lines if (it := USE.match(line))]
+        for words, text in (it for chunk in chunks_of(lines) for it in known_of_chunk(chunk, modelled)):
+            named = {*WORD.findall(text)}
+            known.append((words, text, named.union(*(path for path, names in uses if names & named))))
+    for file in files_of(folder_of(crate) / "specs"):
+        text = "\n".join(said_in(file))
+        named = {*WORD.findall(text)}
+        known += [({it, file.stem, crate}, text, named) for it in re.findall(DEFINED, text, re.M)]
+    return [(words, "\n".join(it for it in text.split("\n") if it), named) for words, text, named in known]
+
+
+def known_to(name):
+    """What a crate's files name of the crates below it, and what is named by that in turn."""
+    files = (it for part in SOURCES for it in files_of(folder_of(name) / part))
+    words = {word for it in files for word in WORD.findall(it.read_text())}
+    found, left = {}, [(low, *it) for low in below(name) for it in known_of(low)]
+    while reached := [it for it in left if it[1] <= words]:
+        left = [it for it in left if not it[1] <= words]
+        for low, _, text, named in reached:
+            found[low, text], words = None, words | named
+    return sorted(found)
