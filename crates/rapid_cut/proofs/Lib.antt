@@ -5,6 +5,7 @@ pub mod Passing
 pub mod Active
 pub mod Joiners
 pub mod Fresh
+pub mod Untagged
 pub mod Listed
 pub mod Masks
 pub mod Counts

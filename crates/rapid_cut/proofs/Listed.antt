@@ -4,7 +4,7 @@ use Rattle.std.proofs.lemmas.List.{take_more, append-nil}
 use Rattle.rapid_model.specs.Process.{Process, same_bytes}
 use Rattle.rapid_model.proofs.Orders.{same_bytes_decides}
 use Rattle.rapid_cut.specs.declared.mask.Masks.{Masks}
-use Rattle.rapid_cut.specs.Listed.{masks_at, StandsAt}
+use Rattle.rapid_cut.specs.Listed.{masks_at, StandsAt, PutsMasks}
 use Rattle.rapid_model.proofs.Among.{same_turned}
 
 -- the masks of the first list, or those of the second
@@ -160,3 +160,19 @@ module _ (es : List (Process × Masks)) (i : ℕ) (x : Process × Masks) (l : i 
 
   pub map_same : is_some (masks_at ms x.0) ≡ true → (q : Process) → masks_at ms q ≡ masks_at (take (i + 1) es) q
   map_same there q = so_far q ∙ sym (repeated (take i es) x.0 x.1 (ap is_some (sym (so_far x.0)) ∙ there) q) ∙ sym (one_longer q)
+
+-- ---- masks that are put
+
+-- at the place of the process
+pub put_at : (es ys : List (Process × Masks)) (s : Process) (place : ℕ) (x : Process × Masks) (m : Masks) → x ≡ get_or es place x → StandsAt es s place → PutsMasks s m (es ++ ys) (set es place (x.0, m) ++ ys)
+put_at es ys s place x m is stands q = ap (λ (y : Process × Masks). masks_at (set es place (y.0, m) ++ ys) q) is ∙ set_at es s place x m ys stands q
+
+-- at the end of the list
+pub put_last : (es ys ns : List (Process × Masks)) (s kept : Process) (m : Masks) → kept ≡ s → ns ≡ es ++ (kept, m) ∷ [] → masks_at es s ≡ None → PutsMasks s m (es ++ ys) (ns ++ ys)
+put_last es ys ns s kept m same is none q =
+    ap (λ xs. masks_at (xs ++ ys) q) (is ∙ ap (λ (p : Process). es ++ (p, m) ∷ []) same) ∙ pushed_before es s m ys none q
+
+-- in what took over the list, behind which there was nothing
+pub put_over : (es ys cleared made ns : List (Process × Masks)) (s : Process) (m : Masks) → cleared ≡ [] → length ys ≡ 0 → ((q : Process) → masks_at made q ≡ masks_at es q) → PutsMasks s m made ns → PutsMasks s m (es ++ ys) (cleared ++ ns)
+put_over es ys cleared made ns s m none alone_there as_list put q =
+    ap (λ xs. masks_at (xs ++ ns) q) none ∙ put q ∙ ap (λ o. cond (same_bytes s q) (Some m) o) (as_list q ∙ alone es ys alone_there q)

@@ -1,5 +1,5 @@
 -- Masks of rings as sets of reports.
-use Rattle.std.proofs.Common.{◌≡◌, ℕ, zero, suc, ◌+◌, ◌-◌, min, ◌≤◌, ◌<◌, Bool, true, false, cond, ◌&&◌, ◌==◌, List, [], ◌∷◌, map, filter, count_by, refl, sym, ap, subst, ◌∙◌, inl, inr, Option, Some, None, is_some, arith, bit_and, w16, nat_lt, not}
+use Rattle.std.proofs.Common.{◌≡◌, ℕ, zero, suc, ◌+◌, ◌-◌, min, ◌≤◌, ◌<◌, Bool, true, false, cond, ◌&&◌, ◌==◌, List, [], ◌∷◌, ◌++◌, map, filter, count_by, refl, sym, ap, subst, ◌∙◌, inl, inr, Option, Some, None, is_some, arith, bit_and, w16, nat_lt, not}
 use Rattle.std.specs.List.{list_any, range_with_len}
 use Rattle.std.specs.Int.{bit_at, bit_not}
 use Rattle.std.specs.Option.{unwrap_or, option_map}
@@ -17,7 +17,9 @@ use Rattle.rapid_cut.specs.declared.mask.Masks.{Masks}
 use Rattle.rapid_alerts.specs.RingMasks.{has_ring, with_rings}
 use Rattle.rapid_alerts.proofs.RingMasks.{no_both, no_ring, below, one_bit, on_these, found_in}
 use Rattle.rapid_cut.specs.Masks.{mask_of, is_reported, reports_in}
-use Rattle.rapid_cut.specs.Growing.{PutsMask, TakesOut}
+use Rattle.rapid_cut.specs.Growing.{is_for, PutsMask, TakesOut}
+use Rattle.rapid_cut.specs.Listed.{masks_at}
+use Rattle.rapid_cut.proofs.Listed.{first_of, beside}
 use Rattle.rapid_cut.proofs.Sets.{subject_of, report_on}
 use Rattle.rapid_model.proofs.Logic.{and_is}
 
@@ -162,6 +164,28 @@ pub takes_absent : (part : Masks → ℕ) (es : List (Process × Masks)) (s : Pr
 takes_absent part es s rings none =
     takes_none s rings (reports_in (parts part es)) (λ k.
     seen (parts part es) (s, k) ∙ ap (λ (o : Option ℕ). has_ring (unwrap_or o 0) k) (part_at part es s ∙ ap (option_map part) none) ∙ no_ring k)
+
+-- what the masks of entries say of a report
+says : (part : Masks → ℕ) (es : List (Process × Masks)) (x : Report) → set.contains (reports_in (parts part es)) x ≡ has_ring (unwrap_or (option_map part (masks_at es x.0)) 0) x.1
+says part es x = seen (parts part es) x ∙ ap (λ (o : Option ℕ). has_ring (unwrap_or o 0) x.1) (part_at part es x.0)
+
+-- what is taken out behind entries that the process has not
+pub takes_behind : (part : Masks → ℕ) (es ys ns : List (Process × Masks)) (s : Process) (rings : ℕ) → masks_at es s ≡ None → TakesOut s rings (reports_in (parts part ys)) (reports_in (parts part ns))
+    → TakesOut s rings (reports_in (parts part (es ++ ys))) (reports_in (parts part (es ++ ns)))
+takes_behind part es ys ns s rings none takes x =
+    says part (es ++ ns) x ∙ ap ring (beside es ns x.0) ∙ inside (masks_at es x.0) refl
+    ∙ ap (λ b. not (is_for s rings x) && b) (ap ring (sym (beside es ys x.0)) ∙ sym (says part (es ++ ys) x))
+  where
+    ring : Option Masks → Bool
+    ring o = has_ring (unwrap_or (option_map part o) 0) x.1
+
+    other : (m : Masks) (b : Bool) → masks_at es x.0 ≡ Some m → same_bytes s x.0 ≡ b → same_bytes s x.0 ≡ false
+    other m false e h = h
+    other m true e h = (let no : None ≡ Some m = sym none ∙ ap (masks_at es) ((same_bytes_decides s x.0).0 h) ∙ e in cc)
+
+    inside : (o : Option Masks) → masks_at es x.0 ≡ o → ring (first_of o (masks_at ns x.0)) ≡ (not (is_for s rings x) && ring (first_of o (masks_at ys x.0)))
+    inside None e = sym (says part ns x) ∙ takes x ∙ ap (λ b. not (is_for s rings x) && b) (says part ys x)
+    inside (Some m) e = ap (λ b. not (b && has_ring rings x.1) && ring (Some m)) (sym (other m (same_bytes s x.0) e refl))
 
 -- ---- the tally of a mask
 

@@ -110,5 +110,9 @@ fn share_all(
     Ok(())
 }
 
+/// Up to this many processes have their masks in a list. For so few it costs less than a map to
+/// make, to copy and to search.
+pub const FEW: usize = 32;
+
 /// For how many more entries a copy has room.
-const MORE: usize = 1;
+pub const MORE: usize = 1;

@@ -5,12 +5,14 @@
 ghost use Rattle.rapid_cut.specs.Laws.{ListsAreExact, CutIsExact, NoCutIsExact, OrderAndRepeatsChangeNothing, BatchesAddUp, AllTakenAreKept, OnePassIsEnough};
 
 mod ascending;
+mod bare;
 mod closure;
 mod detector;
 mod few;
 mod growing;
 mod in_turn;
 mod mask;
+mod others;
 mod reports;
 mod shared_list;
 mod subject;

@@ -2,44 +2,44 @@
 
 ghost use Rattle.std.specs.Prelude.{◌≡◌, ℕ, IfOk, OnOk, OnErr};
 ghost use Rattle.std.specs.FinSet as set;
-ghost use Rattle.rapid_cut.specs.Growing.{PutsMask, TakesOut};
 ghost use Rattle.rapid_alerts.specs.RingMasks.{has_ring};
+ghost use Rattle.rapid_cut.specs.Growing.{PutsMask, TakesOut};
+ghost use Rattle.rapid_cut.specs.Listed.{PutsMasks};
+ghost use Rattle.rapid_cut.specs.Others.{entries_in, entries_of};
 
-use crate::few::{copy_of, map_of, masks_in, place_in, push_to, put_in};
+use crate::bare::{Bare, copy_of, place_in, push_to};
+use crate::few::FEW;
 use crate::mask::Masks;
+use crate::others::Others;
 use crate::subject::Subject;
 use rapid_endpoint::{KeptProcess, Process, SharedProcess};
-use rapid_rings::ProcessKey;
 use std::alloc::{AllocError, Global};
-use std::collections::HashMap;
 use std::marker::Model;
-
-/// Up to this many processes have their masks in a list. For so few it costs less than a map to
-/// make, to copy and to search.
-const FEW: usize = 32;
 
 /// No ring.
 const NONE: Masks = Masks { direct: 0, all: 0 };
 
 /// The direct reports, and all that are known with those that they imply, for the first sixteen
-/// rings. There are masks for each process that is reported on: in a list while they are few, and
-/// then in a map.
+/// rings. There are masks for each process that is reported on. While these are few and none has
+/// tags, as is most common, they stand in a list that is copied as bytes are.
 #[derive(Debug, Drop)]
 pub struct KnownReports {
-    few: Vec<(KeptProcess, Masks)>,
-    many: HashMap<ProcessKey, Masks>,
+    bare: Vec<(Bare, Masks)>,
+    // all of them, once there is one with tags, or too many
+    others: Option<Box<Others>>,
     alloc: Global,
 }
 
 impl Model for KnownReports {
     ghost use Rattle.std.specs.Prelude.{◌++◌};
     ghost use Rattle.rapid_cut.specs.Known.{Known, known_code, known_in};
+    ghost use Rattle.rapid_cut.specs.Others.{entries_of};
 
     ghost Value = { Known };
 
     ghost coded = { known_code };
 
-    ghost view = { λ r. known_in (r.few.items ++ r.many.entries) };
+    ghost view = { λ r. known_in (r.bare.items ++ entries_of r.others) };
 }
 
 impl KnownReports {
@@ -49,8 +49,8 @@ impl KnownReports {
         ensures all { result.all ≡ set.empty }
     {
         KnownReports {
-            few: Vec::new(alloc),
-            many: HashMap::new(alloc),
+            bare: Vec::new(alloc),
+            others: None,
             alloc,
         }
     }
@@ -60,38 +60,33 @@ impl KnownReports {
         ensures direct { (k : ℕ) → set.contains self.now.direct (subject.now, k) ≡ has_ring result.direct k }
         ensures all { (k : ℕ) → set.contains self.now.all (subject.now, k) ≡ has_ring result.all k }
     {
-        if let Some(place) = place_in(self.few.as_slice(), subject) {
-            return self.few[place].1;
+        if let Some(place) = place_in(self.bare.as_slice(), subject) {
+            return self.bare[place].1;
         }
-        if self.many.is_empty() {
-            return NONE;
+        match &self.others {
+            Some(others) => others.masks_of(subject).unwrap_or(NONE),
+            None => NONE,
         }
-        masks_in(&self.many, subject).unwrap_or(NONE)
     }
 
-    /// The process, to be kept. Unless it is shared already, it is kept as in the list if it is there.
+    /// The process, to be kept. Unless it is shared already, it is kept as among the others if it is
+    /// there.
     pub fn to_keep(&self, subject: &Subject<'_>) -> Result<KeptProcess, AllocError>
         ensures { IfOk result (λ kept. kept ≡ subject.now.process.now) }
     {
-        if subject.is_shared() {
-            return subject.keep(self.alloc);
-        }
-        match place_in(self.few.as_slice(), subject.get()) {
-            Some(place) => self.few[place].0.try_copy(),
-            None => subject.keep(self.alloc),
+        match &self.others {
+            Some(others) if !subject.is_shared() => others.to_keep(subject),
+            _ => subject.keep(self.alloc),
         }
     }
 
-    /// The process, to be listed. Unless it is shared already, the list shares it if it does so.
+    /// The process, to be listed. Unless it is shared already, the others share it if they do so.
     pub fn to_share(&self, subject: &Subject<'_>) -> Result<SharedProcess, AllocError>
         ensures { IfOk result (λ shared. shared ≡ subject.now.process.now) }
     {
-        if subject.is_shared() {
-            return subject.share(self.alloc);
-        }
-        match place_in(self.few.as_slice(), subject.get()) {
-            Some(place) => self.few[place].0.share(self.alloc),
-            None => subject.share(self.alloc),
+        match &self.others {
+            Some(others) if !subject.is_shared() => others.to_share(subject),
+            _ => subject.share(self.alloc),
         }
     }
 
@@ -107,22 +102,23 @@ impl KnownReports {
         ensures all { OnOk result (PutsMask subject.now masks.all self.old.all self.new.all) }
         ensures unchanged { OnErr result (self.new ≡ self.old) }
     {
-        if let Some(place) = place_in(self.few.as_slice(), subject) {
-            self.few[place].1 = masks;
+        if let Some(place) = place_in(self.bare.as_slice(), subject) {
+            self.bare[place].1 = masks;
             return Ok(());
         }
-        if !self.many.is_empty() {
-            put_in(&mut self.many, subject, masks)?;
+        if let Some(others) = &mut self.others {
+            others.put(subject, kept, masks)?;
             return Ok(());
         }
-        if self.few.len() < FEW {
-            push_to(&mut self.few, kept, masks)?;
-            return Ok(());
+        if self.bare.len() < FEW {
+            if let Some(bare) = Bare::of(subject) {
+                push_to(&mut self.bare, bare, masks)?;
+                return Ok(());
+            }
         }
-        let mut many = map_of(self.alloc, self.few.as_slice())?;
-        put_in(&mut many, subject, masks)?;
-        self.many = many;
-        self.few.clear();
+        let others = others_with(self.alloc, self.bare.as_slice(), subject, kept, masks)?;
+        self.others = Some(others);
+        self.bare.clear();
         Ok(())
     }
 
@@ -131,13 +127,12 @@ impl KnownReports {
         ensures direct { TakesOut subject.now rings.direct self.old.direct self.new.direct }
         ensures all { TakesOut subject.now rings.all self.old.all self.new.all }
     {
-        if let Some(place) = place_in(self.few.as_slice(), subject) {
-            self.few[place].1 = self.few[place].1.without(rings);
+        if let Some(place) = place_in(self.bare.as_slice(), subject) {
+            self.bare[place].1 = self.bare[place].1.without(rings);
             return;
         }
-        let key = ProcessKey::new(*subject);
-        if let Some(masks) = self.many.get_mut(&key) {
-            *masks = masks.without(rings);
+        if let Some(others) = &mut self.others {
+            others.take_out(subject, rings);
         }
     }
 
@@ -146,22 +141,37 @@ impl KnownReports {
         ensures { IfOk result (λ copy. copy ≡ self.now) }
     {
         Ok(KnownReports {
-            few: copy_of(alloc, self.few.as_slice())?,
-            many: copied(alloc, &self.many)?,
+            bare: copy_of(alloc, self.bare.as_slice())?,
+            others: copied(alloc, &self.others)?,
             alloc,
         })
     }
 }
 
-/// The same masks. If there are none, a new map costs less than a copy of an empty one.
-fn copied(
+/// These entries, with these masks of the process, which is kept so, in the place of those that it
+/// has there.
+#[inline(never)]
+fn others_with(
     alloc: Global,
-    masks: &HashMap<ProcessKey, Masks>,
-) -> Result<HashMap<ProcessKey, Masks>, AllocError>
-    ensures { IfOk result (λ copy. copy.entries ≡ masks.now.entries) }
+    entries: &[(Bare, Masks)],
+    subject: &Process,
+    kept: KeptProcess,
+    masks: Masks,
+) -> Result<Box<Others>, AllocError>
+    requires { kept ≡ subject.now }
+    ensures { IfOk result (λ others. PutsMasks subject.now masks entries.now (entries_in others.value)) }
 {
-    if masks.is_empty() {
-        return Ok(HashMap::new(alloc));
+    let mut others = Others::new(alloc, entries)?;
+    others.put(subject, kept, masks)?;
+    Ok(Box::new(alloc, others)?)
+}
+
+/// The same masks.
+fn copied(alloc: Global, others: &Option<Box<Others>>) -> Result<Option<Box<Others>>, AllocError>
+    ensures { IfOk result (λ copy. entries_of copy ≡ entries_of others.now) }
+{
+    match others {
+        Some(others) => Ok(Some(others.try_copy(alloc)?)),
+        None => Ok(None),
     }
-    masks.clone()
 }
