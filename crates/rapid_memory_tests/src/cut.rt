@@ -1,13 +1,15 @@
 // The cut detector over a table of explicit edges: a batch for which memory runs out changes nothing.
 
-use crate::numbered::{are_numbered, process, shared};
+use crate::numbered::{are_numbered, process, shared, tagged};
 use crate::tables::{Edge, table};
 use rapid_alerts::{Alert, AlertList, Kind};
 use rapid_config::{ConfigId, Cut};
 use rapid_cut::Detector;
+use rapid_endpoint::Process;
 use rapid_rings::Table;
 use std::alloc::{AllocError, Global};
-use std::test::Fail;
+use std::slice;
+use std::test::*;
 
 /// A call of a detector, and what it answers.
 #[derive(Clone, Copy, Debug)]
@@ -171,4 +173,44 @@ const LISTED: [Call; 4] = [
 #[test]
 fn out_of_memory_in_a_list_leaves_the_detector_as_it_was(rt: HostRuntime) -> Result<(), Fail> {
     runs(rt.alloc(), &LISTED)
+}
+
+/// The table of the edge on which process 1 observes process 5, and of three on which processes 2 to
+/// 4 observe this one.
+fn observing(alloc: Global, subject: Process) -> Result<Table, Fail> {
+    let mut table = table(alloc, (4, 3, 2), &[], &[(0, 1, 5)])?;
+    for ring in 0..3 {
+        table.add(ring, process(u16::from(ring) + 2), subject)?;
+    }
+    Ok(table)
+}
+
+/// The cut of a batch of one alert. It is given again if out of memory: the detector is then as it
+/// was.
+fn cut_again(detector: &mut Detector<Table>, alert: &Alert) -> Result<Option<Cut>, AllocError> {
+    match detector.batch(slice::from_ref(alert)) {
+        Err(_refused) => detector.batch(slice::from_ref(alert)),
+        answer => answer,
+    }
+}
+
+/// The first process with tags that is reported on takes over, with itself, what is known of one
+/// without.
+#[test]
+fn out_of_memory_at_the_first_report_on_one_with_tags(rt: HostRuntime) -> Result<(), Fail> {
+    let alloc = rt.alloc();
+    let subject = tagged(6, &[b"db"])?;
+    let mut detector = Detector::new(alloc, observing(alloc, subject)?);
+    assert!(rt; cut_again(&mut detector, &alert(&(0, 1, 5)))?.is_none());
+    for ring in 0..3 {
+        let on_it = Alert {
+            subject,
+            ..alert(&(ring, u16::from(ring) + 2, 6))
+        };
+        let cut = cut_again(&mut detector, &on_it)?;
+        assert_eq!(rt; cut.is_some(), ring == 2);
+        assert_eq!(rt; detector.tally(&subject), usize::from(ring) + 1);
+        assert_eq!(rt; detector.tally(&process(5)), 1);
+    }
+    Ok(())
 }
