@@ -14,6 +14,7 @@ MODEL = re.compile(r"^ +ghost (?:use\b|(?:view|invariant|inverse|inverse_ok) =)[
 DEFINED = r"^(?:abbrev |unfoldable )*pub (?:record |data )?(\w+)"
 USE = re.compile(r" *(?:ghost )?use Rattle\.([\w.]+)(.*)")
 WORD = re.compile(r"[^\W\d]\w*")
+MODULE = re.compile(r"\bRattle(?:\.\w+)+")
 
 
 def split(function):
@@ -59,17 +60,17 @@ def contract_of(function):
 
 
 def known_of_block(chunk):
-    """What the crates above may know of an impl block or a trait, and which words they have to name for that: of
-    methods of a type's own each that is public, of a model what the value is, not how it is kept, of others all but
-    bodies."""
+    """What the crates above may know of an impl block or a trait, with the type and the method that they have to name
+    for that: of methods of a type's own each that is public, of a model what the value is, not how it is kept, of
+    others all but bodies."""
     words = re.sub(r"<(?:[^<>]|<[^<>]*>)*>", "", BLOCK.search(chunk)[0])
     name, functions = re.findall(r"\b[A-Z]\w*", words)[-1], [*FUNCTION.finditer(chunk)]
     is_own = functions and owner_of(chunk, functions[0])
     for it in functions:
         if not is_own or re.search(r"^ *pub (?:const )?fn ", it[0], re.M):
-            yield ({name, it[2]} if is_own else {name}), contract_of(it)
+            yield name, {it[2]} if is_own else set(), contract_of(it)
     rest = FUNCTION.sub("", chunk)
-    yield {name}, MODEL.sub("", rest) if " Model for " in words else rest
+    yield name, set(), MODEL.sub("", rest) if " Model for " in words else rest
 
 
 def known_of_chunk(chunk, modelled):
@@ -80,34 +81,49 @@ def known_of_chunk(chunk, modelled):
         return [] if " Drop for " in BLOCK.search(chunk)[0] else [*known_of_block(chunk)]
     if kind == "fn":
         text = contract_of(it) if (it := FUNCTION.search(chunk)) else chunk
-        return [({name}, text)] if re.search(r"^pub (?:const )?fn ", chunk, re.M) else []
+        return [(name, set(), text)] if re.search(r"^pub (?:const )?fn ", chunk, re.M) else []
     text = KEPT.sub("", chunk) if kind == "struct" and name in modelled else chunk
-    return [({name}, text.replace(", Drop)", ")"))] if kind else []
+    return [(name, set(), text.replace(", Drop)", ")"))] if kind else []
+
+
+def named_in(text):
+    """The words of a text, and the modules of definitions that it names, with those that they are in."""
+    modules = (it.split(".") for it in MODULE.findall(text))
+    return {*WORD.findall(text), *(".".join(it[:end]) for it in modules for end in range(2, len(it) + 1))}
+
+
+def module_of(crate, file, part="specs"):
+    """How definitions and types of a file are named, below a crate's part."""
+    return ".".join(["Rattle", crate, part, *file.relative_to(folder_of(crate)).with_suffix("").parts[1:]])
 
 
 @functools.lru_cache(maxsize=None)
 def known_of(crate):
-    """What the crates above may know of a crate: the words that all have to be named for that, a text, and which words
-    that names, with the modules of those that are definitions."""
-    sources = [said_in(it) for it in files_of(folder_of(crate) / "src")]
-    modelled = {*re.findall(r"^impl\b.* Model for (\w+)", "\n".join(sum(sources, [])), re.M)}
+    """What the crates above may know of a crate: what has to be named for that, a text, and what that names in turn. A
+    type that the crate does not give out is known only where definitions name it as declared here."""
+    files = [(it, said_in(it)) for it in files_of(folder_of(crate) / "src")]
+    said = [chunk for _, lines in files for chunk in chunks_of(lines)]
+    modelled = {*re.findall(r"^impl\b.* Model for (\w+)", "\n".join(said), re.M)}
+    given_out = {word for it in said if it.startswith("pub use ") for word in WORD.findall(it)}
     known = []
-    for lines in sources:
-        uses = [(it[1].split("."), {*WORD.findall(it[2])}) for line in lines if (it := USE.match(line))]
-        for words, text in (it for chunk in chunks_of(lines) for it in known_of_chunk(chunk, modelled)):
-            named = {*WORD.findall(text)}
-            known.append((words, text, named.union(*(path for path, names in uses if names & named))))
+    for file, lines in files:
+        is_open = file.stem == "lib" or f"pub mod {file.stem};" in said
+        uses = [(f"Rattle.{it[1].rstrip('.')}", {*WORD.findall(it[2])}) for line in lines if (it := USE.match(line))]
+        for name, more, text in (it for chunk in chunks_of(lines) for it in known_of_chunk(chunk, modelled)):
+            hidden = f"{module_of(crate, file, 'specs.declared')}.{name}"
+            named = named_in(text)
+            named |= {path for path, names in uses if names & named}
+            known.append(({name, *more} if is_open or name in given_out else {hidden}, text, named))
     for file in files_of(folder_of(crate) / "specs"):
         text = "\n".join(said_in(file))
-        named = {*WORD.findall(text)}
-        known += [({it, file.stem, crate}, text, named) for it in re.findall(DEFINED, text, re.M)]
+        known += [({it, module_of(crate, file)}, text, named_in(text)) for it in re.findall(DEFINED, text, re.M)]
     return [(words, "\n".join(it for it in text.split("\n") if it), named) for words, text, named in known]
 
 
 def known_to(name):
     """What a crate's files name of the crates below it, and what is named by that in turn."""
     files = (it for part in SOURCES for it in files_of(folder_of(name) / part))
-    words = {word for it in files for word in WORD.findall(it.read_text())}
+    words = {word for it in files for word in named_in(it.read_text())}
     found, left = {}, [(low, *it) for low in below(name) for it in known_of(low)]
     while reached := [it for it in left if it[1] <= words]:
         left = [it for it in left if not it[1] <= words]
