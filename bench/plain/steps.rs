@@ -53,6 +53,29 @@ impl Steps {
         println!("{} {}", self.name, least / self.count() as u128);
     }
 
+    /// The copies are made within the measured time.
+    fn print_copied_time(&self) {
+        let mut least = u128::MAX;
+        for _ in 0..50 {
+            let start = Instant::now();
+            let mut nodes = vec![self.start.clone(); self.copies];
+            self.take(&mut Views::default(), &mut nodes);
+            least = least.min(start.elapsed().as_nanos());
+        }
+        println!("copied_{} {}", self.name, least / self.count() as u128);
+    }
+
+    fn print_copied_held(&self) {
+        let before = held();
+        let mut nodes = vec![self.start.clone(); self.copies];
+        self.take(&mut Views::default(), &mut nodes);
+        println!("copied_{}_bytes {}", self.name, (held() - before) / self.count() as u64);
+    }
+
+    fn is_batch(&self) -> bool {
+        self.name.contains("batch") && !self.name.contains("great")
+    }
+
     fn print_held(&self) {
         let mut nodes = vec![self.start.clone(); self.copies];
         let before = held();
@@ -145,6 +168,9 @@ pub fn measure_all() {
     for steps in all_steps() {
         steps.print_time();
     }
+    for steps in all_steps().iter().filter(|it| it.is_batch()) {
+        steps.print_copied_time();
+    }
     for members in SIZES {
         print_copy_time(&format!("copy_{members}"), &founder(members).0);
     }
@@ -153,6 +179,9 @@ pub fn measure_all() {
 pub fn measure_bytes() {
     for steps in all_steps() {
         steps.print_held();
+    }
+    for steps in all_steps().iter().filter(|it| it.is_batch()) {
+        steps.print_copied_held();
     }
     for members in SIZES {
         print_copy_held(&format!("copy_{members}"), &founder(members).0);

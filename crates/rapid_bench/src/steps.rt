@@ -72,6 +72,14 @@ impl<R: Print + Clock + Files + Alloc> Bench<'_, R> {
         self.taken(&mut nodes, events)
     }
 
+    /// How much a run takes, in which this many copies of a node are made and take the events.
+    fn run_copied(&self, node: &Node, events: &[Event], count: usize) -> Result<u64> {
+        let before = self.meter.read(self.rt)?;
+        let mut nodes = copies(self.alloc, node, count)?;
+        each_takes(&mut nodes, events)?;
+        self.more_than(before)
+    }
+
     /// How much the copies of a run take.
     fn copied(&self, node: &Node) -> Result<u64> {
         let before = self.meter.read(self.rt)?;
@@ -124,6 +132,22 @@ impl<R: Print + Clock + Files + Alloc> Bench<'_, R> {
         self.print_steps(name, node, slice::from_ref(&event), steps)
     }
 
+    /// Prints how much a copy of a node and the step at a batch on it take, about this many a run.
+    fn print_copied_batch(
+        &self,
+        name: &str,
+        configuration: &Configuration,
+        node: &Node,
+        steps: usize,
+    ) -> Result<()> {
+        let event = alerts_on_one(self.alloc, configuration)?;
+        let mut least = u64::MAX;
+        for _ in 0..self.meter.runs() {
+            least = least.min(self.run_copied(node, slice::from_ref(&event), steps)?);
+        }
+        self.print(name, least / steps.max(1) as u64)
+    }
+
     /// Prints how much a step at a batch of 2,048 alerts takes.
     fn print_great_batch(&self, configuration: &Configuration, node: &Node) -> Result<()> {
         let event = alerts_on_many(self.alloc, configuration.id())?;
@@ -144,6 +168,7 @@ impl<R: Print + Clock + Files + Alloc> Bench<'_, R> {
     fn print_short(&self, configuration: &Configuration, node: &Node) -> Result<()> {
         self.print_votes(configuration, node)?;
         self.print_batch("batch_step", configuration, node, STEPS)?;
+        self.print_copied_batch("copied_batch_step", configuration, node, STEPS)?;
         self.print_ticks(node)?;
         self.print_copy(node)
     }
@@ -152,7 +177,8 @@ impl<R: Print + Clock + Files + Alloc> Bench<'_, R> {
     fn print_long(&self, configuration: &Configuration, node: &mut Node) -> Result<()> {
         self.print_great_batch(configuration, node)?;
         report_many(self.alloc, configuration, node)?;
-        self.print_batch("late_batch_step", configuration, node, LONG_STEPS)
+        self.print_batch("late_batch_step", configuration, node, LONG_STEPS)?;
+        self.print_copied_batch("copied_late_batch_step", configuration, node, LONG_STEPS)
     }
 
     /// Prints the figures of the founder's node.
@@ -191,8 +217,9 @@ fn print_with<R: Print + Clock + Files + Alloc>(rt: &R, alloc: Global, meter: Me
     .print_all(true)
 }
 
-/// Prints the figures of time: `vote_step_5`, `batch_step_5`, `tick_step_5`, `copy_5` and so on,
-/// `great_batch_step_1024` and `late_batch_step_1024`.
+/// Prints the figures of time: `vote_step_5`, `batch_step_5`, `copied_batch_step_5`, `tick_step_5`,
+/// `copy_5` and so on, `great_batch_step_1024`, `late_batch_step_1024` and
+/// `copied_late_batch_step_1024`.
 pub fn print<R: Print + Clock + Files + Alloc>(rt: &R, alloc: Global) -> Result<()> {
     print_with(rt, alloc, Meter::Time(Instant::now(rt)?))
 }
