@@ -97,13 +97,13 @@ def write(crate, twin):
             it.write_text(it.read_text().replace(dotted(crate, twin.folder), dotted(crate, folder)))
 
 
-def check(crate, paths):
+def check(crate, paths, jobs):
     """Checks these functions and modules of a crate, or all of it; how that ended, and the prover's last line."""
-    ran = rt(["check", "--jobs", "1", *(word for it in paths for word in ("--only", it))], crate)
+    ran = rt(["check", "--jobs", str(jobs), *(word for it in paths for word in ("--only", it))], crate)
     return ran, next((it for it in reversed(ran.stdout.splitlines()) if it and not it.startswith("rt: ")), "")
 
 
-def refused_twins(crate, given):
+def refused_twins(crate, given, jobs):
     """The mutants refused as twins; none if the control, a twin with its body as it is, is not proved."""
     made = {stem: it for stem, pairs in given.items() if (it := twin_of(crate, stem, pairs))}
     if not made:
@@ -112,14 +112,14 @@ def refused_twins(crate, given):
     control = twin_of(crate, "control", [(file, old, old)])
     for it in [control, *made.values()]:
         write(crate, it)
-    ran, last = check(crate, [it.name for it in [control, *made.values()]])
+    ran, last = check(crate, [it.name for it in [control, *made.values()]], jobs)
     said = dict(VERDICT.findall(ran.stdout))
     if not ONLY.fullmatch(last) or said.get(control.name) != "proved":
         return set()
     return {stem for stem, it in made.items() if said.get(it.name) in ("not proved", "no proof")}
 
 
-def try_alone(crate, name, pairs):
+def try_alone(crate, name, pairs, jobs):
     """Why a mutant is not refused; nothing if it is. The modules that it changes are tried before the whole crate."""
     for part in SOURCES:
         shutil.rmtree(crate / part, ignore_errors=True)
@@ -131,19 +131,19 @@ def try_alone(crate, name, pairs):
         (crate / file).write_text(text.replace(old, new))
     modules = {"::".join(module_of(file)) for file, _, _ in pairs} - {""}
     for paths in [sorted(modules), []] if modules else [[]]:
-        ran, last = check(crate, paths)
+        ran, last = check(crate, paths, jobs)
         if ran.returncode == 1 and (ONLY.fullmatch(last) or last.startswith("logic=not-proved")):
             return ""
     return "the crate is still proved" if not ran.returncode else f"the prover cannot read it: {ran.stdout[-600:]}"
 
 
-def try_mutants(name, _jobs):
+def try_mutants(name, jobs):
     """Tries a crate's mutants; how many are refused, how many not, and what is wrong with these."""
     given = {it.stem: pairs_of(it) for it in mutants_of(name)}
     with tree_over_libraries(name, "out/incremental", shutil.copy2) as tree:
         crate = folder_of(name, tree)
-        refused = refused_twins(crate, given)
-        whys = {stem: try_alone(crate, name, pairs) for stem, pairs in given.items() if stem not in refused}
+        refused = refused_twins(crate, given, jobs)
+        whys = {stem: try_alone(crate, name, it, jobs) for stem, it in given.items() if stem not in refused}
     said = [f"check: mutant {name}/{stem}: NOT REFUSED: {why}\n" for stem, why in whys.items() if why]
     return len(given) - len(said), len(said), "".join(said)
 
