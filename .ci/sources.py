@@ -92,7 +92,7 @@ def named_in(text):
     return {*WORD.findall(text), *(".".join(it[:end]) for it in modules for end in range(2, len(it) + 1))}
 
 
-def module_of(crate, file, part="specs"):
+def name_of_module(crate, file, part="specs"):
     """How definitions and types of a file are named, below a crate's part."""
     return ".".join(["Rattle", crate, part, *file.relative_to(folder_of(crate)).with_suffix("").parts[1:]])
 
@@ -110,13 +110,13 @@ def known_of(crate):
         is_open = file.stem == "lib" or f"pub mod {file.stem};" in said
         uses = [(f"Rattle.{it[1].rstrip('.')}", {*WORD.findall(it[2])}) for line in lines if (it := USE.match(line))]
         for name, more, text in (it for chunk in chunks_of(lines) for it in known_of_chunk(chunk, modelled)):
-            hidden = f"{module_of(crate, file, 'specs.declared')}.{name}"
+            hidden = f"{name_of_module(crate, file, 'specs.declared')}.{name}"
             named = named_in(text)
             named |= {path for path, names in uses if names & named}
             known.append(({name, *more} if is_open or name in given_out else {hidden}, text, named))
     for file in files_of(folder_of(crate) / "specs"):
         text = "\n".join(said_in(file))
-        known += [({it, module_of(crate, file)}, text, named_in(text)) for it in re.findall(DEFINED, text, re.M)]
+        known += [({it, name_of_module(crate, file)}, text, named_in(text)) for it in re.findall(DEFINED, text, re.M)]
     return [(words, "\n".join(it for it in text.split("\n") if it), named) for words, text, named in known]
 
 
