@@ -35,7 +35,7 @@ abbrev pub alert_of_ref : AlertRef → model.Alert
 alert_of_ref a =
     record {
       observer = a.observer.now;
-      subject = a.subject.now;
+      subject = a.subject;
       ring = a.ring;
       kind = kind_of a.kind;
       config = a.config.now;

@@ -1,7 +1,7 @@
 // Alerts.
 
 use rapid_config::ConfigId;
-use rapid_endpoint::Process;
+use rapid_endpoint::{Process, ProcessRef};
 
 /// What an alert asks for.
 #[derive(Clone, Copy, Debug, PartialEq, Eq)]
@@ -28,12 +28,12 @@ pub struct Alert {
 }
 
 /// An alert whose processes and whose identifier of the configuration stand elsewhere.
-#[derive(Clone, Copy, Debug, PartialEq, Eq)]
+#[derive(Debug, Drop, PartialEq)]
 pub struct AlertRef<'a> {
     /// Who raises it.
     pub observer: &'a Process,
     /// Whom it is on.
-    pub subject: &'a Process,
+    pub subject: ProcessRef<'a>,
     /// The ring on which the observer observes the subject, from 0.
     pub ring: u8,
     /// What it asks for.

@@ -17,16 +17,16 @@ use crate::mark::Marks;
 use crate::ring_mask::has_bit;
 use crate::{Alert, Kind};
 use rapid_config::Cut;
-use rapid_endpoint::{Process, SharedProcess};
+use rapid_endpoint::{KeptProcess, Process, ProcessRef};
 use std::alloc::{AllocError, Global};
 use std::marker::Model;
 
 /// What alerts report, and how many joiners they are on: an entry for each subject, which it shares
-/// with the list of alerts.
+/// with the list of alerts if it has tags.
 #[derive(Debug, Drop)]
 pub(crate) struct Index {
     // by ascending subject
-    marks: Vec<(SharedProcess, Marks)>,
+    marks: Vec<(KeptProcess, Marks)>,
     // how many of the subjects are joiners
     joiners: usize,
 }
@@ -45,18 +45,18 @@ impl Model for Index {
 }
 
 /// The place of a subject's entry among entries that ascend, or the place where it would stand.
-fn find_place(entries: &[(SharedProcess, Marks)], subject: &Process) -> Result<usize, usize>
+fn find_place(entries: &[(KeptProcess, Marks)], subject: &ProcessRef<'_>) -> Result<usize, usize>
     ensures bound { IsSearchInRange result (length entries.now) }
     ensures position { IsBinarySearchResult (λ e. process_cmp e.0 subject.now) entries.now result }
 {
-    entries.binary_search_by(|entry| entry.0.get().cmp(subject))
+    entries.binary_search_by(|entry| entry.0.as_ref().compare(subject))
 }
 
 /// Puts an entry in at this place. If out of memory the entries are as they were.
 fn add_entry(
-    entries: &mut Vec<(SharedProcess, Marks)>,
+    entries: &mut Vec<(KeptProcess, Marks)>,
     at: usize,
-    subject: &SharedProcess,
+    subject: &KeptProcess,
     marks: Marks,
 ) -> Result<(), AllocError>
     requires { at ≤ length entries.old.items }
@@ -67,22 +67,22 @@ fn add_entry(
     if entries.is_empty() {
         entries.reserve_exact(1)?;
     }
-    entries.insert(at, (subject.share()?, marks))?;
+    entries.insert(at, (subject.try_copy()?, marks))?;
     Ok(())
 }
 
 /// Puts the marks of a subject in the place of those that it has, or adds them, which alone takes
 /// memory. If out of memory the entries are as they were.
 fn put_marks(
-    entries: &mut Vec<(SharedProcess, Marks)>,
-    subject: &SharedProcess,
+    entries: &mut Vec<(KeptProcess, Marks)>,
+    subject: &KeptProcess,
     marks: Marks,
 ) -> Result<(), AllocError>
     requires { T (is_sorted process_cmp entries.old.items) }
     ensures ok { OnOk result (entries.new.items ≡ put process_cmp subject.now marks entries.old.items) }
     ensures unchanged { OnErr result (entries.new.items ≡ entries.old.items) }
 {
-    match find_place(entries.as_slice(), subject.get()) {
+    match find_place(entries.as_slice(), &subject.as_ref()) {
         Ok(at) => {
             entries[at].1 = marks;
             Ok(())
@@ -106,7 +106,7 @@ impl Index {
     pub(crate) fn on(&self, subject: &Process) -> Marks
         ensures { IsOn self.now subject.now result }
     {
-        match find_place(&self.marks, subject) {
+        match find_place(&self.marks, &subject.as_ref()) {
             Ok(at) => self.marks[at].1,
             Err(_) => Marks::NONE,
         }
@@ -142,7 +142,7 @@ impl Index {
         alert: &Alert,
         marks: Marks,
         place: u16,
-        subject: &SharedProcess,
+        subject: &KeptProcess,
     ) -> Result<(), AllocError>
         requires ring { alert.now.ring < most_rings }
         requires marks { IsOn self.old alert.now.subject marks }

@@ -5,17 +5,20 @@ ghost use Rattle.std.specs.List.{list_all};
 ghost use Rattle.rapid_model.specs.Message.{AlertItem, item_of};
 ghost use Rattle.rapid_model.specs.Process.{IsProcess};
 ghost use Rattle.rapid_alerts.specs.Alerts.{ArePlaced, alert_of, alert_of_ref, alerts_in, kind_of};
-ghost use Rattle.rapid_alerts.specs.Listing.{Grows, IsSpeltIn};
-ghost use Rattle.rapid_alerts.specs.Spelt.{Adds, Says};
+ghost use Rattle.rapid_alerts.specs.Listing.{Grows, IsAgain, IsSpeltIn};
+ghost use Rattle.rapid_alerts.specs.Spelt.{Adds, IsBefore, Says};
 
 use crate::{Alert, AlertRef, Kind, SpeltError};
 use rapid_config::ConfigId;
-use rapid_endpoint::{Process, SharedProcess};
+use rapid_endpoint::{KeptProcess, Process, ProcessRef, SharedProcess, is_untagged_in_both};
 use std::alloc::{AllocError, Global};
 use std::marker::Model;
 
 /// The most subjects of a list: as many as its places can tell apart.
 const MOST_SUBJECTS: usize = 65_536;
+
+/// How many bytes a process without tags has.
+const UNTAGGED: usize = 23;
 
 /// An alert of a list: its subject's place among the list's subjects, its ring and its kind.
 #[derive(Clone, Copy, Debug, PartialEq, Eq)]
@@ -28,12 +31,13 @@ pub(crate) struct Item {
 /// Alerts of one observer and one configuration, in order.
 ///
 /// Observer and configuration stand once, and so does a subject of alerts that follow each other.
-/// An alert more takes 4 bytes. Whoever takes these processes from it shares them.
+/// An alert more takes 4 bytes, and a subject more takes a block of its own only if it has tags. Whoever
+/// takes these processes from it shares them.
 #[derive(Debug, Drop)]
 pub struct AlertList {
     observer: SharedProcess,
     config: ConfigId,
-    subjects: Vec<SharedProcess>,
+    subjects: Vec<KeptProcess>,
     items: Vec<Item>,
     alloc: Global,
 }
@@ -52,7 +56,7 @@ impl Model for AlertList {
 }
 
 /// Whether this process stands at the place.
-fn is_at(subjects: &[SharedProcess], place: u16, subject: &Process) -> bool
+fn is_at(subjects: &[KeptProcess], place: u16, subject: &ProcessRef<'_>) -> bool
     ensures { result ≡ true → slice_get subjects.now place ≡ Some subject.now }
 {
     match subjects.get(usize::from(place)) {
@@ -62,7 +66,7 @@ fn is_at(subjects: &[SharedProcess], place: u16, subject: &Process) -> bool
 }
 
 /// The place behind this one; behind the last one stands the first.
-fn next_place(subjects: &[SharedProcess], near: u16) -> u16 {
+fn next_place(subjects: &[KeptProcess], near: u16) -> u16 {
     if usize::from(near) + 1 < subjects.len() {
         near.saturating_add(1)
     } else {
@@ -71,7 +75,7 @@ fn next_place(subjects: &[SharedProcess], near: u16) -> u16 {
 }
 
 /// The place of a subject, if it is this place or the next one.
-fn place_near(subjects: &[SharedProcess], near: u16, subject: &Process) -> Option<u16>
+fn place_near(subjects: &[KeptProcess], near: u16, subject: &ProcessRef<'_>) -> Option<u16>
     ensures { IfSome result (λ place. slice_get subjects.now place ≡ Some subject.now) }
 {
     let next = next_place(subjects, near);
@@ -85,18 +89,20 @@ fn place_near(subjects: &[SharedProcess], near: u16, subject: &Process) -> Optio
 }
 
 /// How many bytes the process at this place takes, if it is the one in front of the bytes.
-fn length_spelt(subjects: &[SharedProcess], place: u16, bytes: &[u8]) -> Option<usize>
+fn length_spelt(subjects: &[KeptProcess], place: u16, bytes: &[u8]) -> Option<usize>
     ensures { IfSome result (IsSpeltIn subjects.now place bytes.now) }
 {
-    match subjects.get(usize::from(place)) {
-        Some(subject) if subject.get().is_spelt_at(bytes) => Some(subject.get().length()),
-        _ => None,
+    let subject = subjects.get(usize::from(place))?.as_ref();
+    if subject.is_spelt_at(bytes) {
+        Some(subject.length())
+    } else {
+        None
     }
 }
 
 /// The place of the process in front of the bytes and how many of them it takes, if that is this
 /// place or the next one.
-fn place_spelt(subjects: &[SharedProcess], near: u16, bytes: &[u8]) -> Option<(u16, usize)>
+fn place_spelt(subjects: &[KeptProcess], near: u16, bytes: &[u8]) -> Option<(u16, usize)>
     ensures { IfSome result (λ r. IsSpeltIn subjects.now r.0 bytes.now r.1) }
 {
     if let Some(length) = length_spelt(subjects, near, bytes) {
@@ -106,6 +112,19 @@ fn place_spelt(subjects: &[SharedProcess], near: u16, bytes: &[u8]) -> Option<(u
     match length_spelt(subjects, next, bytes) {
         Some(length) => Some((next, length)),
         None => None,
+    }
+}
+
+/// The place of the last alert's subject, if the same process without tags is in front of both.
+#[inline(always)]
+fn place_again(items: &[Item], bytes: &[u8], before: &[u8]) -> Option<u16>
+    ensures { IfSome result (IsAgain items.now bytes.now before.now) }
+{
+    let last = items.last()?;
+    if is_untagged_in_both(bytes, before) {
+        Some(last.place)
+    } else {
+        None
     }
 }
 
@@ -124,7 +143,7 @@ fn all_stand_before(items: &[Item], count: usize) -> bool
 }
 
 /// Takes the last subject out if no alert is on it. It takes no memory.
-fn trim(subjects: &mut Vec<SharedProcess>, items: &[Item])
+fn trim(subjects: &mut Vec<KeptProcess>, items: &[Item])
     requires { ArePlaced subjects.old.items items.now }
     ensures placed { ArePlaced subjects.new.items items.now }
     ensures grows { Grows subjects.new.items subjects.old.items }
@@ -178,29 +197,25 @@ impl AlertList {
         ensures pushed { OnOk result (self.new ≡ record self.old { items = self.old.items ++ (record { ring = ring; kind = kind_of kind; subject = subject.now }) ∷ [] }) }
         ensures unchanged { OnErr result (self.new ≡ self.old) }
     {
-        match self.push_if_near(near, subject, ring, kind)? {
+        let subject = subject.as_ref();
+        match self.push_if_near(near, &subject, ring, kind)? {
             Some(place) => Ok(place),
             None => {
-                let subject = SharedProcess::new(self.alloc, subject)?;
+                let subject = KeptProcess::new(self.alloc, &subject)?;
                 self.push_behind(subject, ring, kind)
             }
         }
     }
 
-    /// Adds an alert at the end on a subject that is shared, as [`AlertList::push`] does.
-    fn push_shared(
-        &mut self,
-        subject: &SharedProcess,
-        ring: u8,
-        kind: Kind,
-    ) -> Result<(), AllocError>
+    /// Adds an alert at the end on a subject that is kept, as [`AlertList::push`] does.
+    fn push_kept(&mut self, subject: &KeptProcess, ring: u8, kind: Kind) -> Result<(), AllocError>
         ensures pushed { OnOk result (self.new ≡ record self.old { items = self.old.items ++ (record { ring = ring; kind = kind_of kind; subject = subject.now }) ∷ [] }) }
         ensures unchanged { OnErr result (self.new ≡ self.old) }
     {
         let near = self.last_place();
-        let found = self.push_if_near(near, subject.get(), ring, kind)?;
+        let found = self.push_if_near(near, &subject.as_ref(), ring, kind)?;
         if found.is_none() {
-            self.push_behind(subject.share()?, ring, kind)?;
+            self.push_behind(subject.try_copy()?, ring, kind)?;
         }
         Ok(())
     }
@@ -210,7 +225,7 @@ impl AlertList {
     fn push_if_near(
         &mut self,
         near: u16,
-        subject: &Process,
+        subject: &ProcessRef<'_>,
         ring: u8,
         kind: Kind,
     ) -> Result<Option<u16>, AllocError>
@@ -227,12 +242,7 @@ impl AlertList {
 
     /// Adds an alert at the end on a subject that is put behind all others, and says at which place
     /// that is. If it is refused the list is as it was.
-    fn push_behind(
-        &mut self,
-        subject: SharedProcess,
-        ring: u8,
-        kind: Kind,
-    ) -> Result<u16, AllocError>
+    fn push_behind(&mut self, subject: KeptProcess, ring: u8, kind: Kind) -> Result<u16, AllocError>
         ensures pushed { OnOk result (self.new ≡ record self.old { items = self.old.items ++ (record { ring = ring; kind = kind_of kind; subject = subject }) ∷ [] }) }
         ensures unchanged { OnErr result (self.new ≡ self.old) }
     {
@@ -268,6 +278,31 @@ impl AlertList {
         Ok(length)
     }
 
+    /// The same, where the subject of the last alert is in front of other bytes. If both begin with
+    /// the same process without tags, they are only compared with each other.
+    #[inline(always)]
+    pub fn push_spelt_after(
+        &mut self,
+        before: &[u8],
+        ring: u8,
+        kind: Kind,
+        bytes: &[u8],
+    ) -> Result<usize, SpeltError>
+        requires { IsBefore self.old before.now }
+        ensures added { IfOk result (Adds self.old self.new ring (kind_of kind) bytes.now) }
+        ensures within { IfOk result (λ n. n ≤ length bytes.now) }
+        ensures refused { IfErr result (Says bytes.now) }
+        ensures unchanged { OnErr result (self.new ≡ self.old) }
+    {
+        let Some(place) = place_again(&self.items, bytes, before) else {
+            return self.push_spelt(ring, kind, bytes);
+        };
+        let Ok(()) = self.items.push(Item { place, ring, kind }) else {
+            return Err(SpeltError::OutOfMemory);
+        };
+        Ok(UNTAGGED)
+    }
+
     /// The same, where the process is made of the bytes. It stands alone, since this is needed once a
     /// subject.
     #[inline(never)]
@@ -294,7 +329,7 @@ impl AlertList {
         ensures pushed { OnOk result (self.new ≡ record self.old { items = self.old.items ++ (record { ring = ring; kind = kind_of kind; subject = bytes.now }) ∷ [] }) }
         ensures unchanged { OnErr result (self.new ≡ self.old) }
     {
-        let subject = SharedProcess::spelt(self.alloc, bytes)?;
+        let subject = KeptProcess::spelt(self.alloc, bytes)?;
         self.push_behind(subject, ring, kind)?;
         Ok(())
     }
@@ -333,7 +368,7 @@ impl AlertList {
         let item = self.items[at];
         Alert {
             observer: *self.observer.get(),
-            subject: *self.subjects[usize::from(item.place)].get(),
+            subject: self.subjects[usize::from(item.place)].to_process(),
             ring: item.ring,
             kind: item.kind,
             config: self.config,
@@ -349,17 +384,16 @@ impl AlertList {
         let item = &self.items[at];
         AlertRef {
             observer: self.observer.get(),
-            subject: self.subjects[usize::from(item.place)].get(),
+            subject: self.subjects[usize::from(item.place)].as_ref(),
             ring: item.ring,
             kind: item.kind,
             config: &self.config,
         }
     }
 
-    /// The subject of an alert, by its place in the list from 0. It can be shared, which takes no
-    /// memory.
+    /// The subject of an alert, by its place in the list from 0. To copy it takes no memory.
     #[inline(always)]
-    pub fn shared_subject(&self, at: usize) -> &SharedProcess
+    pub fn subject(&self, at: usize) -> &KeptProcess
         requires { at < length (alerts_in self.now) }
         ensures { slice_get (map (λ a. a.subject) (alerts_in self.now)) at ≡ Some result.now }
     {
@@ -430,7 +464,7 @@ impl AlertList {
         for done in 0..count {
             let at = from + done;
             let alert = self.alert_ref(at);
-            part.push_shared(self.shared_subject(at), alert.ring, alert.kind)?;
+            part.push_kept(self.subject(at), alert.ring, alert.kind)?;
         }
         Ok(part)
     }

@@ -54,7 +54,7 @@ fn check<T: ObserverTable>(table: &T, owner: &Process, alert: &Alert) -> (bool, 
     let (member, observes) = table.member_and_observes_near(
         owner,
         alert.ring,
-        &alert.subject,
+        &alert.subject.as_ref(),
         &mut place,
     );
     let is_own = alert.observer == *owner && alert.ring < table.params().k() && observes;
@@ -190,7 +190,7 @@ impl<T: ObserverTable> Outbox<T> {
         let place = self
             .raised
             .push_near(marks.place, &alert.subject, alert.ring, alert.kind)?;
-        let subject = self.raised.shared_subject(at);
+        let subject = self.raised.subject(at);
         match self.index.add(alert, marks, place, subject) {
             Ok(()) => Ok(()),
             Err(error) => {

@@ -15,7 +15,7 @@ use crate::reading::{check_head, chunk_at, members_in};
 use crate::spelling::spell;
 use crate::told::tell_bytes;
 use crate::{ConfigError, ConfigId, Cut, Params, Stamp};
-use rapid_endpoint::{Process, ProcessId};
+use rapid_endpoint::{Process, ProcessId, ProcessRef};
 use sha2::{Digest, Sha256};
 use std::alloc::{AllocError, Global};
 use std::marker::Model;
@@ -193,6 +193,14 @@ impl Configuration {
 
     /// The place of a member, from 0, by identifier; none for another process.
     pub fn position(&self, process: &Process) -> Option<usize>
+        ensures place { result ≡ position_of self.now process.now }
+        ensures within { IfSome result (λ place. place < length self.now.members) }
+    {
+        self.place(&process.as_ref())
+    }
+
+    /// What [`Configuration::position`] answers, for a process however it is kept.
+    pub fn place(&self, process: &ProcessRef<'_>) -> Option<usize>
         ensures place { result ≡ position_of self.now process.now }
         ensures within { IfSome result (λ place. place < length self.now.members) }
     {

@@ -11,7 +11,7 @@ ghost use Rattle.rapid_config.specs.Faults.{ReportsOfFounders};
 use crate::ConfigError;
 use crate::endpoints::endpoints_differ;
 use crate::told::tell_processes;
-use rapid_endpoint::{Process, ProcessId};
+use rapid_endpoint::{Process, ProcessId, ProcessRef};
 use std::alloc::{AllocError, Global};
 use std::sync::ArcSlice;
 
@@ -97,7 +97,7 @@ pub(crate) fn identifiers_of(
 pub(crate) fn place_of(
     identifiers: &[ProcessId],
     members: &[Process],
-    process: &Process,
+    process: &ProcessRef<'_>,
 ) -> Option<usize>
     requires ascend { IsTrue (identifiers_ascend members.now) }
     requires identifiers { identifiers.now ≡ map identifier members.now }
@@ -106,7 +106,7 @@ pub(crate) fn place_of(
 {
     match identifiers.binary_search(&process.id()) {
         Ok(place) => {
-            if *process == members[place] {
+            if process.is(&members[place].as_ref()) {
                 Some(place)
             } else {
                 None

@@ -188,14 +188,17 @@ adds_one old new s k mask one adds =
     adds x ∙ ap (λ b. (same_bytes s x.0 && b) || set.contains old x) (one x.1) ∙ ap (λ b. b || set.contains old x) (sym (is_this x s k)) ∙ sym (set.contains-insert reports_total old (s, k) x))
 
 -- and a mask of none adds none
-pub adds_none : (old new : Reports) (s : Process) (mask : ℕ) → mask ≡ 0 → AddsRings s mask old new → new ≡ old
-adds_none old new s mask z adds =
-    set.same_set reports_total reports_exact _ _ (λ x.
-    adds x ∙ ap (λ b. (same_bytes s x.0 && b) || set.contains old x) (ap (λ m. has_ring m x.1) z ∙ no_ring x.1) ∙ ap (λ b. b || set.contains old x) (and_false (same_bytes s x.0)))
+-- reports for no rings are none
+pub adds_nothing : (old : Reports) (s : Process) (mask : ℕ) → mask ≡ 0 → AddsRings s mask old old
+adds_nothing old s mask z x =
+    sym (ap (λ b. (same_bytes s x.0 && b) || set.contains old x) (ap (λ m. has_ring m x.1) z ∙ no_ring x.1) ∙ ap (λ b. b || set.contains old x) (and_false (same_bytes s x.0)))
   where
     and_false : (b : Bool) → (b && false) ≡ false
     and_false true = refl
     and_false false = refl
+
+pub adds_none : (old new : Reports) (s : Process) (mask : ℕ) → mask ≡ 0 → AddsRings s mask old new → new ≡ old
+adds_none old new s mask z adds = set.same_set reports_total reports_exact _ _ (λ x. adds x ∙ sym (adds_nothing old s mask z x))
 
 -- ---- those that come to L reports
 

@@ -1,5 +1,5 @@
 -- Lists of masks, and what a change of one entry makes of them.
-use Rattle.std.proofs.Common.{◌≡◌, ℕ, zero, suc, ◌+◌, ◌<◌, Bool, true, false, cond, List, [], ◌∷◌, ◌++◌, length, take, set, get_or, Option, Some, None, is_some, refl, sym, ap, ◌∙◌, arith}
+use Rattle.std.proofs.Common.{◌≡◌, ℕ, zero, suc, ◌+◌, ◌<◌, Bool, true, false, cond, List, [], ◌∷◌, ◌++◌, length, take, set, get_or, Option, Some, None, is_some, refl, sym, ap, subst, ◌∙◌, arith}
 use Rattle.std.proofs.lemmas.List.{take_more, append-nil}
 use Rattle.rapid_model.specs.Process.{Process, same_bytes}
 use Rattle.rapid_model.proofs.Orders.{same_bytes_decides}
@@ -135,15 +135,6 @@ module _ (es : List (Process × Masks)) (s : Process) where
   pub in_front : (place : ℕ) (d : Process × Masks) (ys : List (Process × Masks)) → StandsAt es s place → masks_at (es ++ ys) s ≡ Some (get_or es place d).1
   in_front place d ys h = beside es ys s ∙ ap (λ o. first_of o (masks_at ys s)) (found_at place d h)
 
-pub none_in_nothing : (ys : List (Process × Masks)) → length ys ≡ 0 → (q : Process) → masks_at ys q ≡ None
-none_in_nothing [] h q = refl
-none_in_nothing (y ∷ ys) h q = cc
-
--- nothing behind a list
-pub alone : (es ys : List (Process × Masks)) → length ys ≡ 0 → (q : Process) → masks_at es q ≡ masks_at (es ++ ys) q
-alone es [] h q = ap (λ l. masks_at l q) (sym (append-nil es))
-alone es (y ∷ ys) h q = cc
-
 pub is_none : (o : Option Masks) → is_some o ≡ false → o ≡ None
 is_none None h = refl
 is_none (Some m) h = cc
@@ -172,7 +163,8 @@ pub put_last : (es ys ns : List (Process × Masks)) (s kept : Process) (m : Mask
 put_last es ys ns s kept m same is none q =
     ap (λ xs. masks_at (xs ++ ys) q) (is ∙ ap (λ (p : Process). es ++ (p, m) ∷ []) same) ∙ pushed_before es s m ys none q
 
--- in what took over the list, behind which there was nothing
-pub put_over : (es ys cleared made ns : List (Process × Masks)) (s : Process) (m : Masks) → cleared ≡ [] → length ys ≡ 0 → ((q : Process) → masks_at made q ≡ masks_at es q) → PutsMasks s m made ns → PutsMasks s m (es ++ ys) (cleared ++ ns)
-put_over es ys cleared made ns s m none alone_there as_list put q =
-    ap (λ xs. masks_at (xs ++ ns) q) none ∙ put q ∙ ap (λ o. cond (same_bytes s q) (Some m) o) (as_list q ∙ alone es ys alone_there q)
+-- in what took over both lists, behind which there was nothing
+pub moved : (es fs ms cleared others ns : List (Process × Masks)) (s : Process) (m : Masks) → ms ≡ [] → cleared ≡ [] → others ≡ [] → PutsMasks s m (es ++ fs) ns → PutsMasks s m (es ++ (fs ++ ms)) (cleared ++ (others ++ ns))
+moved es fs ms cleared others ns s m no_more first second put =
+    subst (λ xs. PutsMasks s m xs (cleared ++ (others ++ ns))) (ap (λ l. es ++ l) (sym (append-nil fs) ∙ ap (λ l. fs ++ l) (sym no_more)))
+    (subst (λ ys. PutsMasks s m (es ++ fs) ys) (sym (λ i. first i ++ (second i ++ ns))) put)

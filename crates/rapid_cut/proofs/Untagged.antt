@@ -1,5 +1,5 @@
 -- Processes without tags.
-use Rattle.std.proofs.Common.{◌≡◌, ℕ, ◌≤◌, true, false, ◌&&◌, List, [], ◌∷◌, ◌++◌, length, length-append, drop, sym, ap, ◌∙◌, true≢false, arith}
+use Rattle.std.proofs.Common.{◌≡◌, ℕ, true, ◌&&◌, List, [], ◌∷◌, ◌++◌, length, length-append, drop, sym, ap, ◌∙◌, arith}
 use Rattle.std.specs.Cmp.{both_ways}
 use Rattle.std.proofs.lemmas.Bool.{and_parts, and_from}
 use Rattle.std.proofs.lemmas.List.{append_assoc, take-append-drop, drop-drop}
@@ -7,13 +7,6 @@ use Rattle.rapid_model.specs.Process.{Process, identifier, endpoint, tags_bytes_
 use Rattle.rapid_model.proofs.Orders.{same_bytes_decides}
 use Rattle.rapid_endpoint.specs.Joined.{second_part}
 use Rattle.rapid_cut.specs.Untagged.{front_part, middle_part}
-
--- two bytes or more say that there are tags
-pub longer : (xs : List ℕ) → 2 ≤ length xs → false ≡ same_bytes xs (0 ∷ [])
-longer xs l =
-    both_ways _ _
-    (λ h. absurd (true≢false (sym h)))
-    (λ h. absurd (omega (arith, l, ap length ((same_bytes_decides xs (0 ∷ [])).0 h))))
 
 three_parts : (p : Process) → p ≡ identifier p ++ endpoint p ++ tags_bytes_of p
 three_parts p =

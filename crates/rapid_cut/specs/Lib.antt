@@ -6,6 +6,6 @@ pub mod Limits
 pub mod Listed
 pub mod Masks
 pub mod Merging
-pub mod Others
+pub mod Many
 pub mod Untagged
 pub mod Watching

@@ -6,14 +6,14 @@ ghost use Rattle.rapid_model.specs.Process.{process_cmp};
 ghost use Rattle.rapid_model.specs.InOrder.{in_order};
 ghost use Rattle.rapid_cut.specs.Merging.{PutsBelow};
 
-use rapid_endpoint::SharedProcess;
+use rapid_endpoint::KeptProcess;
 use std::alloc::{AllocError, Global};
 
 /// The same processes ascending, each once.
-pub fn ascending(mut processes: Vec<SharedProcess>) -> Vec<SharedProcess>
+pub fn ascending(mut processes: Vec<KeptProcess>) -> Vec<KeptProcess>
     ensures { result.items ≡ in_order process_cmp processes.items }
 {
-    processes.sort_unstable_by(|one, other| one.get().cmp(other.get()));
+    processes.sort_unstable_by(|one, other| one.as_ref().compare(&other.as_ref()));
     processes.dedup();
     processes
 }
@@ -22,9 +22,9 @@ pub fn ascending(mut processes: Vec<SharedProcess>) -> Vec<SharedProcess>
 /// they are, so the second is to be the shorter one.
 pub fn merged(
     alloc: Global,
-    first: &[SharedProcess],
-    second: &[SharedProcess],
-) -> Result<Vec<SharedProcess>, AllocError>
+    first: &[KeptProcess],
+    second: &[KeptProcess],
+) -> Result<Vec<KeptProcess>, AllocError>
     requires first { IsStrictlySortedBy process_cmp first.now }
     requires second { IsStrictlySortedBy process_cmp second.now }
     ensures { IfOk result (λ found. found.items ≡ in_order process_cmp (first.now ++ second.now)) }
@@ -40,10 +40,10 @@ pub fn merged(
 
 /// Adds those of the rest that are below a process, and the process; what is left is above it.
 fn push_below<'a>(
-    found: &mut Vec<SharedProcess>,
-    rest: &'a [SharedProcess],
-    process: &SharedProcess,
-) -> Result<&'a [SharedProcess], AllocError>
+    found: &mut Vec<KeptProcess>,
+    rest: &'a [KeptProcess],
+    process: &KeptProcess,
+) -> Result<&'a [KeptProcess], AllocError>
     requires { IsStrictlySortedBy process_cmp rest.now }
     ensures { IfOk result (λ above. PutsBelow found.old.items rest.now process.now found.new.items above.now) }
 {
@@ -56,16 +56,16 @@ fn push_below<'a>(
         Err(place) => {
             let (below, above) = rest.split_at(place);
             found.extend_with_clones(below)?;
-            found.push(process.share()?)?;
+            found.push(process.try_copy()?)?;
             Ok(above)
         }
     }
 }
 
 /// The place of a process among some that ascend, or the place where it would stand.
-fn place(processes: &[SharedProcess], process: &SharedProcess) -> Result<usize, usize>
+fn place(processes: &[KeptProcess], process: &KeptProcess) -> Result<usize, usize>
     ensures bound { IsSearchInRange result (length processes.now) }
     ensures position { IsBinarySearchResult (λ kept. process_cmp kept process.now) processes.now result }
 {
-    processes.binary_search_by(|kept| kept.get().cmp(process.get()))
+    processes.binary_search_by(|kept| kept.as_ref().compare(&process.as_ref()))
 }

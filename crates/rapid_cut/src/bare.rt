@@ -6,7 +6,7 @@ ghost use Rattle.rapid_cut.specs.Listed.{masks_at, StandsAt};
 
 use crate::few::MORE;
 use crate::mask::Masks;
-use rapid_endpoint::{Endpoint, KeptProcess, Process, ProcessId};
+use rapid_endpoint::{Endpoint, KeptProcess, Process, ProcessId, ProcessRef};
 use std::alloc::{AllocError, Global};
 use std::marker::Model;
 
@@ -34,25 +34,14 @@ impl Model for Bare {
     ghost inverse_ok = { λ b h. λ i. record { id = front_part b.id b.endpoint (0 ∷ []) h.0 i; endpoint = middle_part b.id b.endpoint (0 ∷ []) h.0 h.1 i } };
 }
 
-/// Whether the process has no tags.
-#[inline(always)]
-fn has_no_tags(process: &Process) -> bool
-    ensures { result ≡ same_bytes (tags_bytes_of process.now) (0 ∷ []) }
-{
-    match process.tags().as_bytes() {
-        [only] => *only == 0,
-        _ => false,
-    }
-}
-
 impl Bare {
     /// The process, if it has no tags.
     #[inline(always)]
-    pub fn of(process: &Process) -> Option<Bare>
+    pub fn of(process: &ProcessRef<'_>) -> Option<Bare>
         ensures bare { IfSome result (λ bare. bare ≡ process.now) }
         ensures tagged { IfNone result (tags_bytes_of process.now ≢ 0 ∷ []) }
     {
-        if !has_no_tags(process) {
+        if !process.has_no_tags() {
             return None;
         }
         let id = process.id();
@@ -71,16 +60,16 @@ impl Bare {
 
     /// Whether it is this process. Most others have another identifier.
     #[inline(always)]
-    pub fn is(&self, process: &Process) -> bool
+    pub fn is(&self, process: &ProcessRef<'_>) -> bool
         ensures { result ≡ same_bytes process.now self.now }
     {
-        process.id() == self.id && process.endpoint() == self.endpoint && has_no_tags(process)
+        process.id() == self.id && process.endpoint() == self.endpoint && process.has_no_tags()
     }
 }
 
 /// The place of the first entry of a process, if there is one.
 #[inline(always)]
-pub fn place_in(entries: &[(Bare, Masks)], subject: &Process) -> Option<usize>
+pub fn place_in(entries: &[(Bare, Masks)], subject: &ProcessRef<'_>) -> Option<usize>
     ensures found { IfSome result (StandsAt entries.now subject.now) }
     ensures none { IfNone result (masks_at entries.now subject.now ≡ None) }
 {
@@ -132,7 +121,7 @@ pub fn kept(
     let mut kept = Vec::new(alloc);
     for (subject, masks) in entries {
         let process = subject.to_process();
-        kept.push((KeptProcess::new(alloc, &process)?, *masks))?;
+        kept.push((KeptProcess::new(alloc, &process.as_ref())?, *masks))?;
     }
     Ok(kept)
 }

@@ -17,12 +17,12 @@ use crate::mask::{Masks, count, with};
 use crate::reports::KnownReports;
 use crate::subject::Subject;
 use rapid_alerts::{bit, has_bit};
-use rapid_endpoint::{Process, SharedProcess};
+use rapid_endpoint::{KeptProcess, Process, ProcessRef};
 use rapid_rings::ObserverTable;
 use std::alloc::{AllocError, Global};
 
 /// The number of reports on the process, direct and implied.
-pub fn tally<T: ObserverTable>(table: &T, reports: &KnownReports, subject: &Process) -> usize
+pub fn tally<T: ObserverTable>(table: &T, reports: &KnownReports, subject: &ProcessRef<'_>) -> usize
     ensures { result ≡ model.tally (T.observers table.now) reports.now.all subject.now }
 {
     count(reports.on(subject).all, table.params().k())
@@ -34,9 +34,9 @@ pub fn active_with<T: ObserverTable>(
     alloc: Global,
     table: &T,
     reports: &KnownReports,
-    before: &[SharedProcess],
-    grown: &[SharedProcess],
-) -> Result<Vec<SharedProcess>, AllocError>
+    before: &[KeptProcess],
+    grown: &[KeptProcess],
+) -> Result<Vec<KeptProcess>, AllocError>
     requires rules { AreObservers (T.observers table.now) }
     requires low { (q : Bytes) → model.reaches_low (T.observers table.now) reports.now.direct (Some q) ≡ (is_in before.now q || is_in grown.now q) }
     requires before { IsStrictlySortedBy process_cmp before.now }
@@ -57,7 +57,11 @@ pub fn is_low<T: ObserverTable>(table: &T, mask: u16) -> bool
 }
 
 /// Whether the process has at least L direct reports.
-fn reaches_low<T: ObserverTable>(table: &T, reports: &KnownReports, subject: &Process) -> bool
+fn reaches_low<T: ObserverTable>(
+    table: &T,
+    reports: &KnownReports,
+    subject: &ProcessRef<'_>,
+) -> bool
     ensures { result ≡ model.reaches_low (T.observers table.now) reports.now.direct (Some subject.now) }
 {
     is_low(table, reports.on(subject).direct)
@@ -76,7 +80,7 @@ fn is_observer_low<T: ObserverTable>(
 {
     let (_, observer) = table.member_and_observer_near(ring, subject, place);
     match observer {
-        Some(observer) => reaches_low(table, reports, &observer),
+        Some(observer) => reaches_low(table, reports, &observer.as_ref()),
         None => false,
     }
 }
@@ -118,7 +122,7 @@ fn implied_rings<T: ObserverTable>(
 /// Adds the reports on a process with at least L direct ones that the direct ones imply.
 fn add_implied<T: ObserverTable>(
     table: &T,
-    subject: &SharedProcess,
+    subject: &KeptProcess,
     known: &mut GrowingReports,
 ) -> Result<(), AllocError>
     requires low { model.reaches_low (T.observers table.now) known.old.reports.direct (Some subject.now) ≡ true }
@@ -126,13 +130,13 @@ fn add_implied<T: ObserverTable>(
     ensures added { OnOk result (AddsImplied (T.observers table.now) known.old.reports.direct subject.now known.old.reports.all known.new.reports.all) }
     ensures before { before known.new ≡ before known.old }
 {
-    let process = subject.get();
-    let so_far = known.reports.on(process);
-    let all = implied_rings(table, &known.reports, process, so_far.all);
+    let process = subject.as_ref();
+    let so_far = known.reports.on(&process);
+    let all = implied_rings(table, &known.reports, &subject.to_process(), so_far.all);
     if all == 0 {
         return Ok(());
     }
-    let subject = Subject::new(process, Some(subject));
+    let subject = Subject::new(&process, Some(subject));
     known.add(&subject, so_far, Masks { direct: 0, all })?;
     Ok(())
 }
@@ -142,7 +146,7 @@ fn add_implied<T: ObserverTable>(
 /// is implied.
 fn close<T: ObserverTable>(
     table: &T,
-    subjects: &[SharedProcess],
+    subjects: &[KeptProcess],
     known: &mut GrowingReports,
 ) -> Result<(), AllocError>
     requires rules { AreObservers (T.observers table.now) }
@@ -158,11 +162,11 @@ fn close<T: ObserverTable>(
 }
 
 /// Whether one of these processes may observe someone.
-fn may_any_observe<T: ObserverTable>(table: &T, processes: &[SharedProcess]) -> bool
+fn may_any_observe<T: ObserverTable>(table: &T, processes: &[KeptProcess]) -> bool
     ensures { result ≡ false → (o : Bytes) → is_in processes.now o ≡ true → ObservesNobody (T.observers table.now) o }
 {
     for process in processes {
-        if table.may_observe(process.get()) {
+        if table.may_observe(&process.to_process()) {
             return true;
         }
     }
@@ -170,7 +174,7 @@ fn may_any_observe<T: ObserverTable>(table: &T, processes: &[SharedProcess]) -> 
 }
 
 /// Whether there is one process alone, and no process is its own observer. False says nothing.
-fn is_alone<T: ObserverTable>(table: &T, processes: &[SharedProcess]) -> bool
+fn is_alone<T: ObserverTable>(table: &T, processes: &[KeptProcess]) -> bool
     ensures one { result ≡ true → length processes.now ≡ 1 }
     ensures none { result ≡ true → NoneObservesItself (T.observers table.now) }
 {
@@ -184,8 +188,8 @@ fn is_alone<T: ObserverTable>(table: &T, processes: &[SharedProcess]) -> bool
 #[inline(never)]
 pub fn close_grown<T: ObserverTable>(
     table: &T,
-    active: &[SharedProcess],
-    grown: &[SharedProcess],
+    active: &[KeptProcess],
+    grown: &[KeptProcess],
     known: &mut GrowingReports,
 ) -> Result<(), AllocError>
     requires rules { AreObservers (T.observers table.now) }

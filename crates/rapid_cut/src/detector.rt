@@ -22,16 +22,16 @@ use crate::shared_list::SharedList;
 use crate::taken::{TakenAlerts, take_all};
 use rapid_alerts::{Alert, AlertList};
 use rapid_config::{ConfigError, Cut};
-use rapid_endpoint::{Process, SharedProcess};
+use rapid_endpoint::{KeptProcess, Process};
 use rapid_rings::ObserverTable;
 use std::alloc::{AllocError, Global};
 use std::marker::Model;
 
 /// Whether the process has at least H reports.
-fn is_stable<T: ObserverTable>(table: &T, reports: &KnownReports, subject: &SharedProcess) -> bool
+fn is_stable<T: ObserverTable>(table: &T, reports: &KnownReports, subject: &KeptProcess) -> bool
     ensures { result ≡ model.is_stable (T.observers table.now) reports.now.all subject.now }
 {
-    usize::from(table.params().h()) <= tally(table, reports, subject.get())
+    usize::from(table.params().h()) <= tally(table, reports, &subject.as_ref())
 }
 
 /// The stable ones of these processes.
@@ -39,7 +39,7 @@ fn stable_ones<T: ObserverTable>(
     alloc: Global,
     table: &T,
     reports: &KnownReports,
-    subjects: &[SharedProcess],
+    subjects: &[KeptProcess],
 ) -> Result<Vec<Process>, AllocError>
     ensures { IfOk result (λ found. found.items ≡ filter (model.is_stable (T.observers table.now) reports.now.all) subjects.now) }
 {
@@ -56,14 +56,14 @@ fn stable_among<T: ObserverTable>(
     alloc: Global,
     table: &T,
     reports: &KnownReports,
-    subjects: &[SharedProcess],
+    subjects: &[KeptProcess],
 ) -> Result<Vec<Process>, AllocError>
     ensures { IfOk result (λ found. found.items ≡ filter (model.is_stable (T.observers table.now) reports.now.all) subjects.now) }
 {
     let mut found = Vec::new(alloc);
     for subject in subjects {
         if is_stable(table, reports, subject) {
-            found.push(*subject.get())?;
+            found.push(subject.to_process())?;
         }
     }
     Ok(found)
@@ -74,7 +74,7 @@ fn unstable_ones<T: ObserverTable>(
     alloc: Global,
     table: &T,
     reports: &KnownReports,
-    subjects: &[SharedProcess],
+    subjects: &[KeptProcess],
 ) -> Result<Vec<Process>, AllocError>
     ensures { IfOk result (λ found. found.items ≡ filter (model.is_unstable (T.observers table.now) reports.now.all) subjects.now) }
 {
@@ -92,24 +92,24 @@ fn unstable_among<T: ObserverTable>(
     alloc: Global,
     table: &T,
     reports: &KnownReports,
-    subjects: &[SharedProcess],
+    subjects: &[KeptProcess],
 ) -> Result<Vec<Process>, AllocError>
     ensures { IfOk result (λ found. found.items ≡ filter (model.is_unstable (T.observers table.now) reports.now.all) subjects.now) }
 {
     let mut found = Vec::new(alloc);
     for subject in subjects {
         if is_unstable(table, reports, subject) {
-            found.push(*subject.get())?;
+            found.push(subject.to_process())?;
         }
     }
     Ok(found)
 }
 
 /// Whether the process has at least L reports and fewer than H.
-fn is_unstable<T: ObserverTable>(table: &T, reports: &KnownReports, subject: &SharedProcess) -> bool
+fn is_unstable<T: ObserverTable>(table: &T, reports: &KnownReports, subject: &KeptProcess) -> bool
     ensures { result ≡ model.is_unstable (T.observers table.now) reports.now.all subject.now }
 {
-    let tally = tally(table, reports, subject.get());
+    let tally = tally(table, reports, &subject.as_ref());
     usize::from(table.params().l()) <= tally && tally < usize::from(table.params().h())
 }
 
@@ -117,7 +117,7 @@ fn is_unstable<T: ObserverTable>(table: &T, reports: &KnownReports, subject: &Sh
 fn is_any_unstable<T: ObserverTable>(
     table: &T,
     reports: &KnownReports,
-    subjects: &[SharedProcess],
+    subjects: &[KeptProcess],
 ) -> bool
     ensures { result ≡ list_any (model.is_unstable (T.observers table.now) reports.now.all) subjects.now }
 {
@@ -141,7 +141,7 @@ fn cut_of<T: ObserverTable>(
     alloc: Global,
     table: &T,
     reports: &KnownReports,
-    active: &[SharedProcess],
+    active: &[KeptProcess],
 ) -> Result<Option<Cut>, AllocError>
     requires detecting { IsDetecting (T.observers table.now) reports.now.direct reports.now.all }
     requires active { active.now ≡ active_of (T.observers table.now) reports.now.direct }
@@ -176,7 +176,7 @@ fn settle<T: ObserverTable>(
     table: &T,
     known: &mut GrowingReports,
     active: &mut SharedList,
-    grown: &[SharedProcess],
+    grown: &[KeptProcess],
 ) -> Result<Option<Cut>, AllocError>
     requires rules { AreObservers (T.observers table.now) }
     requires known { IsBetween (T.observers table.now) known.old.reports.direct known.old.reports.all }
@@ -366,7 +366,7 @@ impl<T: ObserverTable> Detector<T> {
     pub fn tally(&self, process: &Process) -> usize
         ensures { result ≡ model.tally (T.observers self.now.table) (model.reports (T.observers self.now.table) self.now.detector.direct) process.now }
     {
-        tally(&self.table, &self.known.reports, process)
+        tally(&self.table, &self.known.reports, &process.as_ref())
     }
 
     /// The processes with at least L reports and fewer than H, ascending.

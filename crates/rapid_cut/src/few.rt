@@ -5,14 +5,14 @@ ghost use Rattle.rapid_model.specs.Process.{Process as Bytes, same_bytes};
 ghost use Rattle.rapid_cut.specs.Listed.{masks_at, StandsAt};
 
 use crate::mask::Masks;
-use rapid_endpoint::{KeptProcess, Process};
+use rapid_endpoint::{KeptProcess, ProcessRef};
 use rapid_rings::ProcessKey;
 use std::alloc::{AllocError, Global};
 use std::collections::HashMap;
 
 /// The place of the first entry of a process, if there is one.
 #[inline(always)]
-pub fn place_in(entries: &[(KeptProcess, Masks)], subject: &Process) -> Option<usize>
+pub fn place_in(entries: &[(KeptProcess, Masks)], subject: &ProcessRef<'_>) -> Option<usize>
     ensures found { IfSome result (StandsAt entries.now subject.now) }
     ensures none { IfNone result (masks_at entries.now subject.now ≡ None) }
 {
@@ -39,29 +39,6 @@ pub fn map_of(
         }
     }
     Ok(map)
-}
-
-/// The masks of a process in a map. It stands apart, as `put_in` and `push_to` do: room for a
-/// process takes time at each call of the function that has it.
-#[inline(never)]
-pub fn masks_in(map: &HashMap<ProcessKey, Masks>, subject: &Process) -> Option<Masks>
-    ensures { result ≡ masks_at map.now.entries subject.now }
-{
-    map.get(&ProcessKey::new(*subject)).copied()
-}
-
-/// Puts these masks of a process in the place of those in a map.
-#[inline(never)]
-pub fn put_in(
-    map: &mut HashMap<ProcessKey, Masks>,
-    subject: &Process,
-    masks: Masks,
-) -> Result<(), AllocError>
-    ensures put { OnOk result ((q : Bytes) → masks_at map.new.entries q ≡ (if same_bytes subject.now q then Some masks else masks_at map.old.entries q)) }
-    ensures unchanged { OnErr result (map.new.entries ≡ map.old.entries) }
-{
-    map.insert(ProcessKey::new(*subject), masks)?;
-    Ok(())
 }
 
 /// Adds the masks of a process at the end. The first takes no more room than it needs: most lists
@@ -98,7 +75,7 @@ pub fn copy_of(
 }
 
 /// Adds the same entries.
-fn share_all(
+pub fn share_all(
     copy: &mut Vec<(KeptProcess, Masks)>,
     entries: &[(KeptProcess, Masks)],
 ) -> Result<(), AllocError>
@@ -110,7 +87,7 @@ fn share_all(
     Ok(())
 }
 
-/// Up to this many processes have their masks in a list. For so few it costs less than a map to
+/// Up to this many processes have their masks in each list. For so few it costs less than a map to
 /// make, to copy and to search.
 pub const FEW: usize = 32;
 

@@ -74,16 +74,14 @@ impl GrowingReports {
         self.others.clear();
     }
 
-    /// Takes out what was added. That needs no memory. It stands apart: room for the key of a
-    /// process takes time at each call of the function that has it.
+    /// Takes out what was added. That needs no memory. It stands apart, since it is seldom needed.
     #[inline(never)]
     pub fn undo(&mut self)
         ensures reports { self.new.reports ≡ before self.old }
         ensures kept { before self.new ≡ self.new.reports }
     {
         if let Some(added) = &self.last {
-            let subject = added.subject.to_process();
-            self.reports.take_out(&subject, added.rings);
+            self.reports.take_out(&added.subject.as_ref(), added.rings);
         }
         take_out(&mut self.reports, self.others.as_slice());
         self.last = None;
@@ -109,8 +107,7 @@ fn take_out(reports: &mut KnownReports, others: &[Added])
     ensures { reports.new ≡ without_all reports.old others.now }
 {
     for added in others {
-        let subject = added.subject.to_process();
-        reports.take_out(&subject, added.rings);
+        reports.take_out(&added.subject.as_ref(), added.rings);
     }
 }
 

@@ -5,13 +5,13 @@ ghost use Rattle.rapid_model.specs.Alert.{Alert as ModelAlert};
 ghost use Rattle.rapid_alerts.specs.Alerts.{alert_of, alert_of_ref, alerts_in};
 
 use rapid_alerts::{Alert, AlertList, AlertRef};
-use rapid_endpoint::SharedProcess;
+use rapid_endpoint::KeptProcess;
 
-/// An alert, and its subject if that is shared already.
-#[derive(Clone, Copy)]
+/// An alert, and its subject if that is kept already.
+#[derive(Drop)]
 pub struct Turn<'a> {
     pub alert: AlertRef<'a>,
-    pub shared: Option<&'a SharedProcess>,
+    pub kept: Option<&'a KeptProcess>,
 }
 
 /// Alerts, in order.
@@ -27,7 +27,7 @@ pub trait InTurn {
     fn at(&self, place: usize) -> Turn<'_>
         requires { place < length (alerts self.now) }
         ensures alert { slice_get (alerts self.now) place ≡ Some (alert_of_ref result.alert) }
-        ensures shared { IfSome result.shared (λ shared. shared.now ≡ result.alert.subject.now) };
+        ensures kept { IfSome result.kept (λ kept. kept.now ≡ result.alert.subject) };
 }
 
 /// Alerts of any observers and configurations, one by one.
@@ -48,12 +48,12 @@ impl InTurn for EachAlert<'_> {
         Turn {
             alert: AlertRef {
                 observer: &alert.observer,
-                subject: &alert.subject,
+                subject: alert.subject.as_ref(),
                 ring: alert.ring,
                 kind: alert.kind,
                 config: &alert.config,
             },
-            shared: None,
+            kept: None,
         }
     }
 }
@@ -69,7 +69,7 @@ impl InTurn for AlertList {
     fn at(&self, place: usize) -> Turn<'_> {
         Turn {
             alert: self.alert_ref(place),
-            shared: Some(self.shared_subject(place)),
+            kept: Some(self.subject(place)),
         }
     }
 }

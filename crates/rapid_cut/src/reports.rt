@@ -1,18 +1,20 @@
 // The reports that are known.
 
-ghost use Rattle.std.specs.Prelude.{◌≡◌, ℕ, IfOk, OnOk, OnErr};
+ghost use Rattle.std.specs.Prelude.{◌≡◌, ℕ, ◌++◌, [], true, false, None, IfOk, OnOk, OnErr};
 ghost use Rattle.std.specs.FinSet as set;
 ghost use Rattle.rapid_alerts.specs.RingMasks.{has_ring};
 ghost use Rattle.rapid_cut.specs.Growing.{PutsMask, TakesOut};
-ghost use Rattle.rapid_cut.specs.Listed.{PutsMasks};
-ghost use Rattle.rapid_cut.specs.Others.{entries_in, entries_of};
+ghost use Rattle.rapid_cut.specs.Listed.{masks_at, PutsMasks};
+ghost use Rattle.rapid_cut.specs.Known.{known_in};
+ghost use Rattle.rapid_cut.specs.Many.{entries_in, entries_of};
 
-use crate::bare::{Bare, copy_of, place_in, push_to};
+use crate::bare::{Bare, place_in};
 use crate::few::FEW;
+use crate::many::Many;
 use crate::mask::Masks;
-use crate::others::Others;
 use crate::subject::Subject;
-use rapid_endpoint::{KeptProcess, Process, SharedProcess};
+use crate::{bare, few};
+use rapid_endpoint::{KeptProcess, ProcessRef};
 use std::alloc::{AllocError, Global};
 use std::marker::Model;
 
@@ -20,26 +22,27 @@ use std::marker::Model;
 const NONE: Masks = Masks { direct: 0, all: 0 };
 
 /// The direct reports, and all that are known with those that they imply, for the first sixteen
-/// rings. There are masks for each process that is reported on. While these are few and none has
-/// tags, as is most common, they stand in a list that is copied as bytes are.
+/// rings. There are masks for each process that is reported on. While these are few, as is most
+/// common, those without tags stand in a list that is copied as bytes are, and the others in one of
+/// their own. Once one list is full, all stand in a map.
 #[derive(Debug, Drop)]
 pub struct KnownReports {
     bare: Vec<(Bare, Masks)>,
-    // all of them, once there is one with tags, or too many
-    others: Option<Box<Others>>,
+    few: Vec<(KeptProcess, Masks)>,
+    many: Option<Box<Many>>,
     alloc: Global,
 }
 
 impl Model for KnownReports {
     ghost use Rattle.std.specs.Prelude.{◌++◌};
     ghost use Rattle.rapid_cut.specs.Known.{Known, known_code, known_in};
-    ghost use Rattle.rapid_cut.specs.Others.{entries_of};
+    ghost use Rattle.rapid_cut.specs.Many.{entries_of};
 
     ghost Value = { Known };
 
     ghost coded = { known_code };
 
-    ghost view = { λ r. known_in (r.bare.items ++ entries_of r.others) };
+    ghost view = { λ r. known_in (r.bare.items ++ (r.few.items ++ entries_of r.many)) };
 }
 
 impl KnownReports {
@@ -50,50 +53,39 @@ impl KnownReports {
     {
         KnownReports {
             bare: Vec::new(alloc),
-            others: None,
+            few: Vec::new(alloc),
+            many: None,
             alloc,
         }
     }
 
     /// The rings of the reports on the process.
-    pub fn on(&self, subject: &Process) -> Masks
+    pub fn on(&self, subject: &ProcessRef<'_>) -> Masks
         ensures direct { (k : ℕ) → set.contains self.now.direct (subject.now, k) ≡ has_ring result.direct k }
         ensures all { (k : ℕ) → set.contains self.now.all (subject.now, k) ≡ has_ring result.all k }
     {
         if let Some(place) = place_in(self.bare.as_slice(), subject) {
             return self.bare[place].1;
         }
-        match &self.others {
-            Some(others) => others.masks_of(subject).unwrap_or(NONE),
-            None => NONE,
-        }
+        masks_among(self.few.as_slice(), &self.many, subject).unwrap_or(NONE)
     }
 
-    /// The process, to be kept. Unless it is shared already, it is kept as among the others if it is
-    /// there.
+    /// The process, to be kept. Unless it is kept already, it is kept as in the list if it is there.
     pub fn to_keep(&self, subject: &Subject<'_>) -> Result<KeptProcess, AllocError>
         ensures { IfOk result (λ kept. kept ≡ subject.now.process.now) }
     {
-        match &self.others {
-            Some(others) if !subject.is_shared() => others.to_keep(subject),
-            _ => subject.keep(self.alloc),
+        if !subject.is_kept() {
+            if let Some(place) = few::place_in(self.few.as_slice(), subject.get()) {
+                return self.few[place].0.try_copy();
+            }
         }
-    }
-
-    /// The process, to be listed. Unless it is shared already, the others share it if they do so.
-    pub fn to_share(&self, subject: &Subject<'_>) -> Result<SharedProcess, AllocError>
-        ensures { IfOk result (λ shared. shared ≡ subject.now.process.now) }
-    {
-        match &self.others {
-            Some(others) if !subject.is_shared() => others.to_share(subject),
-            _ => subject.share(self.alloc),
-        }
+        subject.keep(self.alloc)
     }
 
     /// Puts these rings in the place of those of the reports on the process, which is kept so.
     pub fn put(
         &mut self,
-        subject: &Process,
+        subject: &ProcessRef<'_>,
         kept: KeptProcess,
         masks: Masks,
     ) -> Result<(), AllocError>
@@ -106,24 +98,33 @@ impl KnownReports {
             self.bare[place].1 = masks;
             return Ok(());
         }
-        if let Some(others) = &mut self.others {
-            others.put(subject, kept, masks)?;
+        if put_among(&mut self.few, &mut self.many, subject, masks)? {
             return Ok(());
         }
-        if self.bare.len() < FEW {
-            if let Some(bare) = Bare::of(subject) {
-                push_to(&mut self.bare, bare, masks)?;
+        if let Some(one) = Bare::of(subject) {
+            if self.bare.len() < FEW {
+                bare::push_to(&mut self.bare, one, masks)?;
                 return Ok(());
             }
+        } else if self.few.len() < FEW {
+            few::push_to(&mut self.few, kept, masks)?;
+            return Ok(());
         }
-        let others = others_with(self.alloc, self.bare.as_slice(), subject, kept, masks)?;
-        self.others = Some(others);
+        let many = many_with(
+            self.alloc,
+            self.bare.as_slice(),
+            self.few.as_slice(),
+            subject,
+            masks,
+        )?;
+        self.many = Some(many);
         self.bare.clear();
+        self.few.clear();
         Ok(())
     }
 
     /// Takes out the reports on the process for these rings. That needs no memory.
-    pub fn take_out(&mut self, subject: &Process, rings: Masks)
+    pub fn take_out(&mut self, subject: &ProcessRef<'_>, rings: Masks)
         ensures direct { TakesOut subject.now rings.direct self.old.direct self.new.direct }
         ensures all { TakesOut subject.now rings.all self.old.all self.new.all }
     {
@@ -131,9 +132,7 @@ impl KnownReports {
             self.bare[place].1 = self.bare[place].1.without(rings);
             return;
         }
-        if let Some(others) = &mut self.others {
-            others.take_out(subject, rings);
-        }
+        take_out_among(&mut self.few, &mut self.many, subject, rings);
     }
 
     /// The same reports.
@@ -141,37 +140,102 @@ impl KnownReports {
         ensures { IfOk result (λ copy. copy ≡ self.now) }
     {
         Ok(KnownReports {
-            bare: copy_of(alloc, self.bare.as_slice())?,
-            others: copied(alloc, &self.others)?,
+            bare: bare::copy_of(alloc, self.bare.as_slice())?,
+            few: few::copy_of(alloc, self.few.as_slice())?,
+            many: copied(alloc, &self.many)?,
             alloc,
         })
     }
 }
 
-/// These entries, with these masks of the process, which is kept so, in the place of those that it
-/// has there.
-#[inline(never)]
-fn others_with(
-    alloc: Global,
-    entries: &[(Bare, Masks)],
-    subject: &Process,
-    kept: KeptProcess,
-    masks: Masks,
-) -> Result<Box<Others>, AllocError>
-    requires { kept ≡ subject.now }
-    ensures { IfOk result (λ others. PutsMasks subject.now masks entries.now (entries_in others.value)) }
+/// The masks of a process in a list or a map.
+#[inline(always)]
+fn masks_among(
+    few: &[(KeptProcess, Masks)],
+    many: &Option<Box<Many>>,
+    subject: &ProcessRef<'_>,
+) -> Option<Masks>
+    ensures { result ≡ masks_at (few.now ++ entries_of many.now) subject.now }
 {
-    let mut others = Others::new(alloc, entries)?;
-    others.put(subject, kept, masks)?;
-    Ok(Box::new(alloc, others)?)
+    if let Some(place) = few::place_in(few, subject) {
+        return Some(few[place].1);
+    }
+    match many {
+        Some(many) => many.masks_of(subject),
+        None => None,
+    }
+}
+
+/// Puts these masks of a process in the place of those that it has in a list, or in a map if there is
+/// one. Whether it did so.
+#[inline(always)]
+fn put_among(
+    few: &mut Vec<(KeptProcess, Masks)>,
+    many: &mut Option<Box<Many>>,
+    subject: &ProcessRef<'_>,
+    masks: Masks,
+) -> Result<bool, AllocError>
+    ensures put { IfOk result (λ put. put ≡ true → PutsMasks subject.now masks (few.old.items ++ entries_of many.old) (few.new.items ++ entries_of many.new)) }
+    ensures none { IfOk result (λ put. put ≡ false → (masks_at few.old.items subject.now ≡ None) × (entries_of many.old ≡ [])) }
+    ensures kept { IfOk result (λ put. put ≡ false → (few.new.items ≡ few.old.items) × (entries_of many.new ≡ entries_of many.old)) }
+    ensures unchanged { OnErr result ((few.new.items ≡ few.old.items) × (entries_of many.new ≡ entries_of many.old)) }
+{
+    if let Some(place) = few::place_in(few.as_slice(), subject) {
+        few[place].1 = masks;
+        return Ok(true);
+    }
+    match many {
+        Some(many) => {
+            many.put(subject, masks)?;
+            Ok(true)
+        }
+        None => Ok(false),
+    }
+}
+
+/// Takes these rings out of the masks of a process in a list or a map.
+#[inline(always)]
+fn take_out_among(
+    few: &mut Vec<(KeptProcess, Masks)>,
+    many: &mut Option<Box<Many>>,
+    subject: &ProcessRef<'_>,
+    rings: Masks,
+)
+    ensures direct { TakesOut subject.now rings.direct (known_in (few.old.items ++ entries_of many.old)).direct (known_in (few.new.items ++ entries_of many.new)).direct }
+    ensures all { TakesOut subject.now rings.all (known_in (few.old.items ++ entries_of many.old)).all (known_in (few.new.items ++ entries_of many.new)).all }
+{
+    if let Some(place) = few::place_in(few.as_slice(), subject) {
+        few[place].1 = few[place].1.without(rings);
+        return;
+    }
+    if let Some(many) = many {
+        many.take_out(subject, rings);
+    }
+}
+
+/// A map of what these lists have, with these masks of the process in the place of those that it has
+/// there.
+#[inline(never)]
+fn many_with(
+    alloc: Global,
+    bare: &[(Bare, Masks)],
+    few: &[(KeptProcess, Masks)],
+    subject: &ProcessRef<'_>,
+    masks: Masks,
+) -> Result<Box<Many>, AllocError>
+    ensures { IfOk result (λ many. PutsMasks subject.now masks (bare.now ++ few.now) (entries_in many.value)) }
+{
+    let mut many = Many::new(alloc, bare, few)?;
+    many.put(subject, masks)?;
+    Ok(Box::new(alloc, many)?)
 }
 
 /// The same masks.
-fn copied(alloc: Global, others: &Option<Box<Others>>) -> Result<Option<Box<Others>>, AllocError>
-    ensures { IfOk result (λ copy. entries_of copy ≡ entries_of others.now) }
+fn copied(alloc: Global, many: &Option<Box<Many>>) -> Result<Option<Box<Many>>, AllocError>
+    ensures { IfOk result (λ copy. entries_of copy ≡ entries_of many.now) }
 {
-    match others {
-        Some(others) => Ok(Some(others.try_copy(alloc)?)),
+    match many {
+        Some(many) => Ok(Some(many.try_copy(alloc)?)),
         None => Ok(None),
     }
 }

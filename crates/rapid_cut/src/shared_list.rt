@@ -2,16 +2,15 @@
 
 ghost use Rattle.std.specs.Prelude.{◌≡◌, [], IfOk};
 
-use rapid_endpoint::SharedProcess;
+use rapid_endpoint::KeptProcess;
 use std::alloc::AllocError;
 use std::marker::Model;
 use std::sync::ArcSlice;
 
-/// Processes, in order. Each is shared, and copies share one list, which never changes. None take
-/// no memory.
+/// Processes, in order. Copies share one list, which never changes. None take no memory.
 #[derive(Debug, Drop)]
 pub struct SharedList {
-    processes: Option<ArcSlice<SharedProcess>>,
+    processes: Option<ArcSlice<KeptProcess>>,
 }
 
 impl Model for SharedList {
@@ -34,7 +33,7 @@ impl SharedList {
     }
 
     /// These processes.
-    pub fn of(processes: Vec<SharedProcess>) -> Result<SharedList, AllocError>
+    pub fn of(processes: Vec<KeptProcess>) -> Result<SharedList, AllocError>
         ensures { IfOk result (λ list. list ≡ processes.items) }
     {
         Ok(SharedList {
@@ -43,7 +42,7 @@ impl SharedList {
     }
 
     /// The processes, in order.
-    pub fn as_slice(&self) -> &[SharedProcess]
+    pub fn as_slice(&self) -> &[KeptProcess]
         ensures { result.now ≡ self.now }
     {
         match &self.processes {

@@ -3,42 +3,42 @@
 ghost use Rattle.std.specs.Prelude.{◌≡◌, is_some, IfOk, IfSome};
 ghost use Rattle.std.specs.Option.{ForSome};
 
-use rapid_endpoint::{KeptProcess, Process, SharedProcess};
+use rapid_endpoint::{KeptProcess, ProcessRef};
 use std::alloc::{AllocError, Global};
 
-/// A process that is reported on. If it is shared already, or has no tags, to keep it takes no memory.
+/// A process that is reported on. If it is kept already, or has no tags, to keep it takes no memory.
 #[derive(Drop)]
 pub struct Subject<'a> {
-    process: &'a Process,
-    shared: Option<&'a SharedProcess>,
-    ghost same: { ForSome shared (λ shared. shared.now ≡ process.now) },
+    process: &'a ProcessRef<'a>,
+    kept: Option<&'a KeptProcess>,
+    ghost same: { ForSome kept (λ kept. kept.now ≡ process.now) },
 }
 
 impl<'a> Subject<'a> {
-    /// The process, which may be shared already.
+    /// The process, which may be kept already.
     #[inline(always)]
-    pub fn new(process: &'a Process, shared: Option<&'a SharedProcess>) -> Subject<'a>
-        requires { IfSome shared (λ shared. shared.now ≡ process.now) }
+    pub fn new(process: &'a ProcessRef<'a>, kept: Option<&'a KeptProcess>) -> Subject<'a>
+        requires { IfSome kept (λ kept. kept.now ≡ process.now) }
         ensures process { result.process.now ≡ process.now }
-        ensures shared { is_some result.shared ≡ is_some shared.entry }
+        ensures kept { is_some result.kept ≡ is_some kept.entry }
     {
-        Subject { process, shared }
+        Subject { process, kept }
     }
 
     /// The process.
     #[inline(always)]
-    pub fn get(&self) -> &Process
+    pub fn get(&self) -> &ProcessRef<'_>
         ensures { result.now ≡ self.now.process.now }
     {
         self.process
     }
 
-    /// Whether it is shared already.
+    /// Whether it is kept already.
     #[inline(always)]
-    pub fn is_shared(&self) -> bool
-        ensures { result ≡ is_some self.now.shared }
+    pub fn is_kept(&self) -> bool
+        ensures { result ≡ is_some self.now.kept }
     {
-        self.shared.is_some()
+        self.kept.is_some()
     }
 
     /// The process, to be kept.
@@ -46,20 +46,9 @@ impl<'a> Subject<'a> {
     pub fn keep(&self, alloc: Global) -> Result<KeptProcess, AllocError>
         ensures { IfOk result (λ kept. kept ≡ self.now.process.now) }
     {
-        match self.shared {
-            Some(shared) => KeptProcess::of(shared),
+        match self.kept {
+            Some(kept) => kept.try_copy(),
             None => KeptProcess::new(alloc, self.process),
-        }
-    }
-
-    /// The process, to be shared.
-    #[inline(always)]
-    pub fn share(&self, alloc: Global) -> Result<SharedProcess, AllocError>
-        ensures { IfOk result (λ kept. kept ≡ self.now.process.now) }
-    {
-        match self.shared {
-            Some(shared) => shared.share(),
-            None => SharedProcess::new(alloc, self.process),
         }
     }
 }

@@ -21,7 +21,7 @@ use crate::reports::KnownReports;
 use crate::subject::Subject;
 use rapid_alerts::{AlertRef, Kind, bit, has_bit};
 use rapid_config::Cut;
-use rapid_endpoint::{Process, SharedProcess};
+use rapid_endpoint::{KeptProcess, ProcessRef};
 use rapid_rings::ObserverTable;
 use std::alloc::{AllocError, Global};
 
@@ -31,12 +31,12 @@ use std::alloc::{AllocError, Global};
 fn check<T: ObserverTable>(table: &T, alert: &AlertRef<'_>, place: &mut usize) -> (bool, bool)
     ensures value { result.0 ≡ model.is_well_formed (T.observers table.now) (alert_of_ref alert.now) }
     ensures ring { result.0 ≡ true → alert.now.ring < most_rings }
-    ensures member { result.1 ≡ (T.observers table.now).is_member alert.now.subject.now }
+    ensures member { result.1 ≡ (T.observers table.now).is_member alert.now.subject }
 {
     let (member, observes) = table.member_and_observes_near(
         alert.observer,
         alert.ring,
-        alert.subject,
+        &alert.subject,
         place,
     );
     let fits = match alert.kind {
@@ -55,7 +55,7 @@ fn check<T: ObserverTable>(table: &T, alert: &AlertRef<'_>, place: &mut usize) -
 fn is_counted<T: ObserverTable>(
     table: &T,
     reports: &KnownReports,
-    subject: &Process,
+    subject: &ProcessRef<'_>,
     member: bool,
     mask: u16,
 ) -> bool
@@ -77,7 +77,7 @@ fn has_room<T: ObserverTable>(
     alert: &AlertRef<'_>,
     counted: bool,
 ) -> bool
-    requires counted { counted ≡ ((T.observers table.now).is_member alert.now.subject.now || is_in (subjects reports.now.direct) alert.now.subject.now) }
+    requires counted { counted ≡ ((T.observers table.now).is_member alert.now.subject || is_in (subjects reports.now.direct) alert.now.subject) }
     requires well_formed { model.is_well_formed (T.observers table.now) (alert_of_ref alert.now) ≡ true }
     requires joiners { joiners ≡ length (detector.joiners (T.observers table.now) reports.now.direct) }
     ensures { result ≡ detector.is_taken (T.observers table.now) reports.now.direct (alert_of_ref alert.now) }
@@ -93,7 +93,7 @@ fn joiners_with<T: ObserverTable>(
     table: &T,
     reports: &KnownReports,
     joiners: usize,
-    subject: &Process,
+    subject: &ProcessRef<'_>,
     counted: bool,
 ) -> usize
     requires counted { counted ≡ ((T.observers table.now).is_member subject.now || is_in (subjects reports.now.direct) subject.now) }
@@ -118,14 +118,14 @@ fn comes_to_low<T: ObserverTable>(table: &T, before: u16, now: u16) -> bool
 /// Lists a process that comes to L reports.
 fn list(
     reports: &KnownReports,
-    grown: &mut Vec<SharedProcess>,
+    grown: &mut Vec<KeptProcess>,
     comes_to_low: bool,
     subject: &Subject<'_>,
 ) -> Result<(), AllocError>
     ensures { OnOk result (grown.new.items ≡ (if comes_to_low then grown.old.items ++ subject.now.process.now ∷ [] else grown.old.items)) }
 {
     if comes_to_low {
-        grown.push(reports.to_share(subject)?)?;
+        grown.push(reports.to_keep(subject)?)?;
     }
     Ok(())
 }
@@ -135,7 +135,7 @@ fn list(
 fn put<T: ObserverTable>(
     table: &T,
     known: &mut GrowingReports,
-    grown: &mut Vec<SharedProcess>,
+    grown: &mut Vec<KeptProcess>,
     subject: &Subject<'_>,
     ring: u8,
     so_far: Masks,
@@ -164,11 +164,11 @@ fn take<T: ObserverTable>(
     table: &T,
     known: &mut GrowingReports,
     joiners: &mut usize,
-    grown: &mut Vec<SharedProcess>,
+    grown: &mut Vec<KeptProcess>,
     place: &mut usize,
     turn: &Turn<'_>,
 ) -> Result<bool, AllocError>
-    requires shared { IfSome turn.now.shared (λ shared. shared.now ≡ turn.now.alert.subject.now) }
+    requires kept { IfSome turn.now.kept (λ kept. kept.now ≡ turn.now.alert.subject) }
     requires joiners { joiners.old ≡ length (detector.joiners (T.observers table.now) known.old.reports.direct) }
     requires room { joiners.old ≤ most_joiners }
     requires known { Includes known.old.reports.all known.old.reports.direct }
@@ -184,7 +184,7 @@ fn take<T: ObserverTable>(
     if !well_formed {
         return Ok(false);
     }
-    let subject = alert.subject;
+    let subject = &alert.subject;
     let so_far = known.reports.on(subject);
     if has_bit(so_far.direct, alert.ring) {
         return Ok(true);
@@ -194,7 +194,7 @@ fn take<T: ObserverTable>(
         return Ok(false);
     }
     *joiners = joiners_with(table, &known.reports, *joiners, subject, counted);
-    let subject = Subject::new(subject, turn.shared);
+    let subject = Subject::new(subject, turn.kept);
     put(table, known, grown, &subject, alert.ring, so_far)?;
     Ok(true)
 }
@@ -207,7 +207,7 @@ pub struct TakenAlerts {
     /// How many alerts are taken.
     pub count: usize,
     /// Those that come to L reports.
-    pub grown: Vec<SharedProcess>,
+    pub grown: Vec<KeptProcess>,
 }
 
 /// Takes the alerts of a batch after these reports.

@@ -1,4 +1,5 @@
 pub mod Ends
+pub mod InBoth
 pub mod Joined
 pub mod Keys
 pub mod OneSpelling

@@ -1,10 +1,14 @@
 // Processes that are kept.
 
 ghost use Rattle.std.specs.Prelude.{◌≡◌, ◌++◌, ◌∷◌, [], IfOk};
-ghost use Rattle.rapid_model.specs.Process.{same_bytes};
+ghost use Rattle.std.specs.Cmp.{partial_equiv_from_equiv};
+ghost use Rattle.std.proofs.lemmas.Cmp.{nat_list_cmp_total, eq_by_cmp_equiv};
+ghost use Rattle.rapid_model.specs.Process.{IsProcess, same_bytes};
 
 use crate::key::Key;
-use crate::{Process, SharedProcess};
+use crate::process::KEY_LENGTH;
+use crate::process_ref::{NO_TAGS, are_same};
+use crate::{Process, ProcessRef, SharedProcess};
 use std::alloc::{AllocError, Global};
 use std::marker::Model;
 
@@ -47,18 +51,47 @@ impl KeptProcess {
     }
 
     /// This process. If it has tags, it takes the memory of one that is shared.
-    pub fn new(alloc: Global, process: &Process) -> Result<KeptProcess, AllocError>
+    pub fn new(alloc: Global, process: &ProcessRef<'_>) -> Result<KeptProcess, AllocError>
         ensures { IfOk result (λ kept. kept ≡ process.now) }
     {
         let tagged = if process.has_no_tags() {
             None
         } else {
-            Some(SharedProcess::new(alloc, process)?)
+            Some(SharedProcess::new(alloc, &process.to_process())?)
         };
         Ok(KeptProcess {
             key: process.key(),
             tagged,
         })
+    }
+
+    /// The process of these bytes. If it has tags, it takes the memory of one that is shared.
+    #[inline(always)]
+    pub fn spelt(alloc: Global, bytes: &[u8]) -> Result<KeptProcess, AllocError>
+        requires { IsProcess bytes.now }
+        ensures { IfOk result (λ kept. kept ≡ bytes.now) }
+    {
+        let Some(key) = Key::read(bytes) else {
+            unreachable!()
+        };
+        let tagged = if are_same(&bytes[KEY_LENGTH..], NO_TAGS) {
+            None
+        } else {
+            Some(SharedProcess::spelt(alloc, bytes)?)
+        };
+        Ok(KeptProcess { key, tagged })
+    }
+
+    /// The process, as one that stands elsewhere.
+    #[inline(always)]
+    pub fn as_ref(&self) -> ProcessRef<'_>
+        ensures { result ≡ self.now }
+    {
+        self.key.tell();
+        match &self.tagged {
+            Some(shared) => shared.get().as_ref(),
+            None => ProcessRef::new(self.key, NO_TAGS),
+        }
     }
 
     /// The process.
@@ -83,13 +116,10 @@ impl KeptProcess {
 
     /// Whether it is this process.
     #[inline(always)]
-    pub fn is(&self, process: &Process) -> bool
+    pub fn is(&self, process: &ProcessRef<'_>) -> bool
         ensures { result ≡ same_bytes process.now self.now }
     {
-        match &self.tagged {
-            Some(shared) => shared.is(process),
-            None => process.has_no_tags() && process.key() == self.key,
-        }
+        process.is(&self.as_ref())
     }
 
     /// The same process. It takes no memory.
@@ -105,5 +135,25 @@ impl KeptProcess {
             key: self.key,
             tagged,
         })
+    }
+}
+
+impl PartialEq for KeptProcess {
+    ghost eq = { same_bytes };
+
+    ghost laws = { partial_equiv_from_equiv (eq_by_cmp_equiv nat_list_cmp_total) };
+
+    #[inline(always)]
+    fn eq(&self, other: &KeptProcess) -> bool {
+        other.is(&self.as_ref())
+    }
+}
+
+impl Clone for KeptProcess {
+    ghost is_clone = { λ a b. b ≡ a };
+
+    #[inline(always)]
+    fn clone(&self) -> Result<KeptProcess, AllocError> {
+        self.try_copy()
     }
 }

@@ -13,13 +13,13 @@ ghost use Rattle.rapid_endpoint.specs.ReadErrors.{Gives};
 
 use crate::key::Key;
 use crate::tag_reading::read_tags;
-use crate::{Endpoint, ParseError, ProcessId, ReadError, Tags, bytes};
+use crate::{Endpoint, ParseError, ProcessId, ProcessRef, ReadError, Tags, bytes};
 use std::alloc::{AllocError, Global};
 use std::cmp::Ordering;
 use std::marker::Model;
 
 /// How many bytes an identifier and an endpoint have.
-const KEY_LENGTH: usize = 22;
+pub(crate) const KEY_LENGTH: usize = 22;
 
 /// A process: an identifier, an endpoint and tags. Processes are ordered by identifier, endpoint and
 /// the bytes of their tags, which is the order of their bytes.
@@ -44,17 +44,6 @@ impl Model for Process {
     ghost use Rattle.rapid_endpoint.specs.Joined.{first_part, second_part};
 
     ghost inverse_ok = { λ p h. λ i. record { key = first_part 22 p.key p.tags h.0 i; tags = second_part 22 p.key p.tags h.0 i } };
-}
-
-/// Whether the bytes begin with these.
-fn begin_with(bytes: &[u8], front: &[u8]) -> bool
-    ensures { (result ≡ true) ↔ (bytes.now ≡ front.now ++ drop (length front.now) bytes.now) }
-{
-    match (front, bytes) {
-        // no tags, as is most common: this calls nothing to compare bytes
-        ([only], [first, ..]) => *first == *only,
-        (front, bytes) => bytes.starts_with(front),
-    }
 }
 
 impl Process {
@@ -123,9 +112,26 @@ impl Process {
         ensures yes { result ≡ true → tags_bytes_of self.now ≡ 0 ∷ [] }
         ensures no { result ≡ false → tags_bytes_of self.now ≢ 0 ∷ [] }
     {
-        match self.tags.as_bytes() {
-            [only] => *only == 0,
-            _ => false,
+        self.as_ref().has_no_tags()
+    }
+
+    /// The process, as one that stands elsewhere.
+    #[inline(always)]
+    pub fn as_ref(&self) -> ProcessRef<'_>
+        ensures { result ≡ self.now }
+    {
+        ProcessRef::new(self.key, self.tags.as_bytes())
+    }
+
+    /// The process of an identifier and an endpoint, and of the bytes of tags.
+    pub(crate) fn of_parts(key: Key, tags: &[u8]) -> Process
+        requires key { length key ≡ 22 }
+        requires process { IsProcess (key ++ tags.now) }
+        ensures { result ≡ key ++ tags.now }
+    {
+        Process {
+            key,
+            tags: Tags::spelt(tags),
         }
     }
 
@@ -166,7 +172,7 @@ impl Process {
         ensures least { 23 ≤ result }
         ensures most { result ≤ 543 }
     {
-        22 + self.tags.as_bytes().len()
+        self.as_ref().length()
     }
 
     /// Appends the bytes to these. If out of memory the identifier and the endpoint may stand there
@@ -176,9 +182,7 @@ impl Process {
         ensures process { IsProcess self.now }
         ensures kept { OnErr result ((bytes.new.items ≡ bytes.old.items) ⊎ (bytes.new.items ≡ bytes.old.items ++ take 22 self.now)) }
     {
-        bytes.extend_from_slice(&self.key_bytes())?;
-        bytes.extend_from_slice(self.tags.as_bytes())?;
-        Ok(())
+        self.as_ref().append_to(bytes)
     }
 
     /// The bytes of the identifier and of the endpoint, over which processes are hashed.
@@ -271,11 +275,7 @@ impl Process {
         ensures read { (result ≡ true) ↔ (process_at bytes.now ≡ Ok (self.now, drop (length self.now) bytes.now)) }
         ensures within { result ≡ true → length self.now ≤ length bytes.now }
     {
-        self.tell();
-        let Some(key) = Key::read(bytes) else {
-            return false;
-        };
-        key == self.key && begin_with(&bytes[KEY_LENGTH..], self.tags().as_bytes())
+        self.as_ref().is_spelt_at(bytes)
     }
 
     /// The value is a process. It does nothing: what it ensures is for proofs.

@@ -205,7 +205,7 @@ impl Host {
         let (_, observes) = rings.member_and_observes_near(
             self.me.get(),
             ring,
-            joiner,
+            &joiner.as_ref(),
             &mut anywhere,
         );
         observes

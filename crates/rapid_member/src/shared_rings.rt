@@ -5,7 +5,7 @@ ghost use Rattle.std.specs.Arc.{arc_value};
 ghost use Rattle.rapid_model.specs.Ring.{observers_of};
 
 use rapid_config::{ConfigId, Params};
-use rapid_endpoint::Process;
+use rapid_endpoint::{Process, ProcessRef};
 use rapid_rings::{ObserverTable, Rings};
 use std::alloc::{AllocError, Global};
 use std::marker::Model;
@@ -86,7 +86,7 @@ impl ObserverTable for SharedRings {
         &self,
         observer: &Process,
         ring: u8,
-        subject: &Process,
+        subject: &ProcessRef<'_>,
         place: &mut usize,
     ) -> (bool, bool) {
         self.rings

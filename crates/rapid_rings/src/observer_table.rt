@@ -5,7 +5,7 @@ ghost use Rattle.rapid_model.specs.Ring.{Observers, AreObservers, observes};
 ghost use Rattle.rapid_rings.specs.Observing.{ObservesNobody, NoneObservesItself};
 
 use rapid_config::{ConfigId, Params};
-use rapid_endpoint::Process;
+use rapid_endpoint::{Process, ProcessRef};
 
 /// Who observes whom in one configuration.
 pub trait ObserverTable {
@@ -63,13 +63,13 @@ pub trait ObserverTable {
         &self,
         observer: &Process,
         ring: u8,
-        subject: &Process,
+        subject: &ProcessRef<'_>,
         place: &mut usize,
     ) -> (bool, bool)
         ensures member { result.0 ≡ (observers self.now).is_member subject.now }
         ensures observes { result.1 ≡ observes (observers self.now) observer.now ring subject.now }
     {
-        let (member, found) = self.member_and_observer_near(ring, subject, place);
+        let (member, found) = self.member_and_observer_near(ring, &subject.to_process(), place);
         (member, found == Some(*observer))
     }
 

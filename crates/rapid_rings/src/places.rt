@@ -9,7 +9,7 @@ ghost use Rattle.rapid_model.specs.Process.{same_bytes};
 ghost use Rattle.rapid_rings.specs.Following.{places_of_new};
 
 use rapid_config::Configuration;
-use rapid_endpoint::Process;
+use rapid_endpoint::{Process, ProcessRef};
 use std::alloc::{AllocError, Global};
 
 /// The place of each of the processes in a configuration, if it is a member.
@@ -120,7 +120,7 @@ fn place_near(configuration: &Configuration, guess: u16, process: &Process) -> O
     ensures { result ≡ position_of configuration.now process.now }
 {
     configuration.tell();
-    match position_near(configuration, usize::from(guess), process) {
+    match position_near(configuration, usize::from(guess), &process.as_ref()) {
         Some(place) => Some(place as u16),
         None => None,
     }
@@ -132,7 +132,7 @@ fn place_near(configuration: &Configuration, guess: u16, process: &Process) -> O
 pub(crate) fn position_near(
     configuration: &Configuration,
     guess: usize,
-    process: &Process,
+    process: &ProcessRef<'_>,
 ) -> Option<usize>
     ensures place { result ≡ position_of configuration.now process.now }
     ensures within { IfSome result (λ place. place < length configuration.now.members) }
@@ -140,17 +140,17 @@ pub(crate) fn position_near(
     if is_at(configuration, guess, process) {
         Some(guess)
     } else {
-        configuration.position(process)
+        configuration.place(process)
     }
 }
 
 // Whether a member is at a place. False says nothing.
-fn is_at(configuration: &Configuration, place: usize, process: &Process) -> bool
+fn is_at(configuration: &Configuration, place: usize, process: &ProcessRef<'_>) -> bool
     ensures place { result ≡ true → position_of configuration.now process.now ≡ Some place }
     ensures within { result ≡ true → place < length configuration.now.members }
 {
     match configuration.members().get(place) {
-        Some(member) => *process == *member,
+        Some(member) => process.is(&member.as_ref()),
         None => false,
     }
 }

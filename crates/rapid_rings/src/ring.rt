@@ -12,7 +12,7 @@ ghost use Rattle.rapid_rings.specs.Following.{places_of_new};
 
 use crate::known_keys::KnownKeys;
 use crate::seats::{Seat, add_seats, seats_at, seats_moved};
-use rapid_endpoint::Process;
+use rapid_endpoint::{Process, ProcessRef};
 use std::alloc::{AllocError, Global};
 use std::cmp::Ordering;
 use std::marker::Model;
@@ -106,7 +106,7 @@ impl Ring {
     {
         member_at(
             members,
-            self.place_of_observer(number, members, place, process, keys),
+            self.place_of_observer(number, members, place, &process.as_ref(), keys),
         )
     }
 
@@ -117,7 +117,7 @@ impl Ring {
         number: u8,
         members: &[Process],
         place: Option<usize>,
-        process: &Process,
+        process: &ProcessRef<'_>,
         keys: &KnownKeys,
     ) -> Option<u16>
         requires order { IsOrder number members.now self.now }
@@ -141,12 +141,14 @@ impl Ring {
         member_at(members, self.place_after(place))
     }
 
-    // The place of the observer of a process that is no member.
+    // The place of the observer of a process that is no member. It stands apart: room for a process
+    // takes time at each call of the function that has it.
+    #[inline(never)]
     fn place_before_stranger(
         &self,
         number: u8,
         members: &[Process],
-        process: &Process,
+        process: &ProcessRef<'_>,
         keys: &KnownKeys,
     ) -> Option<u16>
         requires order { IsOrder number members.now self.now }
@@ -154,7 +156,8 @@ impl Ring {
         requires stranger { position (same_bytes process.now) members.now ≡ None }
         ensures { member_if_any members.now result ≡ model.ring_observer members.now number process.now }
     {
-        let below = self.count_below(members, &keys.key(number, process), process);
+        let process = process.to_process();
+        let below = self.count_below(members, &keys.key(number, &process), &process);
         self.place(previous(below, self.count()))
     }
 

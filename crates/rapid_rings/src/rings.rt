@@ -13,7 +13,7 @@ use crate::known_keys::KnownKeys;
 use crate::places::{places_below, places_in, places_of_strangers, position_near};
 use crate::ring::{NextMembers, Ring, is_member_at};
 use rapid_config::{ConfigId, Configuration, Params};
-use rapid_endpoint::Process;
+use rapid_endpoint::{Process, ProcessRef};
 use std::alloc::{AllocError, Global};
 use std::marker::Model;
 
@@ -187,7 +187,7 @@ impl Rings {
         observer: &Process,
         ring: u8,
         place: Option<usize>,
-        process: &Process,
+        process: &ProcessRef<'_>,
     ) -> bool
         requires { place ≡ position_of self.now process.now }
         ensures { result ≡ observes (observers_of self.now) observer.now ring process.now }
@@ -249,7 +249,7 @@ impl ObserverTable for Rings {
         subject: &Process,
         place: &mut usize,
     ) -> (bool, Option<Process>) {
-        let found = position_near(&self.configuration, *place, subject);
+        let found = position_near(&self.configuration, *place, &subject.as_ref());
         *place = found.unwrap_or(*place);
         (found.is_some(), self.observer_of(ring, found, subject))
     }
@@ -258,7 +258,7 @@ impl ObserverTable for Rings {
         &self,
         observer: &Process,
         ring: u8,
-        subject: &Process,
+        subject: &ProcessRef<'_>,
         place: &mut usize,
     ) -> (bool, bool) {
         let found = position_near(&self.configuration, *place, subject);

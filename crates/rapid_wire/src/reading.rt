@@ -7,6 +7,7 @@ ghost use Rattle.rapid_model.specs.Message.{item_of};
 ghost use Rattle.rapid_model.specs.Reading.{processes_at};
 ghost use Rattle.rapid_endpoint.specs.Ends.{AreAll};
 ghost use Rattle.rapid_alerts.specs.Alerts.{alerts_in, kind_of};
+ghost use Rattle.rapid_alerts.specs.Spelt.{IsBefore};
 ghost use Rattle.rapid_paxos.specs.Reported.{last_of};
 ghost use Rattle.rapid_join.specs.Answers.{NamesObservers, answer_of};
 ghost use Rattle.rapid_message.specs.Bodies.{IsFrom};
@@ -264,17 +265,25 @@ fn read_kind(bytes: &[u8]) -> Result<(Kind, &[u8]), WireFault>
     }
 }
 
-/// Adds the alert in front of the bytes to a list, and says how many bytes it takes.
+/// Adds the alert in front of the bytes to a list. Says how many bytes it takes, and where those of
+/// its subject begin. Those of the subject of the alert before begin in front of `before`: mostly it
+/// is the same.
 #[tactic(auto, using(crate::proofs::Parts::item_within), unfolding(crate::specs::Reading::item_at))]
-fn add_alert(alerts: &mut AlertList, bytes: &[u8]) -> Result<usize, WireFault>
-    ensures added { IfOk result (AddsItem alerts.old alerts.new bytes.now) }
+fn add_alert<'a>(
+    alerts: &mut AlertList,
+    before: &[u8],
+    bytes: &'a [u8],
+) -> Result<(usize, &'a [u8]), WireFault>
+    requires { IsBefore alerts.old before.now }
+    ensures added { IfOk result (λ x. AddsItem alerts.old alerts.new bytes.now x.0) }
+    ensures next { IfOk result (λ x. IsBefore alerts.new x.1.now) }
     ensures refused { IfErr result (λ e. Fails e (item_at bytes.now)) }
-    ensures within { IfOk result (λ n. n ≤ length bytes.now) }
+    ensures within { IfOk result (λ x. x.0 ≤ length bytes.now) }
 {
     let (ring, rest) = read_byte(bytes)?;
     let (kind, rest) = read_kind(rest)?;
-    match alerts.push_spelt(ring, kind, rest) {
-        Ok(length) => Ok(2 + length),
+    match alerts.push_spelt_after(before, ring, kind, rest) {
+        Ok(length) => Ok((2 + length, rest)),
         Err(SpeltError::OutOfMemory) => Err(WireFault::OutOfMemory),
         Err(SpeltError::NoProcess(_)) => Err(WireFault::BadBody),
     }
@@ -292,9 +301,11 @@ fn read_alerts<'a>(
     ensures from { IfOk result (λ x. All (IsFrom observer.now config) (alerts_in x.0)) }
 {
     let mut alerts = AlertList::new(alloc, observer.share()?, config);
+    let mut before: &[u8] = &[];
     let mut rest = bytes;
     for _ in 0..count {
-        let length = add_alert(&mut alerts, rest)?;
+        let (length, subject) = add_alert(&mut alerts, before, rest)?;
+        before = subject;
         rest = rest.split_at(length).1;
     }
     Ok((alerts, rest))

@@ -18,7 +18,7 @@ returns-in_ok-push-in-Err c =
     let xs = c.args.rest.now in
     let p = c.args.process.now in (
       take c.in-Err.place xs,
-      c.in_ok-push-in-Err.ensures.items ∙ ap (λ q. c.extend_with_clones-in-Err.new.self.items ++ q ∷ []) c.in_ok-share-in-Err.ensures
+      c.in_ok-push-in-Err.ensures.items ∙ ap (λ q. c.extend_with_clones-in-Err.new.self.items ++ q ∷ []) c.in_ok-try_copy-in-Err.ensures
           ∙ ap (λ ys. ys ++ p ∷ []) (clones_added _ _ _ c.in_ok-extend_with_clones-in-Err.ensures.items ∙ ap (λ ys. c.args.found.now.items ++ ys) c.split_at-in-Err.ensures.front) ∙ append_assoc c.args.found.now.items (take c.in-Err.place xs) (p ∷ []),
       ap (λ ys. take c.in-Err.place xs ++ p ∷ ys) c.split_at-in-Err.ensures.back ∙ put_at_gap xs p c.in-Err.place c.in-Err.ensures.bound (c.in-Err.ensures.position (rising xs p c.requires)),
     )

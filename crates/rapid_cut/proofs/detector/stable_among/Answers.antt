@@ -11,7 +11,7 @@ loop-subject-preserved g c =
     let s = c.subject-item.result in
     let pushed : c.if-is_stable.found.items ≡ cond c.is_stable.result (ys ++ s ∷ []) ys =
     elim c.if-is_stable.branch [
-      | then-is_stable+in_ok-push w ↦ ap (λ (v : Vec Process Global). v.items) w.found-is ∙ w.in_ok-push.ensures.items ∙ ap (λ p. ys ++ p ∷ []) w.get.ensures ∙ sym (ap (λ b. cond b (ys ++ s ∷ []) ys) w.if-is_stable.true)
+      | then-is_stable+in_ok-push w ↦ ap (λ (v : Vec Process Global). v.items) w.found-is ∙ w.in_ok-push.ensures.items ∙ ap (λ p. ys ++ p ∷ []) w.to_process.ensures ∙ sym (ap (λ b. cond b (ys ++ s ∷ []) ys) w.if-is_stable.true)
       | else-is_stable w ↦ ap (λ (v : Vec Process Global). v.items) w.found-is ∙ sym (ap (λ b. cond b (ys ++ s ∷ []) ys) w.if-is_stable.false)
     ] in
     passes_more (is_stable (g.T.ObserverTable.observers c.args.table.now) c.args.reports.now.all) c.args.subjects.now c.loop-subject.subject-index s c.is_stable.result ys c.if-is_stable.found.items

@@ -11,7 +11,7 @@ loop-subject-preserved g c =
     let s = c.subject-item.result in
     let pushed : c.if-is_unstable.found.items ≡ cond c.is_unstable.result (ys ++ s ∷ []) ys =
     elim c.if-is_unstable.branch [
-      | then-is_unstable+in_ok-push w ↦ ap (λ (v : Vec Process Global). v.items) w.found-is ∙ w.in_ok-push.ensures.items ∙ ap (λ p. ys ++ p ∷ []) w.get.ensures ∙ sym (ap (λ b. cond b (ys ++ s ∷ []) ys) w.if-is_unstable.true)
+      | then-is_unstable+in_ok-push w ↦ ap (λ (v : Vec Process Global). v.items) w.found-is ∙ w.in_ok-push.ensures.items ∙ ap (λ p. ys ++ p ∷ []) w.to_process.ensures ∙ sym (ap (λ b. cond b (ys ++ s ∷ []) ys) w.if-is_unstable.true)
       | else-is_unstable w ↦ ap (λ (v : Vec Process Global). v.items) w.found-is ∙ sym (ap (λ b. cond b (ys ++ s ∷ []) ys) w.if-is_unstable.false)
     ] in
     passes_more (is_unstable (g.T.ObserverTable.observers c.args.table.now) c.args.reports.now.all) c.args.subjects.now c.loop-subject.subject-index s c.is_unstable.result ys c.if-is_unstable.found.items

@@ -8,8 +8,8 @@ pub loop-added-preserved : goal.loop-added-preserved
 loop-added-preserved c =
     let a = c.added-item.result in
     all_next c.loop-added.reports c.take_out.new.self (drop (c.loop-added.added-index + 1) c.args.others.now) a
-    (takes_for c.to_process-subject.result a.subject a.rings.direct c.loop-added.reports.direct c.take_out.new.self.direct c.to_process-subject.ensures c.take_out.ensures.direct)
-    (takes_for c.to_process-subject.result a.subject a.rings.all c.loop-added.reports.all c.take_out.new.self.all c.to_process-subject.ensures c.take_out.ensures.all)
+    (takes_for c.as_ref.result a.subject a.rings.direct c.loop-added.reports.direct c.take_out.new.self.direct c.as_ref.ensures c.take_out.ensures.direct)
+    (takes_for c.as_ref.result a.subject a.rings.all c.loop-added.reports.all c.take_out.new.self.all c.as_ref.ensures c.take_out.ensures.all)
     ∙ ap (without_all c.loop-added.reports) (sym (drop_next c.args.others.now c.loop-added.added-index c.added-item.result c.loop-added-test.true c.added-item.is)) ∙ c.loop-added.invariant
 
 pub returns : goal.returns

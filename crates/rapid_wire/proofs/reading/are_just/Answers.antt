@@ -1,5 +1,4 @@
 use Rattle.std.proofs.Common.{◌<◌, ◌≤◌, length, arith}
-use Rattle.rapid_endpoint.specs.ReadErrors.{fault_of}
 use Rattle.rapid_wire.proofs.Lists.{all_read, not_all_read, none_read}
 use Rattle.rapid_wire.proofs.reading.are_just.Goals as goal
 

@@ -28,4 +28,5 @@ loop-preserved c =
           (ap (λ (l : ListedAlerts). l.items) more) c.loop.invariant.0,
       ap (λ (l : ListedAlerts). l.observer) more ∙ c.loop.invariant.1,
       ap (λ (l : ListedAlerts). l.config) more ∙ c.loop.invariant.2,
+      c.in_ok-length.ensures.next,
     )

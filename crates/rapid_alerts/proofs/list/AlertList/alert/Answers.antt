@@ -19,7 +19,7 @@ returns-clause-item c =
     sym (ap (λ (l : ListedAlerts). slice_get l.items c.args.at) c.self.view_is)
     ∙ item_at_place ss xs c.args.at x s (slice_get_read xs (length xs) c.args.at x refl within c.index-item.ensures)
     (slice_get_read ss (length ss) x.place s refl placed (c.index.ensures ∙ ap (λ n. get_or ss n s) c.from.ensures))
-    ∙ (λ i. let said : AlertItem = record { ring = x.ring; kind = kind_of x.kind; subject = sym c.get-2.ensures i } in Some said)
+    ∙ (λ i. let said : AlertItem = record { ring = x.ring; kind = kind_of x.kind; subject = sym c.to_process.ensures i } in Some said)
 
 pub returns-clause-value : goal.returns-clause-value
 returns-clause-value c =
@@ -35,4 +35,4 @@ returns-clause-value c =
     ∙ alert_at_place seen c.args.at said
     (item_at_place ss xs c.args.at x s (slice_get_read xs (length xs) c.args.at x refl within c.index-item.ensures)
     (slice_get_read ss (length ss) x.place s refl placed (c.index.ensures ∙ ap (λ n. get_or ss n s) c.from.ensures)))
-    ∙ (λ i. let a : model.Alert = record { observer = sym c.get.ensures i; subject = sym c.get-2.ensures i; ring = x.ring; kind = kind_of x.kind; config = c.self.inside.config } in Some a)
+    ∙ (λ i. let a : model.Alert = record { observer = sym c.get.ensures i; subject = sym c.to_process.ensures i; ring = x.ring; kind = kind_of x.kind; config = c.self.inside.config } in Some a)

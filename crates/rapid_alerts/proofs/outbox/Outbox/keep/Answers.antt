@@ -10,8 +10,8 @@ use Rattle.rapid_alerts.proofs.Listing.{last_at, subject_is}
 use Rattle.rapid_alerts.proofs.Raisings.{raised_parts, raised_ring, raised_last, kept_seen, raising_along, outbox_along}
 use Rattle.rapid_alerts.proofs.outbox.Outbox.keep.Goals as goal
 
-pub shared_subject-subject-requires : goal.shared_subject-subject-requires
-shared_subject-subject-requires g c =
+pub subject-subject-requires : goal.subject-subject-requires
+subject-subject-requires g c =
     let observers = g.T.ObserverTable.observers in
     let a = alert_of c.args.alert.now in
     let old = c.self.inside.raised in
@@ -45,7 +45,7 @@ add-requires-clause-subject g c =
     let old = c.self.inside.raised in
     let new = c.push_near.new.self in
     let last = raised_last (observers c.self.inside.table) old new c.self.inside.flushed c.self.inside.index a c.self.invariant.0 c.self.invariant.1 (raising_along observers a c.self.view_is ∙ c.requires.raised) c.in_ok-place.ensures.pushed in
-    subject_is (alerts_in new) c.len-at.result a c.shared_subject-subject.result.now c.shared_subject-subject.ensures
+    subject_is (alerts_in new) c.len-at.result a c.subject-subject.result.now c.subject-subject.ensures
     (last_at (alerts_in old) (alerts_in new) a c.len-at.result last c.len-at.ensures.alerts)
 
 pub invariant_of-self-in-Ok : goal.invariant_of-self-in-Ok

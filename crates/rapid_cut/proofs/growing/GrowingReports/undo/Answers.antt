@@ -14,8 +14,8 @@ returns-clause-reports c =
     elim c.match-self.branch [
       | in-Some w ↦
           ap (λ (g : GrowingReports). without_all g.reports g.others.items) w.self-is ∙ all_next r w.take_out.new.self xs w.in-Some.added
-          (takes_for w.to_process-subject.result w.in-Some.added.subject w.in-Some.added.rings.direct r.direct w.take_out.new.self.direct w.to_process-subject.ensures w.take_out.ensures.direct)
-          (takes_for w.to_process-subject.result w.in-Some.added.subject w.in-Some.added.rings.all r.all w.take_out.new.self.all w.to_process-subject.ensures w.take_out.ensures.all)
+          (takes_for w.as_ref.result w.in-Some.added.subject w.in-Some.added.rings.direct r.direct w.take_out.new.self.direct w.as_ref.ensures w.take_out.ensures.direct)
+          (takes_for w.as_ref.result w.in-Some.added.subject w.in-Some.added.rings.all r.all w.take_out.new.self.all w.as_ref.ensures w.take_out.ensures.all)
           ∙ ap (λ (f : Option Added). without_all r (all_added f xs)) (sym w.in-Some.is)
       | in_default w ↦ ap (λ (g : GrowingReports). without_all g.reports g.others.items) w.self-is ∙ ap (λ (f : Option Added). without_all r (all_added f xs)) (sym w.in_default.is)
     ] in

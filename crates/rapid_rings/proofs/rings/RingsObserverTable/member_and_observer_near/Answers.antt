@@ -8,5 +8,5 @@ use Rattle.rapid_rings.proofs.rings.RingsObserverTable.member_and_observer_near.
 pub returns-clause-member : goal.returns-clause-member
 unfolding observers_of
 returns-clause-member c =
-    c.is_some.ensures ∙ ap is_some (c.position_near-found.ensures.place ∙ ap (λ k. position_of k c.args.subject.now) c.self.view_is)
+    c.is_some.ensures ∙ ap is_some (c.position_near-found.ensures.place ∙ ap (λ k. position_of k c.as_ref.result) c.self.view_is ∙ ap (position_of c.args.self.now) c.as_ref.ensures)
     ∙ in_by_place (same_bytes c.args.subject.now) c.args.self.now.members

@@ -1,0 +1,6 @@
+use Rattle.std.proofs.Common.{sym, ◌∙◌}
+use Rattle.rapid_endpoint.proofs.Keys.{endpoint_is}
+use Rattle.rapid_endpoint.proofs.process_ref.ProcessRef.endpoint.Goals as goal
+
+pub returns : goal.returns
+returns c = rw (← c.self.view_is) (c.endpoint.ensures ∙ sym (endpoint_is c.self.inside.key c.self.inside.tags.now c.self.invariant.0))
