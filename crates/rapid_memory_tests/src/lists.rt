@@ -39,9 +39,9 @@ fn out_of_memory_in_shared_processes(rt: HostRuntime) -> Result<(), Fail> {
 fn out_of_memory_in_kept_processes(rt: HostRuntime) -> Result<(), Fail> {
     for process in &two()? {
         let first = KeptProcess::of(&shared(rt.alloc(), process)?)?;
-        let second = KeptProcess::new(rt.alloc(), process)?;
+        let second = KeptProcess::new(rt.alloc(), &process.as_ref())?;
         let copy = second.try_copy()?;
-        assert!(rt; first.is(process) && second.is(process));
+        assert!(rt; first.is(&process.as_ref()) && second.is(&process.as_ref()));
         assert!(rt; copy.share(rt.alloc())?.is(process));
     }
     Ok(())
@@ -56,7 +56,9 @@ fn spelt(alloc: Global, process: &Process) -> Result<SharedProcess, AllocError> 
 #[test]
 fn out_of_memory_in_processes_made_of_bytes(rt: HostRuntime) -> Result<(), Fail> {
     for process in &two()? {
+        let bytes = process.to_bytes(rt.alloc())?;
         assert!(rt; spelt(rt.alloc(), process)?.is(process));
+        assert!(rt; KeptProcess::spelt(rt.alloc(), &bytes)?.is(&process.as_ref()));
     }
     Ok(())
 }
@@ -173,22 +175,22 @@ fn push_all(list: &mut AlertList, subjects: &[Process]) -> Result<(), AllocError
     Ok(())
 }
 
-/// What shares the subject of the last alert.
-fn last_subject(list: &AlertList) -> Result<Option<SharedProcess>, AllocError> {
+/// A copy of the subject of the last alert.
+fn last_subject(list: &AlertList) -> Result<Option<KeptProcess>, AllocError> {
     match list.len().checked_sub(1) {
-        Some(last) => Ok(Some(list.shared_subject(last).share()?)),
+        Some(last) => Ok(Some(list.subject(last).try_copy()?)),
         None => Ok(None),
     }
 }
 
-/// To share a subject of the list takes no memory.
+/// To copy a subject of the list takes no memory.
 #[test]
 fn out_of_memory_leaves_the_list_that_is_pushed_to_as_it_was(rt: HostRuntime) -> Result<(), Fail> {
     let [one, other] = two()?;
     let mut list = list_on(rt.alloc(), &[])?;
     push_all(&mut list, &[one, one, other])?;
     assert!(rt; list.len() == 3);
-    assert!(rt; matches!(&last_subject(&list)?, Some(last) if last.is(&other)));
+    assert!(rt; matches!(&last_subject(&list)?, Some(last) if last.is(&other.as_ref())));
     Ok(())
 }
 

@@ -87,7 +87,28 @@ fn survives(alloc: Global, body: &Parts) -> Result<bool, Fail> {
     }
 }
 
-const GROWING: [Parts; 8] = [
+/// Six alerts, of which five are on one process.
+const ON_TWO: Parts = (
+    1,
+    &[
+        &ID,
+        &[0, 6, 3, 1],
+        &TWO,
+        &[4, 1],
+        &TWO,
+        &[5, 1],
+        &TWO,
+        &[6, 1],
+        &TWO,
+        &[7, 1],
+        &TWO,
+        &[8, 1],
+        &TAGGED,
+    ],
+);
+
+const GROWING: [Parts; 9] = [
+    ON_TWO,
     (1, &[&ID, &[0, 1], &[3, 1], &TWO]),
     (2, &[&ID, &[0, 2], &TWO, &THREE]),
     (9, &[&TWO, &[1], &ID, &[2], &ONE, &ONE]),

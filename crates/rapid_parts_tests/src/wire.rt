@@ -1,6 +1,7 @@
 // Tests of messages and frames.
 
 mod altered;
+mod batches;
 mod cuts;
 mod frames;
 mod longest;

@@ -91,7 +91,9 @@ fn tags_tell_no_founders_apart(rt: HostRuntime) -> Result<(), Fail> {
 
 /// Whether a process has this place in a configuration, or none.
 fn has_place(configuration: &Configuration, member: &Process, place: Option<usize>) -> bool {
-    configuration.position(member) == place && configuration.is_member(member) == place.is_some()
+    configuration.position(member) == place
+        && configuration.place(&member.as_ref()) == place
+        && configuration.is_member(member) == place.is_some()
 }
 
 const PLACES: [(u16, u16, Option<usize>); 7] = [

@@ -6,7 +6,7 @@ use crate::cut::tables::{Start, table};
 use crate::numbered::{process, shared};
 use rapid_alerts::{Alert, AlertList, Batch, BatchError, Kind, Outbox, RaiseError, Raising};
 use rapid_config::{ConfigId, Params};
-use rapid_endpoint::SharedProcess;
+use rapid_endpoint::KeptProcess;
 use rapid_rings::Table;
 use std::alloc::{AllocError, Global};
 use std::test::Fail;
@@ -296,33 +296,33 @@ fn a_list_has_the_alerts_that_were_pushed(rt: HostRuntime) -> Result<(), Fail> {
     Ok(())
 }
 
-/// What shares the subject of the alert at a place of a list on these; the list is gone then.
+/// A copy of the subject of the alert at a place of a list on these; the list is gone then.
 fn subject_at(
     alloc: Global,
     subjects: &[u16],
     at: usize,
-) -> Result<Option<SharedProcess>, AllocError> {
+) -> Result<Option<KeptProcess>, AllocError> {
     let list = list_on(alloc, subjects)?;
     if at < list.len() {
-        Ok(Some(list.shared_subject(at).share()?))
+        Ok(Some(list.subject(at).try_copy()?))
     } else {
         Ok(None)
     }
 }
 
-/// Whether this shares the process with this number.
-fn shares(one: &Option<SharedProcess>, number: u16) -> bool {
+/// Whether this keeps the process with this number.
+fn keeps(one: &Option<KeptProcess>, number: u16) -> bool {
     match one {
-        Some(one) => one.is(&process(number)),
+        Some(one) => one.is(&process(number).as_ref()),
         None => false,
     }
 }
 
 #[test]
-fn the_subjects_of_a_list_can_be_shared(rt: HostRuntime) -> Result<(), Fail> {
+fn the_subjects_of_a_list_can_be_copied(rt: HostRuntime) -> Result<(), Fail> {
     for (at, subject) in SUBJECTS.iter().enumerate() {
         let one = subject_at(rt.alloc(), &SUBJECTS, at)?;
-        assert!(rt; shares(&one, *subject), "at {at}");
+        assert!(rt; keeps(&one, *subject), "at {at}");
     }
     Ok(())
 }
