@@ -9,6 +9,7 @@ mod hexadecimal;
 mod kept;
 mod lists;
 mod readings;
+mod rosters;
 mod shared;
 mod tags;
 mod texts;

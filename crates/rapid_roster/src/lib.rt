@@ -1,0 +1,6 @@
+//! Lists of distinct processes, in each of which a process is found without going over the list.
+#![tactic(auto)]
+
+mod roster;
+
+pub use roster::Roster;
