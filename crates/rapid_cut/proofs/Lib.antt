@@ -6,6 +6,7 @@ pub mod Active
 pub mod Joiners
 pub mod Fresh
 pub mod Untagged
+pub mod Zipped
 pub mod Listed
 pub mod Masks
 pub mod Counts

@@ -48,7 +48,7 @@ found_from (e ∷ es) s (suc place) d l k f =
     let o = skipped (same_bytes s e.0) e.1 (masks_at (take place es) s) f in
     ap (λ b. cond b (Some e.1) (masks_at es s)) o.0 ∙ found_from es s place d (omega (arith, l)) k o.1
 
-set_from : (es : List (Process × Masks)) (s : Process) (place : ℕ) (d : Process × Masks) (m : Masks) → place < length es → (get_or es place d).0 ≡ s → masks_at (take place es) s ≡ None
+pub set_from : (es : List (Process × Masks)) (s : Process) (place : ℕ) (d : Process × Masks) (m : Masks) → place < length es → (get_or es place d).0 ≡ s → masks_at (take place es) s ≡ None
     → (q : Process) → masks_at (set es place ((get_or es place d).0, m)) q ≡ cond (same_bytes s q) (Some m) (masks_at es q)
 set_from [] s place d m l k f q = absurd (omega (arith, l))
 set_from (e ∷ es) s zero d m l k f q =

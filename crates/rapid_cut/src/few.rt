@@ -1,14 +1,12 @@
 // Masks of a few processes, in a list.
 
 ghost use Rattle.std.specs.Prelude.{◌≡◌, ℕ, ◌++◌, ◌∷◌, [], None, Some, length, IfOk, IfSome, IfNone, OnOk, OnErr, if◌then◌else◌};
-ghost use Rattle.rapid_model.specs.Process.{Process as Bytes, same_bytes};
+ghost use Rattle.rapid_model.specs.Process.{same_bytes};
 ghost use Rattle.rapid_cut.specs.Listed.{masks_at, StandsAt};
 
 use crate::mask::Masks;
 use rapid_endpoint::{KeptProcess, ProcessRef};
-use rapid_rings::ProcessKey;
 use std::alloc::{AllocError, Global};
-use std::collections::HashMap;
 
 /// The place of the first entry of a process, if there is one.
 #[inline(always)]
@@ -22,23 +20,6 @@ pub fn place_in(entries: &[(KeptProcess, Masks)], subject: &ProcessRef<'_>) -> O
         }
     }
     None
-}
-
-/// A map with the masks that the list has.
-pub fn map_of(
-    alloc: Global,
-    entries: &[(KeptProcess, Masks)],
-) -> Result<HashMap<ProcessKey, Masks>, AllocError>
-    ensures { IfOk result (λ map. (q : Bytes) → masks_at map.entries q ≡ masks_at entries.now q) }
-{
-    let mut map = HashMap::new(alloc);
-    for (subject, masks) in entries {
-        let key = ProcessKey::new(subject.to_process());
-        if !map.contains_key(&key) {
-            map.insert(key, *masks)?;
-        }
-    }
-    Ok(map)
 }
 
 /// Adds the masks of a process at the end. The first takes no more room than it needs: most lists

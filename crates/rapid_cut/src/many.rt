@@ -1,25 +1,38 @@
-// Masks of many processes, in a map.
+// Masks of many processes.
 
-ghost use Rattle.std.specs.Prelude.{◌≡◌, ◌++◌, IfOk, OnOk, OnErr};
+ghost use Rattle.std.specs.Prelude.{◌≡◌, ◌++◌, ◌∷◌, [], true, false, None, is_some, IfOk, OnOk, OnErr};
 ghost use Rattle.rapid_model.specs.Process.{Process as Bytes};
 ghost use Rattle.rapid_cut.specs.Growing.{TakesOut};
 ghost use Rattle.rapid_cut.specs.Known.{known_in};
 ghost use Rattle.rapid_cut.specs.Listed.{masks_at, PutsMasks};
-ghost use Rattle.rapid_cut.specs.Many.{entries_in};
 
 use crate::bare::{Bare, kept};
-use crate::few::{map_of, share_all};
+use crate::few::share_all;
 use crate::mask::Masks;
 use rapid_endpoint::{KeptProcess, ProcessRef};
-use rapid_rings::ProcessKey;
+use rapid_roster::Roster;
 use std::alloc::{AllocError, Global};
-use std::collections::HashMap;
+use std::marker::Model;
 
-/// The masks of processes that are too many for a list. They are seldom needed, and their keys take
-/// much room, so what is done with them stands apart.
+/// The masks of processes that are too many for a list that is searched from its front. They are
+/// seldom needed, so what is done with them stands apart.
 #[derive(Debug, Drop)]
 pub struct Many {
-    map: HashMap<ProcessKey, Masks>,
+    subjects: Roster,
+    /// by the subject's place
+    masks: Vec<Masks>,
+}
+
+impl Model for Many {
+    ghost use Rattle.std.specs.Prelude.{◌≡◌, List, length, zip};
+    ghost use Rattle.rapid_model.specs.Process.{Process as ModelProcess};
+    ghost use Rattle.rapid_cut.specs.declared.mask.Masks.{Masks};
+
+    ghost Value = { List (ModelProcess × Masks) };
+
+    ghost view = { λ m. zip m.subjects m.masks.items };
+
+    ghost invariant = { λ m. length m.masks.items ≡ length m.subjects };
 }
 
 impl Many {
@@ -30,55 +43,113 @@ impl Many {
         bare: &[(Bare, Masks)],
         few: &[(KeptProcess, Masks)],
     ) -> Result<Many, AllocError>
-        ensures { IfOk result (λ many. (q : Bytes) → masks_at (entries_in many) q ≡ masks_at (bare.now ++ few.now) q) }
+        ensures { IfOk result (λ many. (q : Bytes) → masks_at many q ≡ masks_at (bare.now ++ few.now) q) }
     {
         let mut all = kept(alloc, bare)?;
         share_all(&mut all, few)?;
-        Ok(Many {
-            map: map_of(alloc, all.as_slice())?,
-        })
+        Many::of(alloc, all.as_slice())
+    }
+
+    /// Nobody has masks.
+    fn none(alloc: Global) -> Many
+        ensures { result ≡ [] }
+    {
+        Many {
+            subjects: Roster::new(alloc),
+            masks: Vec::new(alloc),
+        }
+    }
+
+    /// The masks that the list has.
+    fn of(alloc: Global, entries: &[(KeptProcess, Masks)]) -> Result<Many, AllocError>
+        ensures { IfOk result (λ many. (q : Bytes) → masks_at many q ≡ masks_at entries.now q) }
+    {
+        let mut many = Many::none(alloc);
+        for (subject, masks) in entries {
+            many.put_first(subject, *masks)?;
+        }
+        Ok(many)
     }
 
     /// The masks of the process, if it has some.
     #[inline(never)]
     pub fn masks_of(&self, subject: &ProcessRef<'_>) -> Option<Masks>
-        ensures { result ≡ masks_at (entries_in self.now) subject.now }
+        ensures { result ≡ masks_at self.now subject.now }
     {
-        self.map
-            .get(&ProcessKey::new(subject.to_process()))
-            .copied()
+        self.subjects.tell();
+        match self.subjects.find(subject) {
+            Some(place) => Some(self.masks[place]),
+            None => None,
+        }
     }
 
-    /// Puts these masks of the process in the place of those that it has.
-    #[inline(never)]
-    pub fn put(&mut self, subject: &ProcessRef<'_>, masks: Masks) -> Result<(), AllocError>
-        ensures put { OnOk result (PutsMasks subject.now masks (entries_in self.old) (entries_in self.new)) }
-        ensures unchanged { OnErr result (entries_in self.new ≡ entries_in self.old) }
+    /// Adds the masks of a process that has none.
+    fn push(&mut self, subject: KeptProcess, masks: Masks) -> Result<(), AllocError>
+        requires { masks_at self.old subject ≡ None }
+        ensures pushed { OnOk result (self.new ≡ self.old ++ (subject, masks) ∷ []) }
+        ensures unchanged { OnErr result (self.new ≡ self.old) }
     {
-        self.map
-            .insert(ProcessKey::new(subject.to_process()), masks)?;
+        self.masks.reserve(1)?;
+        self.subjects.push(subject)?;
+        self.masks.push_reserved(masks);
         Ok(())
+    }
+
+    /// Adds the masks of a process, unless it has some.
+    fn put_first(&mut self, subject: &KeptProcess, masks: Masks) -> Result<(), AllocError>
+        ensures there { OnOk result (is_some (masks_at self.old subject.now) ≡ true → self.new ≡ self.old) }
+        ensures added { OnOk result (is_some (masks_at self.old subject.now) ≡ false → PutsMasks subject.now masks self.old self.new) }
+    {
+        match self.masks_of(&subject.as_ref()) {
+            Some(_) => Ok(()),
+            None => {
+                self.push(subject.try_copy()?, masks)?;
+                Ok(())
+            }
+        }
+    }
+
+    /// Puts these masks of the process in the place of those that it has. If it is kept with tags, it
+    /// is shared.
+    #[inline(never)]
+    pub fn put(&mut self, subject: &KeptProcess, masks: Masks) -> Result<(), AllocError>
+        ensures put { OnOk result (PutsMasks subject.now masks self.old self.new) }
+        ensures unchanged { OnErr result (self.new ≡ self.old) }
+    {
+        self.subjects.tell();
+        match self.subjects.find(&subject.as_ref()) {
+            Some(place) => {
+                self.masks[place] = masks;
+                Ok(())
+            }
+            None => {
+                self.push(subject.try_copy()?, masks)?;
+                Ok(())
+            }
+        }
     }
 
     /// Takes these rings out of the masks of the process. That needs no memory.
     #[inline(never)]
     pub fn take_out(&mut self, subject: &ProcessRef<'_>, rings: Masks)
-        ensures direct { TakesOut subject.now rings.direct (known_in (entries_in self.old)).direct (known_in (entries_in self.new)).direct }
-        ensures all { TakesOut subject.now rings.all (known_in (entries_in self.old)).all (known_in (entries_in self.new)).all }
+        ensures direct { TakesOut subject.now rings.direct (known_in self.old).direct (known_in self.new).direct }
+        ensures all { TakesOut subject.now rings.all (known_in self.old).all (known_in self.new).all }
     {
-        let key = ProcessKey::new(subject.to_process());
-        if let Some(masks) = self.map.get_mut(&key) {
-            *masks = masks.without(rings);
+        self.subjects.tell();
+        match self.subjects.find(subject) {
+            Some(place) => self.masks[place] = self.masks[place].without(rings),
+            None => {}
         }
     }
 
     /// The same masks.
     #[inline(never)]
     pub fn try_copy(&self, alloc: Global) -> Result<Box<Many>, AllocError>
-        ensures { IfOk result (λ copy. entries_in copy.value ≡ entries_in self.now) }
+        ensures { IfOk result (λ copy. copy.value ≡ self.now) }
     {
         let copy = Many {
-            map: self.map.clone()?,
+            subjects: self.subjects.try_copy(alloc)?,
+            masks: self.masks.clone()?,
         };
         Ok(Box::new(alloc, copy)?)
     }

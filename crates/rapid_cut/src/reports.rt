@@ -6,7 +6,7 @@ ghost use Rattle.rapid_alerts.specs.RingMasks.{has_ring};
 ghost use Rattle.rapid_cut.specs.Growing.{PutsMask, TakesOut};
 ghost use Rattle.rapid_cut.specs.Listed.{masks_at, PutsMasks};
 ghost use Rattle.rapid_cut.specs.Known.{known_in};
-ghost use Rattle.rapid_cut.specs.Many.{entries_in, entries_of};
+ghost use Rattle.rapid_cut.specs.Many.{entries_of};
 
 use crate::bare::{Bare, place_in};
 use crate::few::FEW;
@@ -24,7 +24,7 @@ const NONE: Masks = Masks { direct: 0, all: 0 };
 /// The direct reports, and all that are known with those that they imply, for the first sixteen
 /// rings. There are masks for each process that is reported on. While these are few, as is most
 /// common, those without tags stand in a list that is copied as bytes are, and the others in one of
-/// their own. Once one list is full, all stand in a map.
+/// their own. Once one list is full, all stand in a third one, in which a process is looked for by a map.
 #[derive(Debug, Drop)]
 pub struct KnownReports {
     bare: Vec<(Bare, Masks)>,
@@ -98,7 +98,7 @@ impl KnownReports {
             self.bare[place].1 = masks;
             return Ok(());
         }
-        if put_among(&mut self.few, &mut self.many, subject, masks)? {
+        if put_among(&mut self.few, &mut self.many, subject, &kept, masks)? {
             return Ok(());
         }
         if let Some(one) = Bare::of(subject) {
@@ -114,7 +114,7 @@ impl KnownReports {
             self.alloc,
             self.bare.as_slice(),
             self.few.as_slice(),
-            subject,
+            &kept,
             masks,
         )?;
         self.many = Some(many);
@@ -148,7 +148,7 @@ impl KnownReports {
     }
 }
 
-/// The masks of a process in a list or a map.
+/// The masks of a process among few or many.
 #[inline(always)]
 fn masks_among(
     few: &[(KeptProcess, Masks)],
@@ -166,15 +166,17 @@ fn masks_among(
     }
 }
 
-/// Puts these masks of a process in the place of those that it has in a list, or in a map if there is
-/// one. Whether it did so.
+/// Puts these masks of a process, which is kept so, in the place of those that it has among few, or
+/// among many if there are many. Whether it did so.
 #[inline(always)]
 fn put_among(
     few: &mut Vec<(KeptProcess, Masks)>,
     many: &mut Option<Box<Many>>,
     subject: &ProcessRef<'_>,
+    kept: &KeptProcess,
     masks: Masks,
 ) -> Result<bool, AllocError>
+    requires { kept.now ≡ subject.now }
     ensures put { IfOk result (λ put. put ≡ true → PutsMasks subject.now masks (few.old.items ++ entries_of many.old) (few.new.items ++ entries_of many.new)) }
     ensures none { IfOk result (λ put. put ≡ false → (masks_at few.old.items subject.now ≡ None) × (entries_of many.old ≡ [])) }
     ensures kept { IfOk result (λ put. put ≡ false → (few.new.items ≡ few.old.items) × (entries_of many.new ≡ entries_of many.old)) }
@@ -186,14 +188,14 @@ fn put_among(
     }
     match many {
         Some(many) => {
-            many.put(subject, masks)?;
+            many.put(kept, masks)?;
             Ok(true)
         }
         None => Ok(false),
     }
 }
 
-/// Takes these rings out of the masks of a process in a list or a map.
+/// Takes these rings out of the masks of a process among few or many.
 #[inline(always)]
 fn take_out_among(
     few: &mut Vec<(KeptProcess, Masks)>,
@@ -213,17 +215,17 @@ fn take_out_among(
     }
 }
 
-/// A map of what these lists have, with these masks of the process in the place of those that it has
+/// What these lists have, with these masks of the process in the place of those that it has
 /// there.
 #[inline(never)]
 fn many_with(
     alloc: Global,
     bare: &[(Bare, Masks)],
     few: &[(KeptProcess, Masks)],
-    subject: &ProcessRef<'_>,
+    subject: &KeptProcess,
     masks: Masks,
 ) -> Result<Box<Many>, AllocError>
-    ensures { IfOk result (λ many. PutsMasks subject.now masks (bare.now ++ few.now) (entries_in many.value)) }
+    ensures { IfOk result (λ many. PutsMasks subject.now masks (bare.now ++ few.now) many.value) }
 {
     let mut many = Many::new(alloc, bare, few)?;
     many.put(subject, masks)?;

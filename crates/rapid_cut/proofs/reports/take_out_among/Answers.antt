@@ -4,7 +4,7 @@ use Rattle.rapid_cut.specs.declared.mask.Masks.{Masks}
 use Rattle.rapid_cut.specs.Growing.{TakesOut}
 use Rattle.rapid_cut.specs.Known.{known_in}
 use Rattle.rapid_cut.specs.Listed.{masks_at, StandsAt}
-use Rattle.rapid_cut.specs.Many.{entries_in, entries_of}
+use Rattle.rapid_cut.specs.Many.{entries_of}
 use Rattle.rapid_cut.proofs.Masks.{takes_some, takes_absent, takes_behind}
 use Rattle.rapid_cut.proofs.Listed.{put_at, in_front, past}
 use Rattle.rapid_cut.proofs.reports.take_out_among.Goals as goal
@@ -27,9 +27,9 @@ returns-in-Some-many-clause-direct c =
     let s = c.args.subject.now in
     let fs = c.args.few.now.items in
     let none : masks_at fs s ≡ None = ap (λ xs. masks_at xs s) (sym c.as_slice.ensures.value) ∙ c.in_default.ensures.none in
-    takes_behind (λ m. m.direct) fs (entries_of c.args.many.now) (entries_in c.take_out.new.self) s c.args.rings.direct none
-    (subst (λ xs. TakesOut s c.args.rings.direct (known_in xs).direct (known_in (entries_in c.take_out.new.self)).direct)
-    (ap entries_in c.deref_mut.ensures.value ∙ ap entries_of (sym c.in-Some-many.is)) c.take_out.ensures.direct)
+    takes_behind (λ m. m.direct) fs (entries_of c.args.many.now) c.take_out.new.self s c.args.rings.direct none
+    (subst (λ xs. TakesOut s c.args.rings.direct (known_in xs).direct (known_in c.take_out.new.self).direct)
+    (c.deref_mut.ensures.value ∙ ap entries_of (sym c.in-Some-many.is)) c.take_out.ensures.direct)
 
 pub returns-in_default-many-clause-direct : goal.returns-in_default-many-clause-direct
 returns-in_default-many-clause-direct c =
@@ -54,9 +54,9 @@ returns-in-Some-many-clause-all c =
     let s = c.args.subject.now in
     let fs = c.args.few.now.items in
     let none : masks_at fs s ≡ None = ap (λ xs. masks_at xs s) (sym c.as_slice.ensures.value) ∙ c.in_default.ensures.none in
-    takes_behind (λ m. m.all) fs (entries_of c.args.many.now) (entries_in c.take_out.new.self) s c.args.rings.all none
-    (subst (λ xs. TakesOut s c.args.rings.all (known_in xs).all (known_in (entries_in c.take_out.new.self)).all)
-    (ap entries_in c.deref_mut.ensures.value ∙ ap entries_of (sym c.in-Some-many.is)) c.take_out.ensures.all)
+    takes_behind (λ m. m.all) fs (entries_of c.args.many.now) c.take_out.new.self s c.args.rings.all none
+    (subst (λ xs. TakesOut s c.args.rings.all (known_in xs).all (known_in c.take_out.new.self).all)
+    (c.deref_mut.ensures.value ∙ ap entries_of (sym c.in-Some-many.is)) c.take_out.ensures.all)
 
 pub returns-in_default-many-clause-all : goal.returns-in_default-many-clause-all
 returns-in_default-many-clause-all c =

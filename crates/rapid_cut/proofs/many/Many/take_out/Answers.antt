@@ -1,56 +1,57 @@
-use Rattle.std.proofs.Common.{◌≡◌, ◌∙◌, ap, sym, refl, subst, cond, Some, None, IsSome}
-use Rattle.std.specs.HashMap.{get}
-use Rattle.std.specs.Option.{option_copied_mut}
+use Rattle.std.proofs.Common.{◌≡◌, ◌∙◌, ap, sym, Some, is_some, zip, set, slice_get, subst}
+use Rattle.std.proofs.lemmas.Option.{slice_get_within}
 use Rattle.rapid_model.specs.Process.{Process, same_bytes}
+use Rattle.rapid_config.proofs.Places.{in_by_place}
+use Rattle.rapid_rings.proofs.Lookups.{found_member}
+use Rattle.rapid_cut.specs.declared.mask.Masks.{Masks}
 use Rattle.rapid_cut.specs.Growing.{TakesOut}
-use Rattle.rapid_cut.specs.Masks.{reports_in}
-use Rattle.rapid_cut.proofs.Masks.{parts, takes_some, takes_absent}
+use Rattle.rapid_cut.specs.Known.{known_in}
+use Rattle.rapid_cut.specs.Listed.{masks_at}
+use Rattle.rapid_cut.proofs.Listed.{found_at}
+use Rattle.rapid_cut.proofs.Masks.{takes_some, takes_absent}
+use Rattle.rapid_cut.proofs.Zipped.{stands, nobody, masks_there, puts_there}
 use Rattle.rapid_cut.proofs.many.Many.take_out.Goals as goal
 
 pub returns-in-Some-clause-direct : goal.returns-in-Some-clause-direct
 returns-in-Some-clause-direct c =
     let s = c.args.subject.now in
-    let map = c.args.self.now.map in
-    let key : c.new-key.result ≡ s = c.new-key.ensures ∙ c.to_process.ensures in
+    let ps = c.self.inside.subjects in
+    let ms = c.self.inside.masks.items in
+    let i = c.in-Some.place in
+    let m = c.index.result.now in
     let less = c.without.result in
-    let at : get same_bytes map s ≡ Some c.in-Some.masks.now =
-    ap (λ (p : Process). get same_bytes map p) (sym key) ∙ sym c.get_mut.ensures.value ∙ ap option_copied_mut c.in-Some.is in
-    let there : Some c.in-Some.masks.now ≡ get same_bytes map c.new-key.result = ap option_copied_mut (sym c.in-Some.is) ∙ c.get_mut.ensures.value in
-    let writes = (c.get_mut.follows.holds less).3 (subst IsSome there refl) in
-    takes_some (λ m. m.direct) map.entries (c.get_mut.follows.lender less).entries s c.in-Some.masks.now less c.args.rings at
-    (λ q. writes.0 q ∙ ap (λ (p : Process). cond (same_bytes p q) (Some less) (get same_bytes map q)) key)
-    c.without.ensures.direct
+    let d : Process × Masks = (s, m) in
+    let at : slice_get ps i ≡ Some s = found_member ps s i (sym c.in-Some.ensures) in
+    let within = slice_get_within ps i s at in
+    let has : masks_at (zip ps ms) s ≡ Some m = found_at (zip ps ms) s i d (stands ps ms i s c.self.invariant c.tell.ensures at) ∙ ap Some (masks_there ps ms i d m c.self.invariant within ∙ sym c.index.ensures) in
+    subst (λ es. TakesOut s c.args.rings.direct (known_in es).direct (known_in (zip ps (set ms i less))).direct) c.self.view_is
+    (takes_some (λ n. n.direct) (zip ps ms) (zip ps (set ms i less)) s m less c.args.rings has (puts_there ps ms i s less c.self.invariant c.tell.ensures at within) c.without.ensures.direct)
 
-pub returns-in_default-clause-direct : goal.returns-in_default-clause-direct
-returns-in_default-clause-direct c =
+pub returns-in-None-clause-direct : goal.returns-in-None-clause-direct
+returns-in-None-clause-direct c =
     let s = c.args.subject.now in
-    let map = c.args.self.now.map in
-    let key : c.new-key.result ≡ s = c.new-key.ensures ∙ c.to_process.ensures in
-    let lacks : get same_bytes map s ≡ None =
-    ap (λ (p : Process). get same_bytes map p) (sym key) ∙ sym c.get_mut.ensures.value ∙ ap option_copied_mut c.in_default.is in
-    subst (λ m. TakesOut s c.args.rings.direct (reports_in (parts (λ n. n.direct) map.entries)) (reports_in (parts (λ n. n.direct) m.entries))) (sym c.get_mut.follows.holds-at-none)
-    (takes_absent (λ m. m.direct) map.entries s c.args.rings.direct lacks)
+    let ps = c.self.inside.subjects in
+    let lacks = nobody ps c.self.inside.masks.items s (sym (in_by_place (same_bytes s) ps) ∙ ap is_some (sym c.in-None.ensures)) in
+    takes_absent (λ n. n.direct) c.args.self.now s c.args.rings.direct (ap (λ es. masks_at es s) (sym c.self.view_is) ∙ lacks)
 
 pub returns-in-Some-clause-all : goal.returns-in-Some-clause-all
 returns-in-Some-clause-all c =
     let s = c.args.subject.now in
-    let map = c.args.self.now.map in
-    let key : c.new-key.result ≡ s = c.new-key.ensures ∙ c.to_process.ensures in
+    let ps = c.self.inside.subjects in
+    let ms = c.self.inside.masks.items in
+    let i = c.in-Some.place in
+    let m = c.index.result.now in
     let less = c.without.result in
-    let at : get same_bytes map s ≡ Some c.in-Some.masks.now =
-    ap (λ (p : Process). get same_bytes map p) (sym key) ∙ sym c.get_mut.ensures.value ∙ ap option_copied_mut c.in-Some.is in
-    let there : Some c.in-Some.masks.now ≡ get same_bytes map c.new-key.result = ap option_copied_mut (sym c.in-Some.is) ∙ c.get_mut.ensures.value in
-    let writes = (c.get_mut.follows.holds less).3 (subst IsSome there refl) in
-    takes_some (λ m. m.all) map.entries (c.get_mut.follows.lender less).entries s c.in-Some.masks.now less c.args.rings at
-    (λ q. writes.0 q ∙ ap (λ (p : Process). cond (same_bytes p q) (Some less) (get same_bytes map q)) key)
-    c.without.ensures.all
+    let d : Process × Masks = (s, m) in
+    let at : slice_get ps i ≡ Some s = found_member ps s i (sym c.in-Some.ensures) in
+    let within = slice_get_within ps i s at in
+    let has : masks_at (zip ps ms) s ≡ Some m = found_at (zip ps ms) s i d (stands ps ms i s c.self.invariant c.tell.ensures at) ∙ ap Some (masks_there ps ms i d m c.self.invariant within ∙ sym c.index.ensures) in
+    subst (λ es. TakesOut s c.args.rings.all (known_in es).all (known_in (zip ps (set ms i less))).all) c.self.view_is
+    (takes_some (λ n. n.all) (zip ps ms) (zip ps (set ms i less)) s m less c.args.rings has (puts_there ps ms i s less c.self.invariant c.tell.ensures at within) c.without.ensures.all)
 
-pub returns-in_default-clause-all : goal.returns-in_default-clause-all
-returns-in_default-clause-all c =
+pub returns-in-None-clause-all : goal.returns-in-None-clause-all
+returns-in-None-clause-all c =
     let s = c.args.subject.now in
-    let map = c.args.self.now.map in
-    let key : c.new-key.result ≡ s = c.new-key.ensures ∙ c.to_process.ensures in
-    let lacks : get same_bytes map s ≡ None =
-    ap (λ (p : Process). get same_bytes map p) (sym key) ∙ sym c.get_mut.ensures.value ∙ ap option_copied_mut c.in_default.is in
-    subst (λ m. TakesOut s c.args.rings.all (reports_in (parts (λ n. n.all) map.entries)) (reports_in (parts (λ n. n.all) m.entries))) (sym c.get_mut.follows.holds-at-none)
-    (takes_absent (λ m. m.all) map.entries s c.args.rings.all lacks)
+    let ps = c.self.inside.subjects in
+    let lacks = nobody ps c.self.inside.masks.items s (sym (in_by_place (same_bytes s) ps) ∙ ap is_some (sym c.in-None.ensures)) in
+    takes_absent (λ n. n.all) c.args.self.now s c.args.rings.all (ap (λ es. masks_at es s) (sym c.self.view_is) ∙ lacks)

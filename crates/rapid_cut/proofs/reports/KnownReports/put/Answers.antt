@@ -4,7 +4,7 @@ use Rattle.rapid_cut.specs.declared.mask.Masks.{Masks}
 use Rattle.rapid_cut.specs.Growing.{PutsMask}
 use Rattle.rapid_cut.specs.Known.{Known, known_in}
 use Rattle.rapid_cut.specs.Listed.{masks_at, StandsAt, PutsMasks}
-use Rattle.rapid_cut.specs.Many.{entries_in, entries_of}
+use Rattle.rapid_cut.specs.Many.{entries_of}
 use Rattle.rapid_cut.proofs.Masks.{puts_in}
 use Rattle.rapid_cut.proofs.Listed.{put_at, put_last, behind, moved}
 use Rattle.rapid_cut.proofs.reports.KnownReports.put.Goals as goal
@@ -59,12 +59,13 @@ returns-clause-direct c =
     let es = c.self.inside.bare.items in
     let fs = c.put_among.new.few.items in
     let ms = entries_of c.put_among.new.many in
-    let ns = entries_in c.in_ok-many.many.value in
+    let ns = c.in_ok-many.many.value in
     let still = c.in_ok-put_among.ensures.kept c.if-branch.false in
     let no_map : ms ≡ [] = still.1 ∙ (c.in_ok-put_among.ensures.none c.if-branch.false).1 in
     known_direct c.args.self.now (es ++ (fs ++ ms)) (c.clear.new.self.items ++ (c.clear-2.new.self.items ++ ns)) s c.args.masks (ap (λ zs. known_in (es ++ zs)) (λ i. still.0 i ++ still.1 i) ∙ c.self.view_is)
     (moved es fs ms c.clear.new.self.items c.clear-2.new.self.items ns s c.args.masks no_map c.clear.ensures.items c.clear-2.ensures.items
-    (subst (λ xs. PutsMasks s c.args.masks xs ns) (λ i. c.as_slice-2.ensures.value i ++ c.as_slice-3.ensures.value i) c.in_ok-many.ensures))
+    (subst (λ xs. PutsMasks s c.args.masks xs ns) (λ i. c.as_slice-2.ensures.value i ++ c.as_slice-3.ensures.value i)
+    (subst (λ (p : Process). PutsMasks p c.args.masks (c.as_slice-2.result.now ++ c.as_slice-3.result.now) ns) c.requires c.in_ok-many.ensures)))
 
 known_all : (r : Known) (es ns : List (Process × Masks)) (s : Process) (m : Masks) → known_in es ≡ r → PutsMasks s m es ns → PutsMask s m.all r.all (known_in ns).all
 known_all r es ns s m e at = subst (λ (k : Known). PutsMask s m.all k.all (known_in ns).all) e (puts_in (λ n. n.all) es ns s m at)
@@ -116,9 +117,10 @@ returns-clause-all c =
     let es = c.self.inside.bare.items in
     let fs = c.put_among.new.few.items in
     let ms = entries_of c.put_among.new.many in
-    let ns = entries_in c.in_ok-many.many.value in
+    let ns = c.in_ok-many.many.value in
     let still = c.in_ok-put_among.ensures.kept c.if-branch.false in
     let no_map : ms ≡ [] = still.1 ∙ (c.in_ok-put_among.ensures.none c.if-branch.false).1 in
     known_all c.args.self.now (es ++ (fs ++ ms)) (c.clear.new.self.items ++ (c.clear-2.new.self.items ++ ns)) s c.args.masks (ap (λ zs. known_in (es ++ zs)) (λ i. still.0 i ++ still.1 i) ∙ c.self.view_is)
     (moved es fs ms c.clear.new.self.items c.clear-2.new.self.items ns s c.args.masks no_map c.clear.ensures.items c.clear-2.ensures.items
-    (subst (λ xs. PutsMasks s c.args.masks xs ns) (λ i. c.as_slice-2.ensures.value i ++ c.as_slice-3.ensures.value i) c.in_ok-many.ensures))
+    (subst (λ xs. PutsMasks s c.args.masks xs ns) (λ i. c.as_slice-2.ensures.value i ++ c.as_slice-3.ensures.value i)
+    (subst (λ (p : Process). PutsMasks p c.args.masks (c.as_slice-2.result.now ++ c.as_slice-3.result.now) ns) c.requires c.in_ok-many.ensures)))
