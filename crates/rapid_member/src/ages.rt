@@ -4,6 +4,7 @@ ghost use Rattle.std.specs.Prelude.{◌≡◌, true, IfOk, OnOk, OnErr};
 ghost use Rattle.std.specs.FinMap as map;
 ghost use Rattle.rapid_model.specs.Tick.{age_of, next_ages};
 
+use crate::aged::Aged;
 use rapid_endpoint::Process;
 use std::alloc::{AllocError, Global};
 use std::collections::BTreeMap;
@@ -18,7 +19,7 @@ const OLDEST: u8 = ECHO_AGE + 1;
 /// At how many successive ticks, at most 41, each process was unstable.
 #[derive(Debug, Drop)]
 pub(crate) struct Ages {
-    ages: BTreeMap<Process, u8>,
+    ages: BTreeMap<Aged, u8>,
     alloc: Global,
 }
 
@@ -46,8 +47,16 @@ impl Ages {
         }
     }
 
-    /// At how many successive ticks the process was unstable.
-    pub(crate) fn of(&self, process: &Process) -> u8
+    /// At how many successive ticks the process was unstable. That needs memory if it has tags.
+    pub(crate) fn of(&self, process: &Process) -> Result<u8, AllocError>
+        ensures { IfOk result (λ age. age ≡ age_of self.now process.now) }
+    {
+        let key = Aged::new(self.alloc, process)?;
+        Ok(self.at(&key))
+    }
+
+    /// The same of a process that is kept.
+    fn at(&self, process: &Aged) -> u8
         ensures { result ≡ age_of self.now process.now }
     {
         self.ages.get(process).copied().unwrap_or(0)
@@ -61,14 +70,15 @@ impl Ages {
         let count = unstable.len();
         let mut next = Ages::new(self.alloc);
         for i in 0..count {
-            let process = unstable[count - 1 - i];
-            next.insert(process, self.of(&process).saturating_add(1).min(OLDEST))?;
+            let process = Aged::new(self.alloc, &unstable[count - 1 - i])?;
+            let age = self.at(&process).saturating_add(1).min(OLDEST);
+            next.insert(process, age)?;
         }
         Ok(next)
     }
 
     /// Sets the age of a process. If out of memory the ages are as they were.
-    fn insert(&mut self, process: Process, age: u8) -> Result<(), AllocError>
+    fn insert(&mut self, process: Aged, age: u8) -> Result<(), AllocError>
         ensures ok { OnOk result (self.new ≡ map.insert self.old process age) }
         ensures unchanged { OnErr result (self.new ≡ self.old) }
     {

@@ -2,6 +2,7 @@
 //! at a tick and with a message. A node, which joins, installs and is removed, is made of it.
 #![tactic(auto)]
 
+mod aged;
 mod ages;
 mod decisions;
 mod joining;

@@ -107,7 +107,7 @@ impl MemberState {
     fn push_due(&self, alerts: &mut Vec<Alert>, process: &Process) -> Result<(), AllocError>
         ensures { OnOk result (map alert_of alerts.new.items ≡ map alert_of alerts.old.items ++ flat_map (tick.echoes self.now) (filter (λ p. tick.age_of self.now.ages p == echo_age) (process.now ∷ []))) }
     {
-        if self.rest.waiting.ages.of(process) == ECHO_AGE {
+        if self.rest.waiting.ages.of(process)? == ECHO_AGE {
             self.push_echoes(alerts, process)?;
         }
         Ok(())

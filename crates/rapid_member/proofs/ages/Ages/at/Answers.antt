@@ -2,7 +2,7 @@ use Rattle.std.proofs.Common.{ap, sym, ◌∙◌, unwrap_or}
 use Rattle.std.specs.FinMap as map
 use Rattle.rapid_model.proofs.Orders.{processes_total}
 use Rattle.rapid_rings.proofs.Sets.{get-lookup}
-use Rattle.rapid_member.proofs.ages.Ages.of.Goals as goal
+use Rattle.rapid_member.proofs.ages.Ages.at.Goals as goal
 
 pub returns : goal.returns
 returns c =
