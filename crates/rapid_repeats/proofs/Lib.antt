@@ -1,4 +1,5 @@
 pub mod Tables
+pub mod Askers
 pub mod Parts
 pub mod Judging
 pub mod Judged

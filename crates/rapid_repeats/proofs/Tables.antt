@@ -1,14 +1,12 @@
 -- Tables of what is kept, by their entries.
-use Rattle.std.proofs.Common.{◌≡◌, ◌⊎◌, inl, inr, List, [], ◌∷◌, ◌++◌, map, All, Contains, Some, Result, Ok, Err, OnOk, OnErr, refl, sym, ap, subst, ◌∙◌}
+use Rattle.std.proofs.Common.{◌≡◌, ◌⊎◌, inl, inr, ℕ, List, [], ◌∷◌, ◌++◌, map, All, Contains, Some, Result, Ok, Err, OnOk, OnErr, refl, sym, ap, subst, ◌∙◌}
 use Rattle.std.specs.declared.cmp.Ordering.{Ordering}
 use Rattle.std.specs.declared.cmp.Ordering.TheVariants.{Less, Equal, Greater}
-use Rattle.std.specs.Ordering.{match_ordering, ordering_then}
-use Rattle.std.specs.Cmp.{IsTotalOrder, then_total, on_total}
+use Rattle.std.specs.Ordering.{match_ordering, ordering_then, nat_cmp}
+use Rattle.std.specs.Cmp.{IsTotalOrder, then_total, on_total, nat_cmp_total}
 use Rattle.std.specs.BTreeMap.{insert_entry}
 use Rattle.std.proofs.lemmas.List.Elements.{All-nil, All-cons, All-head, All-tail, All-weaker, All-map, All-contains, All-contains_itself, Contains-append_left, Contains-append_right, Contains-append_cases, Contains-push}
 use Rattle.std.proofs.lemmas.Map.Lookups.{CmpEqualImpliesEq, exact_pairs, exact_unsigned}
-use Rattle.rapid_model.specs.Process.{Process, process_cmp}
-use Rattle.rapid_model.proofs.Orders.{processes_total, processes_exact}
 use Rattle.rapid_repeats.specs.declared.said.Asked.{Asked}
 use Rattle.rapid_repeats.specs.declared.said.Asked.TheVariants.{Question, Request}
 use Rattle.rapid_repeats.specs.contracts.said.AskedOrd.TheImpl.{ghosts}
@@ -23,11 +21,11 @@ asked_exact Question (Request k) e = cc
 asked_exact (Request k) Question e = cc
 asked_exact (Request k) (Request l) e = ap Request (exact_unsigned k l e)
 
-pub keys_exact : CmpEqualImpliesEq (λ (x y : Process × Asked). ordering_then (process_cmp x.0 y.0) (ghosts.cmp x.1 y.1))
-keys_exact = exact_pairs process_cmp ghosts.cmp processes_exact asked_exact
+pub keys_exact : CmpEqualImpliesEq (λ (x y : ℕ × Asked). ordering_then (nat_cmp x.0 y.0) (ghosts.cmp x.1 y.1))
+keys_exact = exact_pairs nat_cmp ghosts.cmp exact_unsigned asked_exact
 
-pub keys_total : IsTotalOrder (λ (x y : Process × Asked). ordering_then (process_cmp x.0 y.0) (ghosts.cmp x.1 y.1))
-keys_total = then_total (on_total (λ (x : Process × Asked). x.0) processes_total) (on_total (λ (x : Process × Asked). x.1) total-law)
+pub keys_total : IsTotalOrder (λ (x y : ℕ × Asked). ordering_then (nat_cmp x.0 y.0) (ghosts.cmp x.1 y.1))
+keys_total = then_total (on_total (λ (x : ℕ × Asked). x.0) nat_cmp_total) (on_total (λ (x : ℕ × Asked). x.1) total-law)
 
 -- ---- elements
 

@@ -1,3 +1,4 @@
 pub mod Repeating
 pub mod Remembering
+pub mod Askers
 pub mod Parts

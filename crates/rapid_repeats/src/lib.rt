@@ -2,6 +2,7 @@
 #![tactic(auto)]
 
 mod kept;
+mod questions;
 mod repeats;
 mod said;
 

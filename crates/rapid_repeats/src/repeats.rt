@@ -7,11 +7,12 @@ ghost use Rattle.rapid_message.specs.Bodies.{IsFrom};
 ghost use Rattle.rapid_repeats.specs.Repeating.{Passed, IsRepeat, passed_after};
 ghost use Rattle.rapid_repeats.specs.Parts.{place_in};
 
-use crate::kept::{Batches, Questions, Votes, passes_asked, passes_batch, passes_vote};
+use crate::kept::{Batches, Votes, passes_batch, passes_vote};
+use crate::questions::Questions;
 use crate::said::Asked;
 use rapid_alerts::Batch;
 use rapid_config::{ConfigId, Configuration, Cut};
-use rapid_endpoint::Process;
+use rapid_endpoint::{Process, SharedProcess};
 use rapid_message::{Body, Message};
 use std::alloc::{AllocError, Global};
 use std::collections::BTreeMap;
@@ -24,7 +25,7 @@ use std::marker::Model;
 /// of those of others when they came.
 ///
 /// A message is kept by its parts. Of a member these are its place in the configuration, and a share
-/// of what it said. Of others they are who asked, what, and when.
+/// of what it said. Of others they are who asked, what, and when. Who asked stands once.
 #[derive(Drop)]
 pub struct Repeats {
     alloc: Global,
@@ -41,10 +42,10 @@ impl Model for Repeats {
 
     ghost Value = { Filter };
 
-    ghost view = { λ r. filter_of r.configuration r.ticks r.batches.entries r.votes.entries r.questions.entries };
+    ghost view = { λ r. filter_of r.configuration r.ticks r.batches.entries r.votes.entries r.questions };
 
     ghost invariant = { λ r.
-        IsFilter (filter_of r.configuration r.ticks r.batches.entries r.votes.entries r.questions.entries)
+        IsFilter (filter_of r.configuration r.ticks r.batches.entries r.votes.entries r.questions)
         × AreParts r.configuration r.batches.entries r.votes.entries };
 }
 
@@ -75,7 +76,7 @@ impl Repeats {
             ticks: 0,
             batches: BTreeMap::new(alloc),
             votes: BTreeMap::new(alloc),
-            questions: BTreeMap::new(alloc),
+            questions: Questions::new(alloc),
         })
     }
 
@@ -116,15 +117,15 @@ impl Repeats {
     }
 
     /// Lets through what a process asks, unless it asked the same shortly before.
-    fn admits_asked(&mut self, sender: Process, asked: Asked) -> bool
-        ensures { Judges self.old (record { sender = sender; body = asked_in (configuration_id self.old.configuration) asked }) result self.new }
+    fn admits_asked(&mut self, sender: &SharedProcess, asked: Asked) -> bool
+        ensures { Judges self.old (record { sender = sender.now; body = asked_in (configuration_id self.old.configuration) asked }) result self.new }
     {
-        passes_asked(&mut self.questions, (sender, asked), self.ticks)
+        self.questions.passes(sender, asked, self.ticks)
     }
 
     /// Lets a request through, unless it is for this configuration and was made before.
-    fn admits_request(&mut self, sender: Process, id: ConfigId, ring: u8) -> bool
-        ensures { Judges self.old (record { sender = sender; body = model.JoinRequest id ring }) result self.new }
+    fn admits_request(&mut self, sender: &SharedProcess, id: ConfigId, ring: u8) -> bool
+        ensures { Judges self.old (record { sender = sender.now; body = model.JoinRequest id ring }) result self.new }
     {
         if id != self.configuration.id() {
             return true;
@@ -140,8 +141,10 @@ impl Repeats {
         match message.body() {
             Body::Batch(id, batch) => self.admits_batch(sender, *id, batch),
             Body::FastVote(id, vote) => self.admits_vote(sender, *id, vote),
-            Body::JoinRequest(id, ring) => self.admits_request(*sender, *id, *ring),
-            Body::PreJoin => self.admits_asked(*sender, Asked::Question),
+            Body::JoinRequest(id, ring) => {
+                self.admits_request(message.shared_sender(), *id, *ring)
+            }
+            Body::PreJoin => self.admits_asked(message.shared_sender(), Asked::Question),
             _ => {
                 self.tell();
                 true

@@ -9,14 +9,14 @@ pub invariant_of-self : goal.invariant_of-self
 invariant_of-self c =
     let s = c.self.inside in
     let here = configuration_id s.configuration in
-    let e = c.passes_asked.ensures in
-    let j = asked_judged s.configuration s.ticks s.batches.entries s.votes.entries s.questions.entries c.passes_asked.new.questions.entries c.args.sender c.args.asked c.passes_asked.result c.self.invariant.0 (e.dropped here) e.same (e.repeats here) e.kept e.few in
+    let e = c.passes.ensures in
+    let j = asked_judged s.configuration s.ticks s.batches.entries s.votes.entries s.questions c.passes.new.self c.args.sender.now c.args.asked c.passes.result c.self.invariant.0 (e.dropped here) e.same (e.repeats here) e.kept e.few in
     (filter_after _ _ _ _ c.self.invariant.0 j, c.self.invariant.1)
 
 pub returns : goal.returns
 returns c =
     let s = c.self.inside in
     let here = configuration_id s.configuration in
-    let e = c.passes_asked.ensures in
-    let j = asked_judged s.configuration s.ticks s.batches.entries s.votes.entries s.questions.entries c.passes_asked.new.questions.entries c.args.sender c.args.asked c.passes_asked.result c.self.invariant.0 (e.dropped here) e.same (e.repeats here) e.kept e.few in
-    subst (λ r. Judges r (record { sender = c.args.sender; body = asked_in (configuration_id r.configuration) c.args.asked }) c.passes_asked.result (filter_of s.configuration s.ticks s.batches.entries s.votes.entries c.passes_asked.new.questions.entries)) c.self.view_is j
+    let e = c.passes.ensures in
+    let j = asked_judged s.configuration s.ticks s.batches.entries s.votes.entries s.questions c.passes.new.self c.args.sender.now c.args.asked c.passes.result c.self.invariant.0 (e.dropped here) e.same (e.repeats here) e.kept e.few in
+    subst (λ r. Judges r (record { sender = c.args.sender.now; body = asked_in (configuration_id r.configuration) c.args.asked }) c.passes.result (filter_of s.configuration s.ticks s.batches.entries s.votes.entries c.passes.new.self)) c.self.view_is j

@@ -23,12 +23,12 @@ returns-in-FastVote c =
 pub returns-in-JoinRequest : goal.returns-in-JoinRequest
 returns-in-JoinRequest c =
     let said = sym (ap body_of c.in-JoinRequest.is) ∙ c.body.ensures.value in
-    subst (λ m. Judges c.args.self.now m c.admits_request.result c.admits_request.new.self) (sym (spoken c.args.message.now _ _ c.sender-sender.ensures said)) c.admits_request.ensures
+    subst (λ m. Judges c.args.self.now m c.admits_request.result c.admits_request.new.self) (sym (spoken c.args.message.now _ _ c.shared_sender.ensures said)) c.admits_request.ensures
 
 pub returns-in-PreJoin : goal.returns-in-PreJoin
 returns-in-PreJoin c =
     let said = sym (ap body_of c.in-PreJoin.is) ∙ c.body.ensures.value in
-    subst (λ m. Judges c.args.self.now m c.admits_asked.result c.admits_asked.new.self) (sym (spoken c.args.message.now _ _ c.sender-sender.ensures said)) c.admits_asked.ensures
+    subst (λ m. Judges c.args.self.now m c.admits_asked.result c.admits_asked.new.self) (sym (spoken c.args.message.now _ _ c.shared_sender-in-PreJoin.ensures said)) c.admits_asked.ensures
 
 pub returns-in_default : goal.returns-in_default
 returns-in_default c =

@@ -8,9 +8,9 @@ pub invariant_of-self : goal.invariant_of-self
 invariant_of-self c =
     let s = c.self.inside in
     let i = c.self.invariant.0 in
-    ((i.0, _, i.2, remembers_tick (filter_of s.configuration s.ticks s.batches.entries s.votes.entries s.questions.entries) i.0 i.1 i.2 _ c.saturating_add-self-inside.ensures i.3), c.self.invariant.1)
+    ((i.0, _, i.2, remembers_tick (filter_of s.configuration s.ticks s.batches.entries s.votes.entries s.questions) i.0 i.1 i.2 _ c.saturating_add-self-inside.ensures i.3), c.self.invariant.1)
 
 pub returns : goal.returns
 returns c config now passed remembers =
     let s = c.self.inside in
-    remembers_tick (filter_of s.configuration s.ticks s.batches.entries s.votes.entries s.questions.entries) config now passed _ c.saturating_add-self-inside.ensures (subst (λ r. Remembers r config now passed) (sym c.self.view_is) remembers)
+    remembers_tick (filter_of s.configuration s.ticks s.batches.entries s.votes.entries s.questions) config now passed _ c.saturating_add-self-inside.ensures (subst (λ r. Remembers r config now passed) (sym c.self.view_is) remembers)
