@@ -10,7 +10,7 @@ ghost use Rattle.rapid_desk.specs.Records.{record_of, last_ticks, joins, added_b
 
 use rapid_alerts::Batch;
 use rapid_config::{ConfigId, Cut};
-use rapid_endpoint::Process;
+use rapid_endpoint::{KeptProcess, Process};
 use rapid_message::{Body, Message};
 use rapid_node::{Event, Node};
 use rapid_paxos::Ballot;
@@ -34,7 +34,7 @@ pub enum Which {
 /// Most events are about the configuration at the journal's entry; late ones are about the one before
 /// that. If a member of the first says such an event, or it concerns one, the record has the member's
 /// place there, and what else the event says. So it is small, however large a process is. What a
-/// joiner asks has a box, with the joiner alone.
+/// joiner asks has a box, with the joiner alone, whose tags are shared with its message.
 #[derive(Debug, Drop)]
 pub enum JournalRecord {
     /// This many successive ticks.
@@ -56,9 +56,9 @@ pub enum JournalRecord {
     /// The member at this place asks its observer on this ring to have it removed.
     Leave(Which, u16, u8),
     /// This process asks whether it may join.
-    PreJoin(Box<Process>),
+    PreJoin(Box<KeptProcess>),
     /// This process asks its observer on this ring to let it in.
-    JoinRequest(Box<Process>, Which, u8),
+    JoinRequest(Box<KeptProcess>, Which, u8),
     /// The edge to the member at this place on this ring went down.
     EdgeDown(Which, u16, u8),
     /// The node itself is to leave.
@@ -67,10 +67,10 @@ pub enum JournalRecord {
     Other(Box<Event>),
 }
 
-// a record takes at most a quarter of what an event takes, and with a joiner's box at most 580 bytes
+// a record takes at most a quarter of what an event takes, and with a joiner's box at most 88 bytes
 const _: () = prove!(4 * size_of::<JournalRecord>() <= size_of::<Event>());
 
-const _: () = prove!(size_of::<JournalRecord>() + size_of::<Process>() <= 580);
+const _: () = prove!(size_of::<JournalRecord>() + size_of::<KeptProcess>() <= 88);
 
 /// A journal: the node where it begins, and what happened since.
 #[derive(Drop)]
@@ -241,9 +241,16 @@ fn record_by_parts(which: Which, place: u16, body: Body) -> JournalRecord
     }
 }
 
+/// Who sends a message, in a box. Its tags, if it has some, are shared with the message.
+fn boxed_sender(alloc: Global, message: &Message) -> Result<Box<KeptProcess>, AllocError>
+    ensures { IfOk result (λ sender. sender.value ≡ message.now.sender) }
+{
+    let sender = KeptProcess::of(message.shared_sender())?;
+    Ok(Box::new(alloc, sender)?)
+}
+
 /// The record of a message whose sender has no place. What a joiner asks takes memory for the joiner
-/// alone, all else for the whole event. It stands apart: room for a process takes time at each call of
-/// the function that has it.
+/// alone, all else for the whole event. It stands apart, since it is seldom needed.
 #[inline(never)]
 fn record_without_place(
     alloc: Global,
@@ -254,13 +261,13 @@ fn record_without_place(
     ensures value { IfOk result (λ r. record_of (configuration_of entry.now) r ≡ model.Other (Receive message)) }
     ensures whole { IfOk result (λ r. is_whole r ≡ stays_whole (configuration_of entry.now) message) }
 {
-    let sender = *message.sender();
     match ring_asked(entry, message.body()) {
         Some((which, ring)) => {
-            Ok(JournalRecord::JoinRequest(Box::new(alloc, sender)?, which, ring))
+            let sender = boxed_sender(alloc, &message)?;
+            Ok(JournalRecord::JoinRequest(sender, which, ring))
         }
         None if is_question(message.body()) => {
-            Ok(JournalRecord::PreJoin(Box::new(alloc, sender)?))
+            Ok(JournalRecord::PreJoin(boxed_sender(alloc, &message)?))
         }
         None => Ok(JournalRecord::Other(Box::new(alloc, Event::Receive(message))?)),
     }
