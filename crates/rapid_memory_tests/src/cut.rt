@@ -5,7 +5,7 @@ use crate::tables::{Edge, table};
 use rapid_alerts::{Alert, AlertList, Kind};
 use rapid_config::{ConfigId, Cut};
 use rapid_cut::Detector;
-use rapid_endpoint::Process;
+use rapid_endpoint::{ParseError, Process};
 use rapid_rings::Table;
 use std::alloc::{AllocError, Global};
 use std::slice;
@@ -192,6 +192,51 @@ fn cut_again(detector: &mut Detector<Table>, alert: &Alert) -> Result<Option<Cut
         Err(_refused) => detector.batch(slice::from_ref(alert)),
         answer => answer,
     }
+}
+
+/// How many processes are reported on that differ in tags alone: one more than are looked for one by
+/// one, and as many as there are bytes from `^` on that print.
+const MANY: u8 = 33;
+
+/// The process with the number 6 and a tag of this number.
+fn numbered_tag(number: u8) -> Result<Process, ParseError> {
+    tagged(6, &[&[b'^'.saturating_add(number)]])
+}
+
+/// The table in which processes 1 and 2 observe these on two rings.
+fn observing_many(alloc: Global) -> Result<Table, Fail> {
+    let mut table = table(alloc, (4, 3, 2), &[], &[])?;
+    for number in 0..MANY {
+        for ring in 0..2 {
+            table.add(ring, process(u16::from(ring) + 1), numbered_tag(number)?)?;
+        }
+    }
+    Ok(table)
+}
+
+/// Each of these is reported on by itself, also once there are many.
+#[test]
+fn out_of_memory_in_reports_on_many_with_tags(rt: HostRuntime) -> Result<(), Fail> {
+    let alloc = rt.alloc();
+    let mut detector = Detector::new(alloc, observing_many(alloc)?);
+    for ring in 0..2 {
+        for number in 0..MANY {
+            let subject = numbered_tag(number)?;
+            let on_it = Alert {
+                subject,
+                ..alert(&(ring, u16::from(ring) + 1, 6))
+            };
+            assert!(rt; cut_again(&mut detector, &on_it)?.is_none());
+            assert_eq!(rt;
+                detector.tally(&subject),
+                usize::from(ring) + 1,
+                "at {number}"
+            );
+        }
+        assert_eq!(rt; detector.tally(&numbered_tag(0)?), usize::from(ring) + 1);
+        assert_eq!(rt; detector.tally(&process(6)), 0);
+    }
+    Ok(())
 }
 
 /// The first process with tags that is reported on takes over, with itself, what is known of one

@@ -9,6 +9,7 @@ use crate::numbered::{process, shared, tagged};
 use rapid_alerts::{AlertList, Kind, SpeltError};
 use rapid_config::{ConfigError, ConfigId, Cut};
 use rapid_endpoint::{KeptProcess, ParseError, Process, ProcessList, SharedProcess};
+use rapid_roster::Roster;
 use std::alloc::{AllocError, Global};
 use std::test::Fail;
 
@@ -44,6 +45,40 @@ fn out_of_memory_in_kept_processes(rt: HostRuntime) -> Result<(), Fail> {
         assert!(rt; first.is(&process.as_ref()) && second.is(&process.as_ref()));
         assert!(rt; copy.share(rt.alloc())?.is(process));
     }
+    Ok(())
+}
+
+/// Adds a process, unless it is there.
+fn add(alloc: Global, roster: &mut Roster, process: &Process) -> Result<(), AllocError> {
+    match roster.find(&process.as_ref()) {
+        Some(_) => Ok(()),
+        None => roster.push(KeptProcess::new(alloc, &process.as_ref())?),
+    }
+}
+
+/// Adds a process that is not there, again if out of memory: the list is then as it was. Whether it
+/// came to stand at the end.
+fn add_again(alloc: Global, roster: &mut Roster, process: &Process) -> Result<bool, AllocError> {
+    let before = roster.len();
+    if add(alloc, roster, process).is_err() {
+        if roster.len() != before || roster.find(&process.as_ref()).is_some() {
+            return Ok(false);
+        }
+        add(alloc, roster, process)?;
+    }
+    Ok(roster.find(&process.as_ref()) == Some(before))
+}
+
+/// Two of the three differ in tags alone.
+#[test]
+fn out_of_memory_leaves_a_roster_as_it_was(rt: HostRuntime) -> Result<(), Fail> {
+    let [one, two] = two()?;
+    let mut roster = Roster::new(rt.alloc());
+    for process in &[one, two, process(2)] {
+        assert!(rt; add_again(rt.alloc(), &mut roster, process)?);
+    }
+    let copy = roster.try_copy(rt.alloc())?;
+    assert_eq!(rt; copy.find(&two.as_ref()), Some(1));
     Ok(())
 }
 
