@@ -52,7 +52,7 @@ fn check<T: ObserverTable>(table: &T, owner: &Process, alert: &Alert) -> (bool, 
     // any place will do: it is a guess
     let mut place = 0;
     let (member, observes) = table.member_and_observes_near(
-        owner,
+        &owner.as_ref(),
         alert.ring,
         &alert.subject.as_ref(),
         &mut place,

@@ -203,7 +203,7 @@ impl Host {
         let mut anywhere = usize::MAX;
         let rings = self.tables.rings();
         let (_, observes) = rings.member_and_observes_near(
-            self.me.get(),
+            &self.me.get().as_ref(),
             ring,
             &joiner.as_ref(),
             &mut anywhere,

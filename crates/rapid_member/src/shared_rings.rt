@@ -84,7 +84,7 @@ impl ObserverTable for SharedRings {
 
     fn member_and_observes_near(
         &self,
-        observer: &Process,
+        observer: &ProcessRef<'_>,
         ring: u8,
         subject: &ProcessRef<'_>,
         place: &mut usize,

@@ -61,7 +61,7 @@ pub trait ObserverTable {
     /// without one.
     fn member_and_observes_near(
         &self,
-        observer: &Process,
+        observer: &ProcessRef<'_>,
         ring: u8,
         subject: &ProcessRef<'_>,
         place: &mut usize,
@@ -70,7 +70,7 @@ pub trait ObserverTable {
         ensures observes { result.1 ≡ observes (observers self.now) observer.now ring subject.now }
     {
         let (member, found) = self.member_and_observer_near(ring, &subject.to_process(), place);
-        (member, found == Some(*observer))
+        (member, found == Some(observer.to_process()))
     }
 
     /// Whether the process may observe someone. False says that nobody has it as an observer, on

@@ -284,7 +284,7 @@ fn member_at(members: &[Process], place: Option<u16>) -> Option<Process>
 }
 
 /// Whether this member is at a place.
-pub(crate) fn is_member_at(members: &[Process], place: Option<u16>, member: &Process) -> bool
+pub(crate) fn is_member_at(members: &[Process], place: Option<u16>, member: &ProcessRef<'_>) -> bool
     ensures { result ≡ option_eq same_bytes (member_if_any members.now place) (Some member.now) }
 {
     match place {
@@ -294,11 +294,11 @@ pub(crate) fn is_member_at(members: &[Process], place: Option<u16>, member: &Pro
 }
 
 // Whether this member is at a place, by its number.
-fn is_at(members: &[Process], place: usize, member: &Process) -> bool
+fn is_at(members: &[Process], place: usize, member: &ProcessRef<'_>) -> bool
     ensures { result ≡ option_eq same_bytes (slice_get members.now place) (Some member.now) }
 {
     match members.get(place) {
-        Some(found) => *found == *member,
+        Some(found) => found.as_ref().is(member),
         None => false,
     }
 }

@@ -184,7 +184,7 @@ impl Rings {
     #[tactic(auto, unfolding(rapid_model::specs::Ring::observers_of))]
     fn is_observed_by(
         &self,
-        observer: &Process,
+        observer: &ProcessRef<'_>,
         ring: u8,
         place: Option<usize>,
         process: &ProcessRef<'_>,
@@ -256,7 +256,7 @@ impl ObserverTable for Rings {
 
     fn member_and_observes_near(
         &self,
-        observer: &Process,
+        observer: &ProcessRef<'_>,
         ring: u8,
         subject: &ProcessRef<'_>,
         place: &mut usize,
