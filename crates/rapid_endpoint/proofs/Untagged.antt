@@ -42,7 +42,8 @@ zero_is_byte : All (λ b. b < 256) (0 ∷ [])
 zero_is_byte zero d l = omega arith
 zero_is_byte (suc k) d l = absurd (omega (arith, l))
 
-untagged_is_process : (key : List ℕ) → IsKey key → IsProcess (key ++ 0 ∷ [])
+-- an identifier, an endpoint and no tags are a process
+pub untagged_is_process : (key : List ℕ) → IsKey key → IsProcess (key ++ 0 ∷ [])
 untagged_is_process key h = is_process key (0 ∷ []) h zero_is_byte (record { few = omega arith; tags = refl; ascending = refl; spelt = refl })
 
 -- an identifier, an endpoint and no tags in front of bytes are a process

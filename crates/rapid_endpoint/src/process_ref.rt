@@ -61,6 +61,16 @@ pub(crate) fn are_same(tags: &[u8], others: &[u8]) -> bool
 }
 
 impl<'a> ProcessRef<'a> {
+    /// The process of this identifier and endpoint, without tags.
+    #[inline(always)]
+    pub fn untagged(id: ProcessId, endpoint: Endpoint) -> ProcessRef<'a>
+        ensures { result ≡ id ++ endpoint ++ 0 ∷ [] }
+    {
+        let key = Key::new(id, endpoint);
+        key.tell();
+        ProcessRef::new(key, NO_TAGS)
+    }
+
     /// The process of these parts.
     #[inline(always)]
     pub(crate) fn new(key: Key, tags: &'a [u8]) -> ProcessRef<'a>
