@@ -1,13 +1,12 @@
 -- Where the processes of a list are found, and how one more is noted.
-use Rattle.std.proofs.Common.{◌≡◌, ◌⊎◌, ℕ, zero, suc, ◌<◌, Bool, true, false, true≢false, cond, List, [], ◌∷◌, ◌++◌, length, get_or, take, refl, sym, ap, subst, ◌∙◌, inl, inr, Option, Some, None, Contains, IfSome, IfNone, IsSome, is_some, arith, slice_get, position}
-use Rattle.std.specs.Str.{bytes_eq}
+use Rattle.std.proofs.Common.{◌≡◌, ◌⊎◌, ℕ, zero, suc, ◌<◌, true, false, true≢false, cond, List, [], ◌∷◌, ◌++◌, length, get_or, refl, sym, ap, subst, ◌∙◌, inl, inr, Option, Some, None, Contains, IfSome, IfNone, IsSome, is_some, arith, slice_get, position}
 use Rattle.std.proofs.lemmas.List.Elements.{Contains-push, Contains-append_left}
 use Rattle.std.proofs.lemmas.List.Folds.{list_any_at}
 use Rattle.std.proofs.lemmas.Option.{same_Some, slice_get_within, slice_get-get_or, get_or_from_slice_get}
-use Rattle.std.proofs.lemmas.Slice.Eq.{bytes_eq-Decides}
 use Rattle.rapid_model.specs.Process.{Process, is_in, same_bytes}
 use Rattle.rapid_model.proofs.Orders.{same_bytes_decides}
 use Rattle.rapid_config.proofs.Places.{position_at, position_none}
+use Rattle.rapid_roster.specs.Heads.{head_of}
 use Rattle.rapid_roster.specs.Once.{StandOnce}
 use Rattle.rapid_roster.specs.Indexed.{noted_for, IsIndexed}
 
@@ -73,24 +72,24 @@ distinct_more ps p new distinct i j q h k = by (get_push ps i p q h) (get_push p
     by (inr a) (inr b) = a.0 ∙ sym b.0
 
 -- another has its identifier and endpoint: it is one of the others
-pub other_more : (ps : List Process) (p : Process) (firsts : List (List ℕ × ℕ)) (others : List ℕ) → is_in ps p ≡ false → IsSome (noted_for firsts (take 22 p)) → IsIndexed ps firsts others → IsIndexed (ps ++ p ∷ []) firsts (others ++ length ps ∷ [])
+pub other_more : (ps : List Process) (p : Process) (firsts : List (List ℕ × ℕ)) (others : List ℕ) → is_in ps p ≡ false → IsSome (noted_for firsts (head_of p)) → IsIndexed ps firsts others → IsIndexed (ps ++ p ∷ []) firsts (others ++ length ps ∷ [])
 other_more ps p firsts others new noted was =
     record {
       distinct = distinct_more ps p new was.distinct;
-      noted = λ i q h. elim (get_push ps i p q h) [ inl r ↦ was.noted i q r | inr r ↦ subst (λ x. IsSome (noted_for firsts (take 22 x))) (sym r.1) noted ];
+      noted = λ i q h. elim (get_push ps i p q h) [ inl r ↦ was.noted i q r | inr r ↦ subst (λ x. IsSome (noted_for firsts (head_of x))) (sym r.1) noted ];
       found = λ i q h. by i q (get_push ps i p q h);
     }
   where
-    more : (i : ℕ) (q : Process) → (noted_for firsts (take 22 q) ≡ Some i) ⊎ Contains others i → (noted_for firsts (take 22 q) ≡ Some i) ⊎ Contains (others ++ length ps ∷ []) i
+    more : (i : ℕ) (q : Process) → (noted_for firsts (head_of q) ≡ Some i) ⊎ Contains others i → (noted_for firsts (head_of q) ≡ Some i) ⊎ Contains (others ++ length ps ∷ []) i
     more i q (inl e) = inl e
     more i q (inr m) = inr (Contains-append_left others (length ps ∷ []) i m)
 
-    by : (i : ℕ) (q : Process) → (slice_get ps i ≡ Some q) ⊎ ((i ≡ length ps) × (q ≡ p)) → (noted_for firsts (take 22 q) ≡ Some i) ⊎ Contains (others ++ length ps ∷ []) i
+    by : (i : ℕ) (q : Process) → (slice_get ps i ≡ Some q) ⊎ ((i ≡ length ps) × (q ≡ p)) → (noted_for firsts (head_of q) ≡ Some i) ⊎ Contains (others ++ length ps ∷ []) i
     by i q (inl r) = more i q (was.found i q r)
     by i q (inr r) = inr (subst (λ n. Contains (others ++ length ps ∷ []) n) (sym r.0) (Contains-push others (length ps)))
 
 -- nobody has its identifier and endpoint: it is the first
-pub first_more : (ps : List Process) (p : Process) (old new : List (List ℕ × ℕ)) (others : List ℕ) → is_in ps p ≡ false → noted_for old (take 22 p) ≡ None → ((head : List ℕ) → noted_for new head ≡ cond (bytes_eq (take 22 p) head) (Some (length ps)) (noted_for old head)) → IsIndexed ps old others → IsIndexed (ps ++ p ∷ []) new others
+pub first_more : (ps : List Process) (p : Process) (old new : List (List ℕ × ℕ)) (others : List ℕ) → is_in ps p ≡ false → noted_for old (head_of p) ≡ None → ((head : List ℕ) → noted_for new head ≡ cond (same_bytes (head_of p) head) (Some (length ps)) (noted_for old head)) → IsIndexed ps old others → IsIndexed (ps ++ p ∷ []) new others
 first_more ps p old new others fresh none writes was =
     record {
       distinct = distinct_more ps p fresh was.distinct;
@@ -102,43 +101,43 @@ first_more ps p old new others fresh none writes was =
     }
   where
     -- those that are noted have another identifier or endpoint
-    stays : (q : Process) → IsSome (noted_for old (take 22 q)) → noted_for new (take 22 q) ≡ noted_for old (take 22 q)
+    stays : (q : Process) → IsSome (noted_for old (head_of q)) → noted_for new (head_of q) ≡ noted_for old (head_of q)
     stays q noted =
-        writes (take 22 q)
-        ∙ elim (bytes_eq (take 22 p) (take 22 q)) as (λ b. bytes_eq (take 22 p) (take 22 q) ≡ b → cond b (Some (length ps)) (noted_for old (take 22 q)) ≡ noted_for old (take 22 q)) [
+        writes (head_of q)
+        ∙ elim (same_bytes (head_of p) (head_of q)) as (λ b. same_bytes (head_of p) (head_of q) ≡ b → cond b (Some (length ps)) (noted_for old (head_of q)) ≡ noted_for old (head_of q)) [
           | true ↦ λ e.
-              let same : take 22 p ≡ take 22 q = (bytes_eq-Decides (take 22 p) (take 22 q)).0 e in
-              absurd (unsome (noted_for old (take 22 q)) (ap (noted_for old) (sym same) ∙ none) noted)
+              let same : head_of p ≡ head_of q = (same_bytes_decides (head_of p) (head_of q)).0 e in
+              absurd (unsome (noted_for old (head_of q)) (ap (noted_for old) (sym same) ∙ none) noted)
           | false ↦ λ e. refl
         ] refl
 
-    own : (q : Process) → q ≡ p → noted_for new (take 22 q) ≡ Some (length ps)
+    own : (q : Process) → q ≡ p → noted_for new (head_of q) ≡ Some (length ps)
     own q same =
-        let heads : bytes_eq (take 22 p) (take 22 q) ≡ true = (bytes_eq-Decides (take 22 p) (take 22 q)).1 (ap (take 22) (sym same)) in
-        writes (take 22 q) ∙ ap (λ b. cond b (Some (length ps)) (noted_for old (take 22 q))) heads
+        let heads : same_bytes (head_of p) (head_of q) ≡ true = (same_bytes_decides (head_of p) (head_of q)).1 (ap head_of (sym same)) in
+        writes (head_of q) ∙ ap (λ b. cond b (Some (length ps)) (noted_for old (head_of q))) heads
 
-    by : (i : ℕ) (q : Process) → (slice_get ps i ≡ Some q) ⊎ ((i ≡ length ps) × (q ≡ p)) → (noted_for new (take 22 q) ≡ Some i) ⊎ Contains others i
+    by : (i : ℕ) (q : Process) → (slice_get ps i ≡ Some q) ⊎ ((i ≡ length ps) × (q ≡ p)) → (noted_for new (head_of q) ≡ Some i) ⊎ Contains others i
     by i q (inl r) = elim (was.found i q r) [ inl e ↦ inl (stays q (was.noted i q r) ∙ e) | inr m ↦ inr m ]
     by i q (inr r) = inl (own q r.1 ∙ ap Some (sym r.0))
 
 -- ---- what is found
 
 -- a process without a note stands nowhere
-pub unnoted : (ps : List Process) (p : Process) (firsts : List (List ℕ × ℕ)) (others : List ℕ) → IsIndexed ps firsts others → noted_for firsts (take 22 p) ≡ None → position (same_bytes p) ps ≡ None
+pub unnoted : (ps : List Process) (p : Process) (firsts : List (List ℕ × ℕ)) (others : List ℕ) → IsIndexed ps firsts others → noted_for firsts (head_of p) ≡ None → position (same_bytes p) ps ≡ None
 unnoted ps p firsts others index none =
-    nowhere ps p (λ i at. unsome (noted_for firsts (take 22 p)) none (index.noted i p at))
+    nowhere ps p (λ i at. unsome (noted_for firsts (head_of p)) none (index.noted i p at))
 
 -- nor does one that is neither at the place that is noted nor at one of the others
-elsewhere : (ps : List Process) (p : Process) (firsts : List (List ℕ × ℕ)) (others : List ℕ) (first : ℕ) → IsIndexed ps firsts others → noted_for firsts (take 22 p) ≡ Some first → (slice_get ps first ≡ Some p → ⊥) → ((i : ℕ) → Contains others i → slice_get ps i ≡ Some p → ⊥) → position (same_bytes p) ps ≡ None
+elsewhere : (ps : List Process) (p : Process) (firsts : List (List ℕ × ℕ)) (others : List ℕ) (first : ℕ) → IsIndexed ps firsts others → noted_for firsts (head_of p) ≡ Some first → (slice_get ps first ≡ Some p → ⊥) → ((i : ℕ) → Contains others i → slice_get ps i ≡ Some p → ⊥) → position (same_bytes p) ps ≡ None
 elsewhere ps p firsts others first index noted not_first not_other = nowhere ps p (λ i at. by i at (index.found i p at))
   where
-    by : (i : ℕ) → slice_get ps i ≡ Some p → (noted_for firsts (take 22 p) ≡ Some i) ⊎ Contains others i → ⊥
+    by : (i : ℕ) → slice_get ps i ≡ Some p → (noted_for firsts (head_of p) ≡ Some i) ⊎ Contains others i → ⊥
     by i at (inl e) =
         let same : first ≡ i = same_Some first i (sym noted ∙ e) in
         not_first (subst (λ k. slice_get ps k ≡ Some p) (sym same) at)
     by i at (inr m) = not_other i m at
 
 -- where one is found that is not at the place that is noted
-pub among : (ps : List Process) (p : Process) (firsts : List (List ℕ × ℕ)) (others : List ℕ) (first : ℕ) (r : Option ℕ) → IsIndexed ps firsts others → noted_for firsts (take 22 p) ≡ Some first → (slice_get ps first ≡ Some p → ⊥) → IfSome r (λ i. slice_get ps i ≡ Some p) → IfNone r ((i : ℕ) → Contains others i → slice_get ps i ≡ Some p → ⊥) → r ≡ position (same_bytes p) ps
+pub among : (ps : List Process) (p : Process) (firsts : List (List ℕ × ℕ)) (others : List ℕ) (first : ℕ) (r : Option ℕ) → IsIndexed ps firsts others → noted_for firsts (head_of p) ≡ Some first → (slice_get ps first ≡ Some p → ⊥) → IfSome r (λ i. slice_get ps i ≡ Some p) → IfNone r ((i : ℕ) → Contains others i → slice_get ps i ≡ Some p → ⊥) → r ≡ position (same_bytes p) ps
 among ps p firsts others first (Some i) index noted not_first found none = sym (is_there ps p i (λ k there. index.distinct k i p there found) found)
 among ps p firsts others first None index noted not_first found none = sym (elsewhere ps p firsts others first index noted not_first none)

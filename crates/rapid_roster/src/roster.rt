@@ -1,17 +1,16 @@
 // Lists of distinct processes.
 
-ghost use Rattle.std.specs.Prelude.{◌≡◌, ◌≢◌, ◌++◌, ◌∷◌, [], ℕ, List, false, true, Some, length, take, slice_get, position, Contains, IfOk, IfSome, IfNone, OnOk, OnErr};
+ghost use Rattle.std.specs.Prelude.{◌≡◌, ◌≢◌, ◌++◌, ◌∷◌, [], ℕ, List, false, true, Some, length, slice_get, position, Contains, IfOk, IfSome, IfNone, OnOk, OnErr};
 ghost use Rattle.rapid_model.specs.Process.{Process as ModelProcess, is_in, same_bytes};
+ghost use Rattle.rapid_roster.specs.Heads.{head_of};
 ghost use Rattle.rapid_roster.specs.Indexed.{IsIndexed};
 ghost use Rattle.rapid_roster.specs.Once.{StandOnce};
 
+use crate::head::Head;
 use rapid_endpoint::{KeptProcess, ProcessRef};
 use std::alloc::{AllocError, Global};
 use std::collections::HashMap;
 use std::marker::Model;
-
-/// The bytes of an identifier and of an endpoint, by which a process is looked for.
-type Head = [u8; 22];
 
 /// A list of distinct processes. A process is looked for by its identifier and its endpoint, without
 /// going over the list. Only those that differ from one before them in their tags alone are gone over.
@@ -44,7 +43,7 @@ fn note(
     head: Head,
     place: usize,
 ) -> Result<(), AllocError>
-    ensures noted { OnOk result ((ps : List ModelProcess) (p : ModelProcess) → place ≡ length ps → head ≡ take 22 p → is_in ps p ≡ false → IsIndexed ps firsts.old.entries others.old.items → IsIndexed (ps ++ p ∷ []) firsts.new.entries others.new.items) }
+    ensures noted { OnOk result ((ps : List ModelProcess) (p : ModelProcess) → place ≡ length ps → head ≡ head_of p → is_in ps p ≡ false → IsIndexed ps firsts.old.entries others.old.items → IsIndexed (ps ++ p ∷ []) firsts.new.entries others.new.items) }
     ensures unchanged { OnErr result ((ps : List ModelProcess) → IsIndexed ps firsts.old.entries others.old.items → IsIndexed ps firsts.new.entries others.new.items) }
 {
     if firsts.contains_key(&head) {
@@ -114,7 +113,7 @@ impl Roster {
     pub fn find(&self, process: &ProcessRef<'_>) -> Option<usize>
         ensures { result ≡ position (same_bytes process.now) self.now }
     {
-        let first = *self.firsts.get(&process.key_bytes())?;
+        let first = *self.firsts.get(&Head::of(process))?;
         let processes = self.processes.as_slice();
         if is_at(processes, first, process) {
             return Some(first);
@@ -129,7 +128,7 @@ impl Roster {
         ensures unchanged { OnErr result (self.new ≡ self.old) }
     {
         self.processes.reserve(1)?;
-        let head = process.as_ref().key_bytes();
+        let head = Head::of(&process.as_ref());
         note(
             &mut self.firsts,
             &mut self.others,

@@ -1,5 +1,6 @@
-use Rattle.std.proofs.Common.{◌≡◌, ◌∙◌, ℕ, sym, ap, subst, true≢false, Option, Some, None, Contains, IfSome, IfNone, take, slice_get, position}
+use Rattle.std.proofs.Common.{◌≡◌, ◌∙◌, ℕ, sym, ap, subst, true≢false, Some, None, Contains, IfSome, IfNone, slice_get, position}
 use Rattle.rapid_model.specs.Process.{same_bytes}
+use Rattle.rapid_roster.specs.Heads.{head_of}
 use Rattle.rapid_roster.specs.Indexed.{noted_for}
 use Rattle.rapid_roster.proofs.Indexing.{is_there, unnoted, among}
 use Rattle.rapid_roster.proofs.roster.Roster.find.Goals as goal
@@ -8,7 +9,7 @@ pub returns-in_err-first : goal.returns-in_err-first
 returns-in_err-first c =
     let p = c.args.process.now in
     let firsts = c.self.inside.firsts.entries in
-    let none : noted_for firsts (take 22 p) ≡ None = ap (noted_for firsts) (sym c.key_bytes.ensures.value) ∙ sym c.in_err-first.ensures.value in
+    let none : noted_for firsts (head_of p) ≡ None = ap (noted_for firsts) (sym c.of.ensures) ∙ sym c.in_err-first.ensures.value in
     c.from_residual.ensures ∙ sym (unnoted c.self.inside.processes.items p firsts c.self.inside.others.items c.self.invariant none) ∙ ap (position (same_bytes p)) c.self.view_is
 
 pub returns-then-is_at : goal.returns-then-is_at
@@ -26,7 +27,7 @@ returns c =
     let firsts = c.self.inside.firsts.entries in
     let first = c.in_ok-first.field-0.now in
     let processes = c.as_slice-processes.ensures.value in
-    let noted : noted_for firsts (take 22 p) ≡ Some first = ap (noted_for firsts) (sym c.key_bytes.ensures.value) ∙ sym c.in_ok-first.ensures.value in
+    let noted : noted_for firsts (head_of p) ≡ Some first = ap (noted_for firsts) (sym c.of.ensures) ∙ sym c.in_ok-first.ensures.value in
     among ps p firsts c.self.inside.others.items first c.find_among.result c.self.invariant noted
     (λ at. true≢false (sym (c.is_at.ensures.told (subst (λ qs. slice_get qs first ≡ Some p) (sym processes) at)) ∙ c.if-is_at.false))
     (subst (λ qs. IfSome c.find_among.result (λ i. slice_get qs i ≡ Some p)) processes c.find_among.ensures.found)
