@@ -65,6 +65,36 @@ impl Steps {
         println!("copied_{} {}", self.name, least / self.count() as u128);
     }
 
+    /// Each copy has taken another event before, as a copy of ours that shares its reports with none.
+    fn print_own_time(&self) {
+        let mut least = u128::MAX;
+        for _ in 0..50 {
+            let mut nodes = self.own_copies();
+            let start = Instant::now();
+            self.take(&mut Views::default(), &mut nodes);
+            least = least.min(start.elapsed().as_nanos());
+        }
+        println!("own_{} {}", self.name, least / self.count() as u128);
+    }
+
+    /// Copies that have taken an alert of the member with the number 2 on itself, which is ill-formed.
+    fn own_copies(&self) -> Vec<Node> {
+        let mut nodes = vec![self.start.clone(); self.copies];
+        let id = self.start.configuration().unwrap().id;
+        let before = batch(process(2), id, &[(0, process(2))]);
+        for node in &mut nodes {
+            black_box(node.step(&mut Views::default(), &Event::Receive(black_box(&before))));
+        }
+        nodes
+    }
+
+    fn print_own_held(&self) {
+        let mut nodes = self.own_copies();
+        let before = held();
+        self.take(&mut Views::default(), &mut nodes);
+        println!("own_{}_bytes {}", self.name, (held() - before) / self.count() as u64);
+    }
+
     fn print_copied_held(&self) {
         let before = held();
         let mut nodes = vec![self.start.clone(); self.copies];
@@ -170,6 +200,7 @@ pub fn measure_all() {
     }
     for steps in all_steps().iter().filter(|it| it.is_batch()) {
         steps.print_copied_time();
+        steps.print_own_time();
     }
     for members in SIZES {
         print_copy_time(&format!("copy_{members}"), &founder(members).0);
@@ -182,6 +213,7 @@ pub fn measure_bytes() {
     }
     for steps in all_steps().iter().filter(|it| it.is_batch()) {
         steps.print_copied_held();
+        steps.print_own_held();
     }
     for members in SIZES {
         print_copy_held(&format!("copy_{members}"), &founder(members).0);

@@ -71,6 +71,12 @@ pub fn alerts_on_many(alloc: Global, id: ConfigId) -> Result<Event> {
     one_batch(alloc, id, process(3), &on_rings(alloc, 1, 128, 16)?)
 }
 
+/// One alert, of the member with the number 2 on itself, in one batch. It is ill-formed, so a node that
+/// takes the batch is as it was, but shares what has its reports with no copy.
+pub fn alert_on_itself(alloc: Global, id: ConfigId) -> Result<Event> {
+    one_batch(alloc, id, process(2), &[(0, process(2))])
+}
+
 /// As many ticks as come before votes and alerts go out again.
 pub fn ticks(alloc: Global) -> Result<Vec<Event>> {
     let mut events = Vec::new(alloc);

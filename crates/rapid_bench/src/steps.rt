@@ -1,5 +1,7 @@
 // Steps of a node, in time and memory.
-use crate::cluster::{alerts_on_many, alerts_on_one, founder, report_many, ticks, votes};
+use crate::cluster::{
+    alert_on_itself, alerts_on_many, alerts_on_one, founder, report_many, ticks, votes,
+};
 use crate::members::{MEMBERS, configuration};
 use crate::meter::Meter;
 use anyhow::Result;
@@ -80,6 +82,14 @@ impl<R: Print + Clock + Files + Alloc> Bench<'_, R> {
         self.more_than(before)
     }
 
+    /// How much a run takes, in which this many copies of a node take the events. Before that each
+    /// takes another event, so that it shares nothing that both change.
+    fn run_own(&self, node: &Node, before: &Event, events: &[Event], count: usize) -> Result<u64> {
+        let mut nodes = copies(self.alloc, node, count)?;
+        each_takes(&mut nodes, slice::from_ref(before))?;
+        self.taken(&mut nodes, events)
+    }
+
     /// How much the copies of a run take.
     fn copied(&self, node: &Node) -> Result<u64> {
         let before = self.meter.read(self.rt)?;
@@ -148,6 +158,24 @@ impl<R: Print + Clock + Files + Alloc> Bench<'_, R> {
         self.print(name, least / steps.max(1) as u64)
     }
 
+    /// Prints how much a step at a batch takes at a node that shares its reports with no other, in
+    /// this many steps a run.
+    fn print_own_batch(
+        &self,
+        name: &str,
+        configuration: &Configuration,
+        node: &Node,
+        steps: usize,
+    ) -> Result<()> {
+        let before = alert_on_itself(self.alloc, configuration.id())?;
+        let event = alerts_on_one(self.alloc, configuration)?;
+        let mut least = u64::MAX;
+        for _ in 0..self.meter.runs() {
+            least = least.min(self.run_own(node, &before, slice::from_ref(&event), steps)?);
+        }
+        self.print(name, least / steps.max(1) as u64)
+    }
+
     /// Prints how much a step at a batch of 2,048 alerts takes.
     fn print_great_batch(&self, configuration: &Configuration, node: &Node) -> Result<()> {
         let event = alerts_on_many(self.alloc, configuration.id())?;
@@ -169,6 +197,7 @@ impl<R: Print + Clock + Files + Alloc> Bench<'_, R> {
         self.print_votes(configuration, node)?;
         self.print_batch("batch_step", configuration, node, STEPS)?;
         self.print_copied_batch("copied_batch_step", configuration, node, STEPS)?;
+        self.print_own_batch("own_batch_step", configuration, node, STEPS)?;
         self.print_ticks(node)?;
         self.print_copy(node)
     }
@@ -178,7 +207,8 @@ impl<R: Print + Clock + Files + Alloc> Bench<'_, R> {
         self.print_great_batch(configuration, node)?;
         report_many(self.alloc, configuration, node)?;
         self.print_batch("late_batch_step", configuration, node, LONG_STEPS)?;
-        self.print_copied_batch("copied_late_batch_step", configuration, node, LONG_STEPS)
+        self.print_copied_batch("copied_late_batch_step", configuration, node, LONG_STEPS)?;
+        self.print_own_batch("own_late_batch_step", configuration, node, LONG_STEPS)
     }
 
     /// Prints the figures of the founder's node.
@@ -217,9 +247,9 @@ fn print_with<R: Print + Clock + Files + Alloc>(rt: &R, alloc: Global, meter: Me
     .print_all(true)
 }
 
-/// Prints the figures of time: `vote_step_5`, `batch_step_5`, `copied_batch_step_5`, `tick_step_5`,
-/// `copy_5` and so on, `great_batch_step_1024`, `late_batch_step_1024` and
-/// `copied_late_batch_step_1024`.
+/// Prints the figures of time: `vote_step_5`, `batch_step_5`, `copied_batch_step_5`,
+/// `own_batch_step_5`, `tick_step_5`, `copy_5` and so on, `great_batch_step_1024`,
+/// `late_batch_step_1024`, `copied_late_batch_step_1024` and `own_late_batch_step_1024`.
 pub fn print<R: Print + Clock + Files + Alloc>(rt: &R, alloc: Global) -> Result<()> {
     print_with(rt, alloc, Meter::Time(Instant::now(rt)?))
 }
