@@ -5,9 +5,10 @@ use rapid_config::ConfigError;
 use rapid_endpoint::{Endpoint, ParseError, ReadError};
 use rapid_wire::WireFault;
 
-/// The bytes that a tag may have.
-const ALLOWED: &[u8] =
-    b"!\"#$%&'()*+-./0123456789:;<=>?@ABCDEFGHIJKLMNOPQRSTUVWXYZ\\^_`abcdefghijklmnopqrstuvwxyz{|}~";
+/// Whether a tag may have this byte: what prints, but for a comma and square brackets.
+fn is_allowed(byte: u8) -> bool {
+    matches!(byte, b'!'..=b'+' | b'-'..=b'Z' | b'\\' | b'^'..=b'~')
+}
 
 /// The byte at a place, or that the bytes end before it.
 fn at(bytes: &[u8], place: usize) -> Result<u8, ReadError> {
@@ -103,7 +104,7 @@ pub fn endpoint(text: &[u8]) -> Result<Endpoint, ParseError> {
 /// Whether these are the bytes of a tag.
 fn is_tag(tag: &[u8]) -> bool {
     for byte in tag {
-        if !ALLOWED.contains(byte) {
+        if !is_allowed(*byte) {
             return false;
         }
     }
@@ -138,7 +139,7 @@ fn end_of_tag(bytes: &[u8], start: usize) -> Result<usize, ReadError> {
     let mut place = start;
     for _ in 0..length {
         place = place.saturating_add(1);
-        if !ALLOWED.contains(&at(bytes, place)?) {
+        if !is_allowed(at(bytes, place)?) {
             return Err(ReadError::BadTags);
         }
     }
@@ -164,11 +165,9 @@ pub fn end_of_tags(bytes: &[u8], start: usize) -> Result<usize, ReadError> {
     Ok(end)
 }
 
-/// Where the process ends that begins at a place.
+/// Where the process ends that begins at a place: 22 bytes, and tags.
 pub fn end_of_process(bytes: &[u8], start: usize) -> Result<usize, ReadError> {
-    for place in 0..22 {
-        at(bytes, start.saturating_add(place))?;
-    }
+    at(bytes, start.saturating_add(21))?;
     end_of_tags(bytes, start.saturating_add(22))
 }
 

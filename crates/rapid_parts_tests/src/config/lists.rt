@@ -4,6 +4,7 @@ ghost use Rattle.std.specs.Prelude.{◌≡◌, true};
 ghost use Rattle.rapid_model.specs.Reading.{processes_at};
 ghost use Rattle.rapid_endpoint.specs.Ends.{AreAll};
 
+use crate::config::readings::BITS;
 use crate::numbered::{full, process, tagged};
 use crate::second::{between, end_of_processes};
 use crate::short_lists::{LISTS, PAIRS, ascend, list, order, seven};
@@ -50,13 +51,40 @@ fn end_alike(bytes: &[u8]) -> bool {
     true
 }
 
+/// Wherever the bit stands.
 #[test]
-fn each_change_of_a_byte_ends_alike(rt: HostRuntime) {
+fn each_change_of_a_bit_ends_alike(rt: HostRuntime) {
     for place in 0..THREE.len() {
-        for byte in 0..=255 {
+        for bit in &BITS {
             let mut bytes = THREE;
-            bytes[place] = byte;
-            assert!(rt; end_alike(&bytes), "with {byte} at {place}");
+            bytes[place] ^= *bit;
+            assert!(rt; end_alike(&bytes), "with {bit} at {place}");
+        }
+    }
+}
+
+/// Where the tags of the three stand, with their numbers and lengths, and ends.
+const TAGS: [(usize, usize); 3] = [(22, 26), (48, 56), (78, 79)];
+
+/// Whether the three end alike with any byte at a place.
+fn end_alike_with_any(place: usize) -> bool {
+    for byte in 0..=255 {
+        let mut bytes = THREE;
+        if let Some(at) = bytes.get_mut(place) {
+            *at = byte;
+        }
+        if !end_alike(&bytes) {
+            return false;
+        }
+    }
+    true
+}
+
+#[test]
+fn each_change_of_a_byte_of_tags_ends_alike(rt: HostRuntime) {
+    for (start, end) in &TAGS {
+        for place in *start..*end {
+            assert!(rt; end_alike_with_any(place), "at {place}");
         }
     }
 }

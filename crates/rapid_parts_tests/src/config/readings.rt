@@ -234,7 +234,7 @@ fn agrees(alloc: Global, bytes: &[u8]) -> Result<bool, Fail> {
 }
 
 /// What is done to a byte: a bit is turned.
-const BITS: [u8; 8] = [1, 2, 4, 8, 16, 32, 64, 128];
+pub const BITS: [u8; 8] = [1, 2, 4, 8, 16, 32, 64, 128];
 
 /// What comes in its place: what a number of tags, a length or a byte of a tag may just be, or just
 /// not.
