@@ -34,7 +34,7 @@ alert_of a =
 abbrev pub alert_of_ref : AlertRef → model.Alert
 alert_of_ref a =
     record {
-      observer = a.observer.now;
+      observer = a.observer;
       subject = a.subject;
       ring = a.ring;
       kind = kind_of a.kind;

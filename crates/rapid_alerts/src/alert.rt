@@ -31,7 +31,7 @@ pub struct Alert {
 #[derive(Debug, Drop, PartialEq)]
 pub struct AlertRef<'a> {
     /// Who raises it.
-    pub observer: &'a Process,
+    pub observer: ProcessRef<'a>,
     /// Whom it is on.
     pub subject: ProcessRef<'a>,
     /// The ring on which the observer observes the subject, from 0.

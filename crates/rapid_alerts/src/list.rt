@@ -383,7 +383,7 @@ impl AlertList {
     {
         let item = &self.items[at];
         AlertRef {
-            observer: self.observer.get(),
+            observer: self.observer.get().as_ref(),
             subject: self.subjects[usize::from(item.place)].as_ref(),
             ring: item.ring,
             kind: item.kind,

@@ -306,7 +306,7 @@ impl<T: ObserverTable> Detector<T> {
         ensures table { self.new.table ≡ self.old.table }
         ensures unchanged { OnErr result (self.new ≡ self.old) }
     {
-        self.take(&EachAlert { alerts })
+        self.batch_in_turn(&EachAlert { alerts })
     }
 
     /// Takes the alerts of a list as [`Detector::batch`] takes a batch.
@@ -316,12 +316,12 @@ impl<T: ObserverTable> Detector<T> {
         ensures table { self.new.table ≡ self.old.table }
         ensures unchanged { OnErr result (self.new ≡ self.old) }
     {
-        self.take(alerts)
+        self.batch_in_turn(alerts)
     }
 
-    /// Takes alerts in turn, as one batch.
+    /// Takes alerts, however they are kept, as [`Detector::batch`] takes a batch.
     #[tactic(auto, unfolding(rapid_model::specs::Detector::after_batch, rapid_model::specs::Detector::batch_cut))]
-    fn take<A: InTurn>(&mut self, alerts: &A) -> Result<Option<Cut>, AllocError>
+    pub fn batch_in_turn<A: InTurn>(&mut self, alerts: &A) -> Result<Option<Cut>, AllocError>
         ensures taken { OnOk result (self.new.detector ≡ after_batch (T.observers self.old.table) self.old.detector (A.alerts alerts.now)) }
         ensures cut { IfOk result (λ cut. cut ≡ batch_cut (T.observers self.old.table) self.old.detector (A.alerts alerts.now)) }
         ensures table { self.new.table ≡ self.old.table }

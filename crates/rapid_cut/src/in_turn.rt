@@ -7,14 +7,17 @@ ghost use Rattle.rapid_alerts.specs.Alerts.{alert_of, alert_of_ref, alerts_in};
 use rapid_alerts::{Alert, AlertList, AlertRef};
 use rapid_endpoint::KeptProcess;
 
-/// An alert, and its subject if that is kept already.
-#[derive(Drop)]
+/// One of some alerts, and its subject if that is kept already.
+#[derive(Debug, Drop)]
 pub struct Turn<'a> {
+    /// The alert.
     pub alert: AlertRef<'a>,
+    /// Its subject, which a detector then shares in place of keeping a copy.
     pub kept: Option<&'a KeptProcess>,
 }
 
-/// Alerts, in order.
+/// Alerts in order, however they are kept. A detector takes them by
+/// [`Detector::batch_in_turn`](crate::Detector::batch_in_turn).
 pub trait InTurn {
     /// The alerts, however they are kept.
     ghost alerts: { Self → List ModelAlert };
@@ -47,7 +50,7 @@ impl InTurn for EachAlert<'_> {
         let alert = &self.alerts[place];
         Turn {
             alert: AlertRef {
-                observer: &alert.observer,
+                observer: alert.observer.as_ref(),
                 subject: alert.subject.as_ref(),
                 ring: alert.ring,
                 kind: alert.kind,

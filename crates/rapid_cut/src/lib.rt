@@ -19,6 +19,7 @@ mod subject;
 mod taken;
 
 pub use detector::Detector;
+pub use in_turn::{InTurn, Turn};
 
 /// A process is listed as stable exactly if it has at least H reports. It is listed as unstable
 /// exactly if it has from L to H - 1. Both lists ascend.

@@ -34,7 +34,7 @@ fn check<T: ObserverTable>(table: &T, alert: &AlertRef<'_>, place: &mut usize) -
     ensures member { result.1 ≡ (T.observers table.now).is_member alert.now.subject }
 {
     let (member, observes) = table.member_and_observes_near(
-        &alert.observer.as_ref(),
+        &alert.observer,
         alert.ring,
         &alert.subject,
         place,

@@ -2,5 +2,6 @@
 
 mod alerts;
 mod cuts;
+mod in_turn;
 mod spelt;
 mod tables;
