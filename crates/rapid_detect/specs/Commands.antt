@@ -1,6 +1,7 @@
 -- Commands as the definitions see them.
 use Rattle.rapid_model.specs.DetectLine as model
 use Rattle.rapid_model.specs.DetectText as text
+use Rattle.rapid_model.specs.Numbered.{numbered}
 use Rattle.rapid_alerts.specs.Alerts.{kind_of}
 use Rattle.rapid_detect.specs.declared.command.Place.{Place}
 use Rattle.rapid_detect.specs.declared.command.DetectCommand.{DetectCommand}
@@ -10,12 +11,12 @@ use Rattle.rapid_detect.specs.declared.command.DetectAsked.TheVariants.{Nothing,
 
 -- A place.
 abbrev pub place_of : Place → model.Place
-place_of x = record { ring = x.ring; observer = x.observer; subject = x.subject }
+place_of x = record { ring = x.ring; observer = numbered x.observer; subject = numbered x.subject }
 
 -- A command.
 abbrev pub command_of : DetectCommand → model.DetectLine
 command_of (Watermarks k h l) = model.Watermarks (record { k = k; h = h; l = l })
-command_of (Joiner p) = model.Joiner p
+command_of (Joiner n) = model.Joiner (numbered n)
 command_of (Edge x) = model.Edge (place_of x)
 command_of (Report kind x) = model.Report (kind_of kind) (place_of x)
 command_of Batch = model.Batch

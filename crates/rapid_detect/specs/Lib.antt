@@ -1,4 +1,5 @@
 pub mod Commands
+pub mod Numbers
 pub mod Phases
 pub mod Replies
 pub mod TooLong

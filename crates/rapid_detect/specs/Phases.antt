@@ -1,9 +1,9 @@
 -- The state of a run as the definitions see it.
-use Rattle.std.specs.Prelude.{◌≡◌, ℕ, Bool, true, false, List, map, Some, None}
+use Rattle.std.specs.Prelude.{◌≡◌, ℕ, Bool, true, false, List, Some, None}
 use Rattle.rapid_model.specs.Alert as model
 use Rattle.rapid_model.specs.Detector.{empty_detector}
 use Rattle.rapid_model.specs.DetectText.{Run, Asked, after, printed}
-use Rattle.rapid_alerts.specs.Alerts.{alert_of}
+use Rattle.rapid_detect.specs.Numbers.{alerts_of}
 use Rattle.rapid_detect.specs.Replies.{reply_text}
 use Rattle.rapid_detect.specs.declared.reply.DetectReply.{DetectReply}
 use Rattle.rapid_detect.specs.declared.detect.DetectPhase.{DetectPhase}
@@ -20,7 +20,7 @@ run_by (Reporting d) joiners edges alerts =
 
 -- The state of a run.
 abbrev pub run_of : DetectRun → Run
-run_of r = run_by r.phase r.joiner_lines r.edge_lines (map alert_of r.alerts.items)
+run_of r = run_by r.phase r.joiner_lines r.edge_lines (alerts_of r.alerts.items)
 
 -- A run that has taken an alert or a batch.
 abbrev pub reporting : Run → Run

@@ -10,15 +10,14 @@ ghost use Rattle.rapid_alerts.specs.Alerts.{kind_of};
 ghost use Rattle.rapid_detect.specs.Commands.{place_of, command_of, asked_of};
 
 use rapid_alerts::Kind;
-use rapid_endpoint::Process;
-use rapid_text::{byte, is_plain, one_word, process, split_word, three_words};
+use rapid_text::{byte, is_plain, one_word, process_number, split_word, three_words};
 
-/// A ring, an observer and a subject.
+/// A ring, an observer and a subject, these two by their numbers.
 #[derive(Clone, Copy, Debug)]
 pub struct Place {
     pub ring: u8,
-    pub observer: Process,
-    pub subject: Process,
+    pub observer: u16,
+    pub subject: u16,
 }
 
 /// What a command asks for.
@@ -26,8 +25,8 @@ pub struct Place {
 pub enum DetectCommand {
     /// The numbers K, H and L, which may be out of order.
     Watermarks(u8, u8, u8),
-    /// That a process is no member.
-    Joiner(Process),
+    /// That the process of a number is no member.
+    Joiner(u16),
     /// An edge of the table, whose observer is not its subject.
     Edge(Place),
     /// An alert for the next batch.
@@ -54,8 +53,8 @@ fn place_named(line: &[u8]) -> Option<Place>
     let (ring, observer, subject) = three_words(line)?;
     Some(Place {
         ring: byte(ring)?,
-        observer: process(observer)?,
-        subject: process(subject)?,
+        observer: process_number(observer)?,
+        subject: process_number(subject)?,
     })
 }
 
@@ -71,7 +70,7 @@ fn watermarks(line: &[u8]) -> Option<DetectCommand>
 fn joiner(line: &[u8]) -> Option<DetectCommand>
     ensures { option_map command_of result ≡ option_map model.Joiner (process_in (words line.now)) }
 {
-    Some(DetectCommand::Joiner(process(one_word(line)?)?))
+    Some(DetectCommand::Joiner(process_number(one_word(line)?)?))
 }
 
 /// The edge that the words of a line name.

@@ -5,19 +5,20 @@ ghost use Rattle.std.specs.Io.KnownBytes.{Appends};
 ghost use Rattle.rapid_model.specs.Alert as alert;
 ghost use Rattle.rapid_model.specs.DetectLine as line;
 ghost use Rattle.rapid_model.specs.DetectText as model;
+ghost use Rattle.rapid_model.specs.Numbered.{numbered};
 ghost use Rattle.rapid_alerts.specs.Alerts.{kind_of};
 ghost use Rattle.rapid_detect.specs.Commands.{place_of, command_of, asked_of};
 ghost use Rattle.rapid_detect.specs.Phases.{run_by, run_of, reporting, is_building, Obeys};
 ghost use Rattle.rapid_text.specs.Underway.{AppendsFront};
 
 use crate::command::{DetectAsked, DetectCommand, Place, read_line};
+use crate::numbered_alerts::{NumberedAlert, NumberedAlerts};
 use crate::reply::{DetectRefusal, DetectReply, write_reply};
-use rapid_alerts::{Alert, Kind};
-use rapid_config::{ConfigId, Cut, Params};
+use rapid_alerts::Kind;
+use rapid_config::{Cut, Params};
 use rapid_cut::Detector;
-use rapid_endpoint::Process;
 use rapid_rings::{Table, TableError};
-use rapid_text::{Engine, RunFault};
+use rapid_text::{Engine, RunFault, numbered};
 use std::alloc::{AllocError, Global};
 use std::io::{Read, Write};
 use std::mem;
@@ -46,7 +47,7 @@ pub struct DetectRun {
     phase: DetectPhase,
     joiner_lines: usize,
     edge_lines: usize,
-    alerts: Vec<Alert>,
+    alerts: Vec<NumberedAlert>,
 }
 
 /// From here on alerts and batches are taken, if `watermarks` was.
@@ -106,9 +107,9 @@ impl DetectRun {
         }
     }
 
-    /// Takes a joiner.
-    fn joiner(&mut self, process: Process) -> Result<DetectReply, AllocError>
-        ensures { IfOk result (Obeys self.old self.new (model.Command (line.Joiner process))) }
+    /// Takes the process of a number as a joiner.
+    fn joiner(&mut self, number: u16) -> Result<DetectReply, AllocError>
+        ensures { IfOk result (Obeys self.old self.new (model.Command (line.Joiner (numbered number)))) }
     {
         match &mut self.phase {
             DetectPhase::Unmarked => Ok(DetectReply::Refused(DetectRefusal::NoWatermarks)),
@@ -117,7 +118,7 @@ impl DetectRun {
                 if self.joiner_lines >= Cut::MOST_JOINERS {
                     return Ok(DetectReply::Refused(DetectRefusal::TooMany));
                 }
-                table.joiner(process)?;
+                table.joiner(numbered(number))?;
                 self.joiner_lines += 1;
                 Ok(DetectReply::Silent)
             }
@@ -135,7 +136,11 @@ impl DetectRun {
                 if self.edge_lines >= MOST_EDGES {
                     return Ok(DetectReply::Refused(DetectRefusal::TooMany));
                 }
-                match table.add(place.ring, place.observer, place.subject) {
+                match table.add(
+                    place.ring,
+                    numbered(place.observer),
+                    numbered(place.subject),
+                ) {
                     Ok(()) => {
                         self.edge_lines += 1;
                         Ok(DetectReply::Silent)
@@ -163,12 +168,11 @@ impl DetectRun {
         if self.alerts.len() >= MOST_ALERTS {
             return Ok(DetectReply::Refused(DetectRefusal::TooMany));
         }
-        self.alerts.push(Alert {
+        self.alerts.push(NumberedAlert {
+            kind,
+            ring: place.ring,
             observer: place.observer,
             subject: place.subject,
-            ring: place.ring,
-            kind,
-            config: ConfigId::zero(),
         })?;
         start(self.alloc, &mut self.phase);
         Ok(DetectReply::Silent)
@@ -184,7 +188,7 @@ impl DetectRun {
             DetectPhase::Building(_) => unreachable!(),
             DetectPhase::Reporting(detector) => {
                 // the alerts go only once the detector has taken them
-                let cut = detector.batch(self.alerts.as_slice())?;
+                let cut = detector.batch_in_turn(&NumberedAlerts::new(&self.alerts))?;
                 let skipped = detector.skipped();
                 self.alerts.clear();
                 Ok(DetectReply::Batch(cut, skipped))
@@ -198,7 +202,7 @@ impl DetectRun {
     {
         match command {
             DetectCommand::Watermarks(k, h, l) => Ok(self.watermarks(k, h, l)),
-            DetectCommand::Joiner(process) => self.joiner(process),
+            DetectCommand::Joiner(number) => self.joiner(number),
             DetectCommand::Edge(place) => self.edge(place),
             DetectCommand::Report(kind, place) => self.report(kind, place),
             DetectCommand::Batch => self.batch(),

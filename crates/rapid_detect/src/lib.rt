@@ -4,6 +4,7 @@
 
 mod command;
 mod detect;
+mod numbered_alerts;
 mod reply;
 
 pub use detect::run_detect;

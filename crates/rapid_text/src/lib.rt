@@ -14,7 +14,7 @@ mod written;
 pub use engine::Engine;
 pub use fault::RunFault;
 pub use line::{is_plain, number, one_word, split_word, three_words};
-pub use names::{byte, numbered, process};
+pub use names::{byte, numbered, numbered_ref, process, process_number};
 pub use output::write_text;
 pub use stream::run;
 pub use written::{write_members, write_node, write_number, write_tags};
