@@ -177,14 +177,14 @@ kinds_decide E a b m n Join Join = (λ e. refl, λ e. b)
 
 -- alerts of which all parts are the same
 pub same_parts : (E : Kind → Kind → Bool) → E Remove Join ≡ false → E Join Remove ≡ false → (a b : AlertRef)
-    → (same_bytes a.observer.now b.observer.now && (same_bytes a.subject b.subject && (nat_eq a.ring b.ring && (E a.kind b.kind && same_bytes a.config.now b.config.now)))) ≡ true
+    → (same_bytes a.observer b.observer && (same_bytes a.subject b.subject && (nat_eq a.ring b.ring && (E a.kind b.kind && same_bytes a.config.now b.config.now)))) ≡ true
     → alert_of_ref a ≡ alert_of_ref b
 same_parts E m n a b h =
     let p = and_parts _ _ h in
     let q = and_parts _ _ p.1 in
     let r = and_parts _ _ q.1 in
     let s = and_parts _ _ r.1 in
-    let observer : a.observer.now ≡ b.observer.now = (same_bytes_decides a.observer.now b.observer.now).0 p.0 in
+    let observer : a.observer ≡ b.observer = (same_bytes_decides a.observer b.observer).0 p.0 in
     let subject : a.subject ≡ b.subject = (same_bytes_decides a.subject b.subject).0 q.0 in
     let ring : a.ring ≡ b.ring = eqb-true a.ring b.ring r.0 in
     let kind : kind_of a.kind ≡ kind_of b.kind = same_kind E m n a.kind b.kind s.0 in
@@ -192,7 +192,7 @@ same_parts E m n a b h =
     λ i. record { observer = observer i; subject = subject i; ring = ring i; kind = kind i; config = config i }
 
 pub parts_back : (E : Kind → Kind → Bool) → E Remove Remove ≡ true → E Join Join ≡ true → (a b : AlertRef) → alert_of_ref a ≡ alert_of_ref b
-    → (same_bytes a.observer.now b.observer.now && (same_bytes a.subject b.subject && (nat_eq a.ring b.ring && (E a.kind b.kind && same_bytes a.config.now b.config.now)))) ≡ true
+    → (same_bytes a.observer b.observer && (same_bytes a.subject b.subject && (nat_eq a.ring b.ring && (E a.kind b.kind && same_bytes a.config.now b.config.now)))) ≡ true
 parts_back E p q a b e =
     and_from _ _ (bytes_back _ _ (ap (λ x. x.observer) e))
     (and_from _ _ (bytes_back _ _ (ap (λ x. x.subject) e))

@@ -15,7 +15,7 @@ use Rattle.rapid_model.proofs.Orders.{reports_total, reports_exact, processes_to
 use Rattle.rapid_model.proofs.InOrder.{any_in_order, sorted_in_order, same_sorted}
 use Rattle.rapid_cut.specs.Closing.{IsBetween, HaveCome, is_one_of, active}
 use Rattle.rapid_cut.specs.Growing.{HaveGrown}
-use Rattle.rapid_cut.proofs.InTurn.{ordered_subjects}
+use Rattle.rapid_cut.proofs.Ordered.{ordered_subjects}
 use Rattle.rapid_cut.proofs.Sets.{subject_of}
 use Rattle.rapid_cut.proofs.Joiners.{sorted_subjects}
 use Rattle.rapid_cut.proofs.OnePass.{one_pass}

@@ -12,7 +12,7 @@ pub mod Masks
 pub mod Counts
 pub mod Taking
 pub mod Cuts
-pub mod InTurn
+pub mod Ordered
 pub mod Merging
 pub mod Batches
 pub mod Repeats

@@ -4,7 +4,7 @@ use Rattle.std.proofs.lemmas.List.Filters.{dedup_is}
 use Rattle.std.proofs.lemmas.List.Sorted.{answers_always, ranks_by}
 use Rattle.rapid_model.specs.Process.{process_cmp, same_bytes}
 use Rattle.rapid_model.proofs.Orders.{processes_total}
-use Rattle.rapid_cut.proofs.InTurn.{put_in_order}
+use Rattle.rapid_cut.proofs.Ordered.{put_in_order}
 use Rattle.rapid_cut.proofs.ascending.ascending.Goals as goal
 
 pub returns : goal.returns

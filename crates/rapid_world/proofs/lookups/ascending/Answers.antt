@@ -1,6 +1,6 @@
 use Rattle.std.proofs.lemmas.List.Filters.{dedup_is}
 use Rattle.rapid_model.specs.Process.{same_bytes}
-use Rattle.rapid_cut.proofs.InTurn.{put_in_order}
+use Rattle.rapid_cut.proofs.Ordered.{put_in_order}
 use Rattle.rapid_world.proofs.lookups.ascending.Goals as goal
 
 pub returns : goal.returns

@@ -22,4 +22,4 @@ returns c =
     ∙ alert_at_place seen c.args.at said
     (item_at_place ss xs c.args.at x s (slice_get_read xs (length xs) c.args.at x refl within c.index-item.ensures)
     (slice_get_read ss (length ss) x.place s refl placed (c.index.ensures ∙ ap (λ n. get_or ss n s) c.from.ensures)))
-    ∙ (λ i. let a : model.Alert = record { observer = sym c.get.ensures i; subject = sym c.as_ref.ensures i; ring = x.ring; kind = kind_of x.kind; config = c.self.inside.config } in Some a)
+    ∙ (λ i. let a : model.Alert = record { observer = sym (c.as_ref.ensures ∙ c.get.ensures) i; subject = sym c.as_ref-2.ensures i; ring = x.ring; kind = kind_of x.kind; config = c.self.inside.config } in Some a)

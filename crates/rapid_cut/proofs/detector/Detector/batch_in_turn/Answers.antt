@@ -2,7 +2,7 @@ use Rattle.std.proofs.Common.{◌≡◌, ◌∙◌, ap, sym}
 use Rattle.rapid_model.specs.Detector.{Detector}
 use Rattle.rapid_cut.specs.Known.{Known}
 use Rattle.rapid_cut.proofs.Batches.{closed_after, after_along, kept_along, view_along}
-use Rattle.rapid_cut.proofs.detector.Detector.take.Goals as goal
+use Rattle.rapid_cut.proofs.detector.Detector.batch_in_turn.Goals as goal
 
 pub returns-then-self-clause-taken : goal.returns-then-self-clause-taken
 returns-then-self-clause-taken g c =
