@@ -1,5 +1,5 @@
 -- Masks that stand beside their processes.
-use Rattle.std.proofs.Common.{◌≡◌, ◌<◌, ℕ, zero, suc, Bool, true, false, cond, ◌||◌, List, [], ◌∷◌, ◌++◌, length, take, set, get_or, slice_get, zip, Option, Some, None, refl, sym, ap, subst, ◌∙◌, arith}
+use Rattle.std.proofs.Common.{◌≡◌, ◌<◌, ℕ, zero, suc, Bool, true, false, cond, ◌||◌, List, [], ◌∷◌, ◌++◌, length, take, set, get_or, slice_get, zip, Option, Some, None, refl, sym, ap, ◌∙◌, arith}
 use Rattle.rapid_model.specs.Process.{Process, same_bytes, is_in}
 use Rattle.rapid_model.proofs.Orders.{same_bytes_decides}
 use Rattle.rapid_cut.specs.declared.mask.Masks.{Masks}

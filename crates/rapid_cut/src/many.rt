@@ -1,7 +1,9 @@
 // Masks of many processes.
 
-ghost use Rattle.std.specs.Prelude.{◌≡◌, ◌++◌, ◌∷◌, [], true, false, None, is_some, IfOk, OnOk, OnErr};
-ghost use Rattle.rapid_model.specs.Process.{Process as Bytes};
+ghost use Rattle.std.specs.Prelude.{◌≡◌, ◌++◌, ◌∷◌, [], true, false, None, is_some, position, IfOk, OnOk, OnErr};
+ghost use Rattle.std.specs.Arc.{arc_value};
+ghost use Rattle.rapid_model.specs.Process.{Process as Bytes, is_in, same_bytes};
+ghost use Rattle.rapid_roster.specs.Once.{StandOnce};
 ghost use Rattle.rapid_cut.specs.Growing.{TakesOut};
 ghost use Rattle.rapid_cut.specs.Known.{known_in};
 ghost use Rattle.rapid_cut.specs.Listed.{masks_at, PutsMasks};
@@ -13,26 +15,48 @@ use rapid_endpoint::{KeptProcess, ProcessRef};
 use rapid_roster::Roster;
 use std::alloc::{AllocError, Global};
 use std::marker::Model;
+use std::sync::Arc;
 
 /// The masks of processes that are too many for a list that is searched from its front. They are
-/// seldom needed, so what is done with them stands apart.
+/// seldom needed, so what is done with them stands apart. Copies share the processes, until there is
+/// one more in one of them.
 #[derive(Debug, Drop)]
 pub struct Many {
-    subjects: Roster,
+    subjects: Arc<Roster, Global>,
     /// by the subject's place
     masks: Vec<Masks>,
 }
 
 impl Model for Many {
     ghost use Rattle.std.specs.Prelude.{◌≡◌, List, length, zip};
+    ghost use Rattle.std.specs.Arc.{arc_value};
     ghost use Rattle.rapid_model.specs.Process.{Process as ModelProcess};
     ghost use Rattle.rapid_cut.specs.declared.mask.Masks.{Masks};
 
     ghost Value = { List (ModelProcess × Masks) };
 
-    ghost view = { λ m. zip m.subjects m.masks.items };
+    ghost view = { λ m. zip (arc_value m.subjects) m.masks.items };
 
-    ghost invariant = { λ m. length m.masks.items ≡ length m.subjects };
+    ghost invariant = { λ m. length m.masks.items ≡ length (arc_value m.subjects) };
+}
+
+/// The place of a process, if it is there. No process stands there twice.
+#[inline(always)]
+fn find_in(roster: &Arc<Roster, Global>, process: &ProcessRef<'_>) -> Option<usize>
+    ensures found { result ≡ position (same_bytes process.now) (arc_value roster.now) }
+    ensures once { StandOnce (arc_value roster.now) }
+{
+    roster.tell();
+    roster.find(process)
+}
+
+/// Adds a process that is not there. If the roster is shared, a copy of it has the process.
+fn push_shared(roster: &mut Arc<Roster, Global>, process: KeptProcess) -> Result<(), AllocError>
+    requires { is_in (arc_value roster.old) process ≡ false }
+    ensures pushed { OnOk result (arc_value roster.new ≡ arc_value roster.old ++ process ∷ []) }
+    ensures unchanged { OnErr result (arc_value roster.new ≡ arc_value roster.old) }
+{
+    Arc::make_mut(roster)?.push(process)
 }
 
 impl Many {
@@ -51,20 +75,20 @@ impl Many {
     }
 
     /// Nobody has masks.
-    fn none(alloc: Global) -> Many
-        ensures { result ≡ [] }
+    fn none(alloc: Global) -> Result<Many, AllocError>
+        ensures { IfOk result (λ many. many ≡ []) }
     {
-        Many {
-            subjects: Roster::new(alloc),
+        Ok(Many {
+            subjects: Arc::new(alloc, Roster::new(alloc))?,
             masks: Vec::new(alloc),
-        }
+        })
     }
 
     /// The masks that the list has.
     fn of(alloc: Global, entries: &[(KeptProcess, Masks)]) -> Result<Many, AllocError>
         ensures { IfOk result (λ many. (q : Bytes) → masks_at many q ≡ masks_at entries.now q) }
     {
-        let mut many = Many::none(alloc);
+        let mut many = Many::none(alloc)?;
         for (subject, masks) in entries {
             many.put_first(subject, *masks)?;
         }
@@ -76,8 +100,7 @@ impl Many {
     pub fn masks_of(&self, subject: &ProcessRef<'_>) -> Option<Masks>
         ensures { result ≡ masks_at self.now subject.now }
     {
-        self.subjects.tell();
-        match self.subjects.find(subject) {
+        match find_in(&self.subjects, subject) {
             Some(place) => Some(self.masks[place]),
             None => None,
         }
@@ -90,7 +113,7 @@ impl Many {
         ensures unchanged { OnErr result (self.new ≡ self.old) }
     {
         self.masks.reserve(1)?;
-        self.subjects.push(subject)?;
+        push_shared(&mut self.subjects, subject)?;
         self.masks.push_reserved(masks);
         Ok(())
     }
@@ -116,8 +139,7 @@ impl Many {
         ensures put { OnOk result (PutsMasks subject.now masks self.old self.new) }
         ensures unchanged { OnErr result (self.new ≡ self.old) }
     {
-        self.subjects.tell();
-        match self.subjects.find(&subject.as_ref()) {
+        match find_in(&self.subjects, &subject.as_ref()) {
             Some(place) => {
                 self.masks[place] = masks;
                 Ok(())
@@ -135,8 +157,7 @@ impl Many {
         ensures direct { TakesOut subject.now rings.direct (known_in self.old).direct (known_in self.new).direct }
         ensures all { TakesOut subject.now rings.all (known_in self.old).all (known_in self.new).all }
     {
-        self.subjects.tell();
-        match self.subjects.find(subject) {
+        match find_in(&self.subjects, subject) {
             Some(place) => self.masks[place] = self.masks[place].without(rings),
             None => {}
         }
@@ -148,7 +169,7 @@ impl Many {
         ensures { IfOk result (λ copy. copy.value ≡ self.now) }
     {
         let copy = Many {
-            subjects: self.subjects.try_copy(alloc)?,
+            subjects: Arc::try_clone(&self.subjects)?,
             masks: self.masks.clone()?,
         };
         Ok(Box::new(alloc, copy)?)

@@ -158,3 +158,11 @@ impl Roster {
         })
     }
 }
+
+impl Clone for Roster {
+    ghost is_clone = { λ a b. b ≡ a };
+
+    fn clone(&self) -> Result<Roster, AllocError> {
+        self.try_copy(*self.processes.allocator())
+    }
+}

@@ -1,5 +1,4 @@
-use Rattle.std.proofs.Common.{◌≡◌, ◌∙◌, ◌+◌, true, false, is_some, take, ap, sym, refl}
-use Rattle.rapid_model.specs.Process.{Process}
+use Rattle.std.proofs.Common.{◌≡◌, ◌∙◌, ◌+◌, true, false, is_some, take, ap, refl}
 use Rattle.rapid_cut.specs.Listed.{masks_at}
 use Rattle.rapid_cut.proofs.Listed.{map_more, map_same}
 use Rattle.rapid_cut.proofs.many.Many.of.Goals as goal

@@ -1,4 +1,4 @@
-use Rattle.std.proofs.Common.{◌≡◌, ◌∙◌, ◌++◌, ◌∷◌, [], None, is_some, true, false, true≢false, ap, sym}
+use Rattle.std.proofs.Common.{◌∙◌, ◌++◌, ◌∷◌, [], is_some, true≢false, ap, sym}
 use Rattle.rapid_model.specs.Process.{Process}
 use Rattle.rapid_cut.specs.Listed.{masks_at}
 use Rattle.rapid_cut.proofs.Listed.{pushed_last, is_none}
