@@ -1,7 +1,7 @@
-pub mod Edges
 pub mod Faults
 pub mod Following
-pub mod Held
 pub mod Keys
 pub mod Observing
+pub mod Places
+pub mod Rows
 pub mod Seats

@@ -5,21 +5,19 @@
 //! a [`Table`] of explicit edges.
 #![tactic(auto)]
 
-mod edge_key;
-mod edge_map;
 mod known_keys;
+mod maybe_place;
 mod observer_table;
 mod places;
-mod process_key;
-mod process_set;
 mod ring;
 mod rings;
+mod row;
+mod rows;
 mod seats;
 mod table;
 mod table_error;
 
 pub use observer_table::ObserverTable;
-pub use process_key::ProcessKey;
 pub use rings::Rings;
 pub use table::Table;
 pub use table_error::TableError;

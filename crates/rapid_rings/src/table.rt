@@ -1,16 +1,16 @@
 // Tables of explicit edges.
 
-ghost use Rattle.std.specs.Prelude.{◌≡◌, None, not, ◌&&◌, if◌then◌else◌, OnOk, OnErr, IfOk, IfErr};
-ghost use Rattle.std.specs.FinSet as set;
+ghost use Rattle.std.specs.Prelude.{◌≡◌, None, OnOk, OnErr, IfErr, nat_lt, if◌then◌else◌};
+ghost use Rattle.std.specs.FinMap as finmap;
+ghost use Rattle.rapid_model.specs.Process.{Process as ModelProcess};
 ghost use Rattle.rapid_model.specs.Table.{empty_table, add_fault, after_add, after_joiner, table_observers};
-ghost use Rattle.rapid_model.specs.Configuration.{AreParams};
 ghost use Rattle.rapid_rings.specs.Faults.{Reports, ReportsIfAny};
+ghost use Rattle.rapid_rings.specs.Rows.{Holds, table_of, place_in, edges_of};
 
-use crate::edge_map::EdgeMap;
-use crate::process_set::ProcessSet;
+use crate::rows::Rows;
 use crate::{ObserverTable, TableError};
 use rapid_config::{ConfigId, Configuration, Params};
-use rapid_endpoint::Process;
+use rapid_endpoint::{Process, ProcessRef};
 use std::alloc::{AllocError, Global};
 use std::marker::Model;
 
@@ -18,23 +18,22 @@ use std::marker::Model;
 #[derive(Debug, Drop)]
 pub struct Table {
     params: Params,
-    joiners: ProcessSet,
-    edges: EdgeMap,
-    // the subjects of edges that are no joiners
-    observed: ProcessSet,
+    rows: Rows,
+    // how many members have an observer
+    observed: usize,
 }
 
 impl Model for Table {
     ghost use Rattle.rapid_model.specs.Table.{Table as ModelTable, table_code};
-    ghost use Rattle.rapid_rings.specs.Held.{Holds};
+    ghost use Rattle.rapid_rings.specs.Rows.{Holds, table_of};
 
     ghost Value = { ModelTable };
 
     ghost coded = { table_code };
 
-    ghost view = { λ t. record { params = t.params; joiners = t.joiners; edges = t.edges } };
+    ghost view = { λ t. table_of t.params t.rows };
 
-    ghost invariant = { λ t. Holds (record { params = t.params; joiners = t.joiners; edges = t.edges }) t.observed };
+    ghost invariant = { λ t. Holds t.params t.rows t.observed };
 }
 
 impl Table {
@@ -45,9 +44,8 @@ impl Table {
         let _ = params.k();
         Table {
             params,
-            joiners: ProcessSet::new(alloc),
-            edges: EdgeMap::new(alloc),
-            observed: ProcessSet::new(alloc),
+            rows: Rows::new(alloc),
+            observed: 0,
         }
     }
 
@@ -57,8 +55,9 @@ impl Table {
         ensures ok { OnOk result (self.new ≡ after_joiner self.old process) }
         ensures unchanged { OnErr result (self.new ≡ self.old) }
     {
-        self.joiners.insert(process)?;
-        self.observed.remove(&process);
+        if self.rows.add_joiner(&process.as_ref())? {
+            self.observed -= 1;
+        }
         Ok(())
     }
 
@@ -72,66 +71,63 @@ impl Table {
         ensures refused { IfErr result (Reports (add_fault self.old ring subject)) }
         ensures unchanged { OnErr result (self.new ≡ self.old) }
     {
-        match self.fault(ring, &subject) {
-            Some(error) => Err(error),
-            None => Ok(self.put(ring, observer, subject)?),
+        let subject = subject.as_ref();
+        let place = self.rows.find(&subject);
+        if let Some(error) = fault(self.params, &self.rows, self.observed, ring, place) {
+            return Err(error);
         }
-    }
-
-    // Why an edge is refused.
-    #[tactic(auto, unfolding(rapid_model::specs::Table::add_fault))]
-    fn fault(&self, ring: u8, subject: &Process) -> Option<TableError>
-        ensures { ReportsIfAny (add_fault self.now ring subject.now) result }
-    {
-        let counts = !self.joiners.contains(subject) && !self.observed.contains(subject);
-        if counts && self.observed.len() >= Configuration::MOST {
-            Some(TableError::TooMany)
-        } else if ring >= self.params.k() {
-            Some(TableError::RingRange)
-        } else if self.edges.contains(ring, subject) {
-            Some(TableError::EdgeTwice)
-        } else {
-            None
+        if self.rows.add_edge(ring, &observer.as_ref(), &subject, place)? {
+            self.observed += 1;
         }
-    }
-
-    // Adds an edge that is not refused.
-    fn put(&mut self, ring: u8, observer: Process, subject: Process) -> Result<(), AllocError>
-        requires { add_fault self.old ring subject ≡ None }
-        ensures ok { OnOk result (self.new ≡ after_add self.old ring observer subject) }
-        ensures unchanged { OnErr result (self.new ≡ self.old) }
-    {
-        let is_joiner = self.joiners.contains(&subject);
-        let added = note(&mut self.observed, is_joiner, subject)?;
-        match self.edges.insert(ring, observer, subject) {
-            Ok(()) => Ok(()),
-            Err(error) => {
-                take_back(&mut self.observed, added, &subject);
-                Err(error)
-            }
-        }
+        Ok(())
     }
 }
 
-// Notes that a subject is observed, unless it is a joiner; whether that was new.
-fn note(observed: &mut ProcessSet, is_joiner: bool, subject: Process) -> Result<bool, AllocError>
-    ensures ok { OnOk result (observed.new ≡ (if is_joiner then observed.old else set.insert observed.old subject)) }
-    ensures added { IfOk result (λ added. added ≡ (not is_joiner && not (set.contains observed.old subject))) }
-    ensures unchanged { OnErr result (observed.new ≡ observed.old) }
+// Why an edge is refused of which the subject has this place, if it is named.
+fn fault(
+    params: Params,
+    rows: &Rows,
+    observed: usize,
+    ring: u8,
+    place: Option<usize>,
+) -> Option<TableError>
+    ensures { (subject : ModelProcess) → Holds params rows.now observed → place ≡ place_in rows.now subject → ReportsIfAny (add_fault (table_of params rows.now) ring subject) result }
 {
-    if is_joiner {
-        Ok(false)
+    let counts = !rows.is_joiner(place) && !rows.is_observed(place);
+    if counts && observed >= Configuration::MOST {
+        Some(TableError::TooMany)
+    } else if ring >= params.k() {
+        Some(TableError::RingRange)
+    } else if rows.observer(place, ring).is_some() {
+        Some(TableError::EdgeTwice)
     } else {
-        observed.insert(subject)
+        None
     }
 }
 
-// Takes a subject back that was new.
-fn take_back(observed: &mut ProcessSet, added: bool, subject: &Process)
-    ensures { observed.new ≡ (if added then set.remove observed.old subject.now else observed.old) }
+// The observer on a ring of the process with this place; none if the ring is not below K.
+fn observer_at<'a>(
+    params: Params,
+    rows: &'a Rows,
+    place: Option<usize>,
+    ring: u8,
+) -> Option<ProcessRef<'a>>
+    ensures { (process : ModelProcess) → place ≡ place_in rows.now process → result ≡ (if nat_lt ring params.k then finmap.get (edges_of rows.now) (process, ring) else None) }
 {
-    if added {
-        observed.remove(subject);
+    if ring < params.k() {
+        rows.observer(place, ring)
+    } else {
+        None
+    }
+}
+
+// The process as a value.
+fn to_process(process: Option<ProcessRef<'_>>) -> Option<Process>
+    ensures { result ≡ process }
+{
+    match process {
+        Some(process) => Some(process.to_process()),
+        None => None,
     }
 }
 
@@ -148,14 +144,43 @@ impl ObserverTable for Table {
     }
 
     fn is_member(&self, process: &Process) -> bool {
-        !self.joiners.contains(process)
+        !self.rows.is_joiner(self.rows.find(&process.as_ref()))
     }
 
     fn observer(&self, ring: u8, subject: &Process) -> Option<Process> {
-        if ring < self.params.k() {
-            self.edges.observer(ring, subject)
-        } else {
-            None
-        }
+        let place = self.rows.find(&subject.as_ref());
+        to_process(observer_at(self.params, &self.rows, place, ring))
+    }
+
+    fn member_and_observer(&self, ring: u8, subject: &Process) -> (bool, Option<Process>) {
+        self.member_and_observer_near(ring, subject, &mut usize::MAX)
+    }
+
+    fn member_and_observer_near(
+        &self,
+        ring: u8,
+        subject: &Process,
+        place: &mut usize,
+    ) -> (bool, Option<Process>) {
+        let found = self.rows.find_near(*place, &subject.as_ref());
+        *place = found.unwrap_or(*place);
+        let observer = observer_at(self.params, &self.rows, found, ring);
+        (!self.rows.is_joiner(found), to_process(observer))
+    }
+
+    fn member_and_observes_near(
+        &self,
+        observer: &ProcessRef<'_>,
+        ring: u8,
+        subject: &ProcessRef<'_>,
+        place: &mut usize,
+    ) -> (bool, bool) {
+        let found = self.rows.find_near(*place, subject);
+        *place = found.unwrap_or(*place);
+        let observes = match observer_at(self.params, &self.rows, found, ring) {
+            Some(process) => process.is(observer),
+            None => false,
+        };
+        (!self.rows.is_joiner(found), observes)
     }
 }
