@@ -6,6 +6,8 @@ pub mod Lookups
 pub mod Numbers
 pub mod Orders
 pub mod Rounds
+pub mod RowEdits
+pub mod RowLookups
 pub mod Sets
 pub mod Stretches
 pub mod Subjects

@@ -30,7 +30,7 @@ below_is_none p (q ∷ ps) h =
     ap (λ b. b || is_in ps p) (less_differs (process_cmp p q) parts.0) ∙ below_is_none p ps parts.1
 
 -- a set with a member is not empty
-some_in : (s : ProcessSet) (p : Process) → set.contains s p ≡ true → 1 ≤ set.len s
+pub some_in : (s : ProcessSet) (p : Process) → set.contains s p ≡ true → 1 ≤ set.len s
 some_in s p has =
     elim (set.len s) as (λ n. set.len s ≡ n → 1 ≤ n) [
       | zero ↦ λ e. absurd (no (set.empty_of_len s e))

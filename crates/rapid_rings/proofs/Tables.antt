@@ -1,21 +1,22 @@
 -- The rules of tables are kept, and the observers of a table are observers.
-use Rattle.std.proofs.Common.{◌≡◌, ℕ, suc, ◌+◌, ◌-◌, ◌≤◌, Bool, true, false, cond, not, ◌&&◌, ◌||◌, List, [], ◌∷◌, length, map, refl, sym, ap, subst, ◌∙◌, Option, Some, None, arith, nat_lt}
+use Rattle.std.proofs.Common.{◌≡◌, ℕ, suc, ◌+◌, ◌-◌, ◌≤◌, Bool, true, false, cond, not, ◌&&◌, ◌||◌, List, [], ◌∷◌, length, map, refl, sym, ap, subst, ◌∙◌, inl, inr, ◌<◌, Option, Some, None, arith, nat_lt}
 use Rattle.std.specs.Prelude.{All, IsSome, IsTrue, is_some}
 use Rattle.std.specs.declared.cmp.Ordering.TheVariants.{Less, Equal, Greater}
 use Rattle.std.specs.Ordering.{eq_by_cmp}
 use Rattle.std.specs.FinSet as set
 use Rattle.std.specs.FinMap as finmap
 use Rattle.std.specs.FinMap.{put}
+use Rattle.rapid_model.specs.Limits.{most_members}
 use Rattle.rapid_model.specs.Process.{Process, ProcessSet, process_cmp, same_bytes, is_in}
 use Rattle.rapid_model.specs.Configuration.{Params, AreParams}
 use Rattle.rapid_model.specs.Ring.{AreObservers}
 use Rattle.rapid_model.specs.Reports.{Report, report_cmp}
-use Rattle.rapid_model.specs.Table.{Table, TableFault, TooMany, TableEdges, IsTable, empty_table, table_subjects, observed_members, is_too_many, add_fault, after_add, after_joiner, table_observers}
+use Rattle.rapid_model.specs.Table.{Table, TableFault, TooMany, RingRange, EdgeTwice, TableEdges, IsTable, empty_table, table_subjects, observed_members, is_too_many, add_fault, after_add, after_joiner, table_observers}
 use Rattle.rapid_model.proofs.Orders.{processes_total, processes_exact, reports_total, reports_exact, tie_decides, same_bytes_decides}
-use Rattle.rapid_rings.specs.Held.{Holds}
-use Rattle.rapid_rings.proofs.Sets.{ascending_fit}
+use Rattle.rapid_rings.specs.Rows.{Rows, no_rows, is_observed_in, is_counted_in, is_free_in, joiners_of, edges_of, table_of, AreRows, SaySame, AddsJoiner, AddsEdge, Holds}
+use Rattle.rapid_rings.proofs.Sets.{ascending_fit, some_in}
 use Rattle.rapid_model.proofs.Logic.{or_swap, or_twice}
-use Rattle.std.proofs.lemmas.Bool.{le-ltb}
+use Rattle.std.proofs.lemmas.Bool.{lt-ltb, le-ltb, cases_lt}
 
 -- ---- the subjects of edges
 
@@ -205,48 +206,166 @@ table-AreObservers t is =
 
 -- ---- what a table of the program holds
 
-pub Holds-empty : (params : Params) → AreParams params → Holds (empty_table params) set.empty
-Holds-empty params are = record { rules = empty-IsTable params are; observed = sym (observed-empty params) }
+no_joiners : joiners_of no_rows ≡ set.empty
+unfolding joiners_of
+no_joiners = set.same_set processes_total processes_exact _ _ (λ q. set.contains-from_list processes_total [] q ∙ sym (set.contains-empty process_cmp q))
 
-pub Holds-joiner : (t : Table) (members : ProcessSet) (joiner : Process) → Holds t members → Holds (after_joiner t joiner) (set.remove members joiner)
-Holds-joiner t members joiner h =
+no_edges : edges_of no_rows ≡ finmap.empty
+unfolding edges_of
+no_edges = finmap.same_map reports_total reports_exact _ _ (λ q. finmap.get-from_entries reports_total [] q ∙ sym (finmap.get-empty report_cmp q))
+
+pub none_are_rows : AreRows no_rows
+none_are_rows = record { once = λ i j p at there. cc; one_each = refl; cells = λ i d l. absurd (omega (arith, l)) }
+
+pub no_table : (params : Params) → table_of params no_rows ≡ empty_table params
+no_table params = λ i. record { params = params; joiners = no_joiners i; edges = no_edges i }
+
+pub Holds-none : (params : Params) → AreParams params → Holds params no_rows 0
+Holds-none params are =
     record {
-      rules = after_joiner-IsTable t joiner h.rules;
-      observed = ap (λ s. set.remove s joiner) h.observed ∙ sym (observed-after_joiner t joiner);
+      rules = subst IsTable (sym (no_table params)) (empty-IsTable params are);
+      subjects = λ p. ap (λ e. set.contains (table_subjects e) p) no_edges ∙ subjects-empty p;
+      count = sym (ap (λ t. set.len (observed_members t)) (no_table params) ∙ ap set.len (observed-empty params) ∙ set.len-empty process_cmp);
     }
 
--- the observed members with one more subject, unless it is a joiner
-pub Holds-add : (t : Table) (members : ProcessSet) (ring : ℕ) (observer subject : Process) → Holds t members → add_fault t ring subject ≡ None
-    → Holds (after_add t ring observer subject) (cond (set.contains t.joiners subject) members (set.insert members subject))
-Holds-add t members ring observer subject h none =
+-- the table of rows that say the same
+pub same_table : (params : Params) (x y : Rows) → SaySame x y → table_of params y ≡ table_of params x
+same_table params x y h = λ i. record { params = params; joiners = h.joiners i; edges = h.edges i }
+
+pub Holds-same : (params : Params) (x y : Rows) (n : ℕ) → SaySame x y → Holds params x n → Holds params y n
+Holds-same params x y n same h =
     record {
-      rules = after_add-IsTable t ring observer subject h.rules none;
-      observed = ap (λ s. cond (set.contains t.joiners subject) s (set.insert s subject)) h.observed ∙ sym (observed-after_add t ring observer subject);
+      rules = subst IsTable (sym (same_table params x y same)) h.rules;
+      subjects = λ p. ap (λ e. set.contains (table_subjects e) p) same.edges ∙ h.subjects p ∙ sym (same.observed p);
+      count = h.count ∙ ap (λ t. set.len (observed_members t)) (sym (same_table params x y same));
     }
 
--- a subject that was new is taken back
-pub taken_back : (members : ProcessSet) (is_joiner : Bool) (subject : Process)
-    → cond (not is_joiner && not (set.contains members subject)) (set.remove (cond is_joiner members (set.insert members subject)) subject) (cond is_joiner members (set.insert members subject)) ≡ members
-taken_back members true subject = refl
-taken_back members false subject =
-    elim (set.contains members subject) as (λ b. set.contains members subject ≡ b → cond (not b) (set.remove (set.insert members subject) subject) (set.insert members subject) ≡ members) [
-      | true ↦ λ e. set.same_set processes_total processes_exact _ _ (λ q. set.contains-insert processes_total members subject q ∙ kept q e)
-      | false ↦ λ e. set.same_set processes_total processes_exact _ _ (λ q.
-          set.contains-remove processes_total (set.insert members subject) subject q
-          ∙ ap (λ b. not (same_bytes q subject) && b) (set.contains-insert processes_total members subject q)
-          ∙ lost q e)
-    ] refl
+-- whether a process is an observed member, as its row says
+is_counted : (params : Params) (x : Rows) (n : ℕ) (p : Process) → Holds params x n → set.contains (observed_members (table_of params x)) p ≡ is_counted_in x p
+is_counted params x n p h = contains-observed (table_of params x) p ∙ ap (λ b. b && not (set.contains (joiners_of x) p)) (h.subjects p)
+
+-- the table with one more joiner
+pub joined_table : (params : Params) (x y : Rows) (p : Process) → AddsJoiner x y p → table_of params y ≡ after_joiner (table_of params x) p
+joined_table params x y p a = λ i. record { params = params; joiners = a.joiners i; edges = a.edges i }
+
+pub Holds-joiner : (params : Params) (x y : Rows) (p : Process) (n : ℕ) → AddsJoiner x y p → Holds params x n → Holds params y (cond (is_counted_in x p) (n - 1) n)
+Holds-joiner params x y p n a h =
+    record {
+      rules = subst IsTable (sym joined) (after_joiner-IsTable t p h.rules);
+      subjects = λ q. ap (λ e. set.contains (table_subjects e) q) a.edges ∙ h.subjects q ∙ sym (a.observed q);
+      count =
+          ap (λ m. cond (is_counted_in x p) (m - 1) m) h.count
+          ∙ ap (λ b. cond b (set.len (observed_members t) - 1) (set.len (observed_members t))) (sym (is_counted params x n p h))
+          ∙ sym (set.len-remove processes_total (observed_members t) p)
+          ∙ ap set.len (sym (observed-after_joiner t p))
+          ∙ ap (λ u. set.len (observed_members u)) (sym joined);
+    }
   where
-    kept : (q : Process) → set.contains members subject ≡ true → (same_bytes q subject || set.contains members q) ≡ set.contains members q
-    kept q e =
-        elim (same_bytes q subject) as (λ b. same_bytes q subject ≡ b → (b || set.contains members q) ≡ set.contains members q) [
-          | true ↦ λ t. sym (ap (set.contains members) ((same_bytes_decides q subject).0 t) ∙ e)
-          | false ↦ λ t. refl
-        ] refl
+    t : Table
+    t = table_of params x
 
-    lost : (q : Process) → set.contains members subject ≡ false → (not (same_bytes q subject) && (same_bytes q subject || set.contains members q)) ≡ set.contains members q
-    lost q e =
-        elim (same_bytes q subject) as (λ b. same_bytes q subject ≡ b → (not b && (b || set.contains members q)) ≡ set.contains members q) [
-          | true ↦ λ t. sym (ap (set.contains members) ((same_bytes_decides q subject).0 t) ∙ e)
-          | false ↦ λ t. refl
-        ] refl
+    joined : table_of params y ≡ after_joiner t p
+    joined = joined_table params x y p a
+
+-- one that counts is counted
+pub counted : (params : Params) (x : Rows) (n : ℕ) (p : Process) → Holds params x n → is_counted_in x p ≡ true → 1 ≤ n
+counted params x n p h is =
+    let some = some_in (observed_members (table_of params x)) p (is_counted params x n p h ∙ is) in
+    let same = h.count in
+    omega (arith, some, same)
+
+-- the table with one more edge
+pub edged_table : (params : Params) (x y : Rows) (k : ℕ) (o s : Process) → AddsEdge x y k o s → table_of params y ≡ after_add (table_of params x) k o s
+edged_table params x y k o s a = λ i. record { params = params; joiners = a.joiners i; edges = a.edges i }
+
+pub Holds-edge : (params : Params) (x y : Rows) (k : ℕ) (o s : Process) (n : ℕ) → AddsEdge x y k o s → Holds params x n → add_fault (table_of params x) k s ≡ None
+    → Holds params y (cond (is_free_in x s) (n + 1) n)
+Holds-edge params x y k o s n a h none =
+    record {
+      rules = subst IsTable (sym edged) (after_add-IsTable t k o s h.rules none);
+      subjects = λ q.
+          ap (λ e. set.contains (table_subjects e) q) a.edges ∙ subjects-insert (edges_of x) (s, k) o q
+          ∙ ap (λ b. same_bytes q s || b) (h.subjects q) ∙ sym (a.observed q);
+      count =
+          ap (λ m. cond (is_free_in x s) (m + 1) m) h.count
+          ∙ each (set.contains (joiners_of x) s) (is_observed_in x s) (set.len (observed_members t))
+          ∙ ap (λ b. cond (set.contains (joiners_of x) s) (set.len (observed_members t)) (cond b (set.len (observed_members t)) (set.len (observed_members t) + 1))) (sym (is_counted params x n s h))
+          ∙ ap (cond (set.contains (joiners_of x) s) (set.len (observed_members t))) (sym (set.len-insert processes_total (observed_members t) s))
+          ∙ if_len (set.contains (joiners_of x) s) (observed_members t) (set.insert (observed_members t) s)
+          ∙ ap set.len (sym (observed-after_add t k o s))
+          ∙ ap (λ u. set.len (observed_members u)) (sym edged);
+    }
+  where
+    t : Table
+    t = table_of params x
+
+    edged : table_of params y ≡ after_add t k o s
+    edged = edged_table params x y k o s a
+
+    each : (j b : Bool) (m : ℕ) → cond (not b && not j) (m + 1) m ≡ cond j m (cond (b && not j) m (m + 1))
+    each true true m = refl
+    each true false m = refl
+    each false true m = refl
+    each false false m = refl
+
+    if_len : (b : Bool) (u v : ProcessSet) → cond b (set.len u) (set.len v) ≡ set.len (cond b u v)
+    if_len true u v = refl
+    if_len false u v = refl
+
+pub few_counted : (params : Params) (x : Rows) (n : ℕ) → Holds params x n → n ≤ 1024
+few_counted params x n h = let few = h.rules.few in let same = h.count in omega (arith, few, same)
+
+-- why an edge is refused, by what rows say
+pub fault_is : (params : Params) (x : Rows) (n k : ℕ) (s : Process) → Holds params x n
+    → add_fault (table_of params x) k s ≡ cond (is_free_in x s && not (nat_lt n most_members)) (Some TooMany) (cond (not (nat_lt k params.k)) (Some RingRange) (cond (finmap.contains_key (edges_of x) (s, k)) (Some EdgeTwice) None))
+unfolding add_fault
+fault_is params x n k s h =
+    ap (λ b. cond b (Some TooMany) rest) full
+  where
+    rest : Option TableFault
+    rest = cond (not (nat_lt k params.k)) (Some RingRange) (cond (finmap.contains_key (edges_of x) (s, k)) (Some EdgeTwice) None)
+
+    each : (j b c : Bool) → (not j && not (b && not j) && c) ≡ ((not b && not j) && c)
+    each true true c = refl
+    each true false c = refl
+    each false true c = refl
+    each false false c = refl
+
+    full : is_too_many (table_of params x) s ≡ (is_free_in x s && not (nat_lt n most_members))
+    full =
+        ap (λ b. not (set.contains (joiners_of x) s) && not b && not (nat_lt (set.len (observed_members (table_of params x))) most_members)) (is_counted params x n s h)
+        ∙ each (set.contains (joiners_of x) s) (is_observed_in x s) (not (nat_lt (set.len (observed_members (table_of params x))) most_members))
+        ∙ ap (λ m. is_free_in x s && not (nat_lt m most_members)) (sym h.count)
+
+fault_by : (params : Params) (x : Rows) (n k : ℕ) (s : Process) (b c d : Bool) → Holds params x n → (is_free_in x s && not (nat_lt n most_members)) ≡ b → nat_lt k params.k ≡ c → is_some (finmap.get (edges_of x) (s, k)) ≡ d
+    → add_fault (table_of params x) k s ≡ cond b (Some TooMany) (cond (not c) (Some RingRange) (cond d (Some EdgeTwice) None))
+fault_by params x n k s b c d h full below twice =
+    fault_is params x n k s h
+    ∙ ap (λ f. cond f (Some TooMany) (cond (not (nat_lt k params.k)) (Some RingRange) (cond (finmap.contains_key (edges_of x) (s, k)) (Some EdgeTwice) None))) full
+    ∙ ap (λ f. cond b (Some TooMany) (cond (not f) (Some RingRange) (cond (finmap.contains_key (edges_of x) (s, k)) (Some EdgeTwice) None))) below
+    ∙ ap (λ f. cond b (Some TooMany) (cond (not c) (Some RingRange) (cond f (Some EdgeTwice) None))) twice
+
+pub too_many : (params : Params) (x : Rows) (n k : ℕ) (s : Process) → Holds params x n → (is_free_in x s && not (nat_lt n most_members)) ≡ true → add_fault (table_of params x) k s ≡ Some TooMany
+too_many params x n k s h full = fault_by params x n k s true _ _ h full refl refl
+
+pub out_of_range : (params : Params) (x : Rows) (n k : ℕ) (s : Process) → Holds params x n → (is_free_in x s && not (nat_lt n most_members)) ≡ false → params.k ≤ k → add_fault (table_of params x) k s ≡ Some RingRange
+out_of_range params x n k s h room past = fault_by params x n k s false false _ h room (le-ltb k params.k past) refl
+
+pub twice_or_none : (params : Params) (x : Rows) (n k : ℕ) (s : Process) (b : Bool) → Holds params x n → (is_free_in x s && not (nat_lt n most_members)) ≡ false → k < params.k → is_some (finmap.get (edges_of x) (s, k)) ≡ b
+    → add_fault (table_of params x) k s ≡ cond b (Some EdgeTwice) None
+twice_or_none params x n k s b h room below twice = fault_by params x n k s false true b h room (lt-ltb k params.k below) twice
+
+-- the ring of an edge that is not refused
+pub ring_below : (params : Params) (x : Rows) (n k : ℕ) (s : Process) → Holds params x n → add_fault (table_of params x) k s ≡ None → k < 16
+ring_below params x n k s h none =
+    elim (cases_lt k params.k) [
+      | inl l ↦ let few = h.rules.params.few in omega (arith, l, few)
+      | inr le ↦
+          let full = is_free_in x s && not (nat_lt n most_members) in
+          let twice = is_some (finmap.get (edges_of x) (s, k)) in
+          absurd (refused full (cond twice (Some EdgeTwice) None) (sym (fault_by params x n k s full false twice h refl (le-ltb k params.k le) refl) ∙ none))
+    ]
+  where
+    refused : (b : Bool) (o : Option TableFault) → cond b (Some TooMany) (cond (not false) (Some RingRange) o) ≡ None → ⊥
+    refused true o e = cc
+    refused false o e = cc

@@ -1,5 +1,5 @@
 -- What a table keeps: the processes that it names, and a row for each.
-use Rattle.std.specs.Prelude.{◌≡◌, ℕ, suc, ◌<◌, Bool, false, ◌||◌, List, [], ◌∷◌, ◌++◌, length, replicate, get_or, slice_get, position, if◌then◌else◌, Option, None, Some}
+use Rattle.std.specs.Prelude.{◌≡◌, ℕ, suc, ◌<◌, Bool, false, not, ◌&&◌, ◌||◌, List, [], ◌∷◌, ◌++◌, length, replicate, get_or, slice_get, position, All, if◌then◌else◌, Option, None, Some}
 use Rattle.std.specs.List.{cons_option}
 use Rattle.std.specs.Option.{option_map, option_and_then}
 use Rattle.std.specs.FinSet as set
@@ -51,18 +51,18 @@ observer_by names k r = option_and_then (slice_get names) (get_or r.observers k 
 -- ---- what the rows say together
 
 -- The processes whose rows say so.
-pub those_who : (Row → Bool) → List Process → List Row → List Process
+abbrev pub those_who : (Row → Bool) → List Process → List Row → List Process
 those_who says [] rs = []
 those_who says (p ∷ ps) [] = []
 those_who says (p ∷ ps) (r ∷ rs) = if says r then p ∷ those_who says ps rs else those_who says ps rs
 
 -- The edges of a process, whose observers from ring k on stand at these places.
-pub edges_from : List Process → Process → ℕ → List (Option ℕ) → List (Report × Process)
+abbrev pub edges_from : List Process → Process → ℕ → List (Option ℕ) → List (Report × Process)
 edges_from names s k [] = []
 edges_from names s k (o ∷ os) = cons_option (option_map (λ p. ((s, k), p)) (option_and_then (slice_get names) o)) (edges_from names s (suc k) os)
 
 -- The edges of these processes, which have these rows.
-pub edges_by : List Process → List Process → List Row → List (Report × Process)
+abbrev pub edges_by : List Process → List Process → List Row → List (Report × Process)
 edges_by names [] rs = []
 edges_by names (s ∷ ss) [] = []
 edges_by names (s ∷ ss) (r ∷ rs) = edges_from names s 0 r.observers ++ edges_by names ss rs
@@ -75,18 +75,29 @@ joiners_of x = set.from_list (those_who (λ r. r.is_joiner) x.names x.rows)
 unfoldable pub edges_of : Rows → TableEdges
 edges_of x = finmap.from_entries (edges_by x.names x.names x.rows)
 
+-- It is a member with an observer.
+abbrev pub is_counted_in : Rows → Process → Bool
+is_counted_in x p = is_observed_in x p && not (set.contains (joiners_of x) p)
+
+-- It is a member without an observer.
+abbrev pub is_free_in : Rows → Process → Bool
+is_free_in x p = not (is_observed_in x p) && not (set.contains (joiners_of x) p)
+
 -- The table that is kept so.
 abbrev pub table_of : Params → Rows → Table
 table_of params x = record { params = params; joiners = joiners_of x; edges = edges_of x }
 
 -- ---- what holds of rows
 
--- Each process is named once and has a row, with a cell for each ring. The observers are among those who are named.
+-- A row has a cell for each ring, and the observers stand at the first n places.
+abbrev pub AreCells : ℕ → Row → Type 0
+AreCells n r = (length r.observers ≡ most_rings) × ((k o : ℕ) → get_or r.observers k None ≡ Some o → o < n)
+
+-- Each process is named once and has a row. The observers are among those who are named.
 pub record AreRows (x : Rows) : Type 0 where
   pub once : StandOnce x.names
   pub one_each : length x.rows ≡ length x.names
-  pub cells : (i : ℕ) (r : Row) → slice_get x.rows i ≡ Some r → length r.observers ≡ most_rings
-  pub named : (i : ℕ) (r : Row) → slice_get x.rows i ≡ Some r → (k o : ℕ) → get_or r.observers k None ≡ Some o → o < length x.names
+  pub cells : All (AreCells (length x.names)) x.rows
 
 -- The same is said of all, and who is named keeps its place.
 pub record SaySame (x y : Rows) : Type 0 where

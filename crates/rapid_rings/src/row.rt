@@ -1,6 +1,6 @@
 // What a table keeps of each process that it names.
 
-ghost use Rattle.std.specs.Prelude.{◌≡◌};
+ghost use Rattle.std.specs.Prelude.{◌≡◌, None, not, ◌&&◌, get_or};
 
 use crate::maybe_place::MaybePlace;
 use rapid_config::Params;
@@ -23,4 +23,28 @@ impl Row {
         is_observed: false,
         observers: [MaybePlace::NONE; Params::MOST_RINGS as usize],
     };
+
+    /// Whether it is a member without an observer.
+    pub(crate) fn is_free_member(&self) -> bool
+        ensures { result ≡ (not self.now.is_observed && not self.now.is_joiner) }
+    {
+        !self.is_observed && !self.is_joiner
+    }
+
+    /// Whether it is a member with an observer.
+    pub(crate) fn is_observed_member(&self) -> bool
+        ensures { result ≡ (self.now.is_observed && not self.now.is_joiner) }
+    {
+        self.is_observed && !self.is_joiner
+    }
+
+    /// The place of its observer on a ring.
+    pub(crate) fn observer(&self, ring: u8) -> Option<usize>
+        ensures { result ≡ get_or self.now.observers ring None }
+    {
+        match self.observers.get(usize::from(ring)) {
+            Some(place) => place.get(),
+            None => None,
+        }
+    }
 }

@@ -1,11 +1,12 @@
 // The processes that a table names, and a row for each.
 
-ghost use Rattle.std.specs.Prelude.{◌≡◌, ◌<◌, ℕ, false, not, ◌&&◌, Some, length, IfOk, IfSome, OnOk, OnErr};
+ghost use Rattle.std.specs.Prelude.{◌≡◌, ◌<◌, ℕ, true, false, Some, length, slice_get, IfOk, IfSome, OnOk, OnErr};
+ghost use Rattle.std.specs.Option.{option_map, option_and_then};
 ghost use Rattle.std.specs.FinSet as set;
 ghost use Rattle.std.specs.FinMap as finmap;
 ghost use Rattle.rapid_model.specs.Limits.{most_rings};
 ghost use Rattle.rapid_model.specs.Process.{Process as ModelProcess, is_in};
-ghost use Rattle.rapid_rings.specs.Rows.{SaySame, AddsJoiner, AddsEdge, no_rows, place_in, is_observed_in, joiners_of, edges_of};
+ghost use Rattle.rapid_rings.specs.Rows.{AreRows, SaySame, AddsJoiner, AddsEdge, no_rows, place_in, is_free_in, is_counted_in, joiners_of, edges_of};
 
 use crate::maybe_place::MaybePlace;
 use crate::row::Row;
@@ -73,23 +74,31 @@ impl Rows {
         }
     }
 
+    // The row at a place.
+    fn row(&self, place: Option<usize>) -> Option<&Row>
+        ensures row { option_map (λ row. row.now) result ≡ option_and_then (slice_get self.now.rows) place }
+        ensures rules { AreRows self.now }
+    {
+        self.rows.get(place?)
+    }
+
     /// Whether the process with this place is a joiner.
     pub(crate) fn is_joiner(&self, place: Option<usize>) -> bool
         ensures { (process : ModelProcess) → place ≡ place_in self.now process → result ≡ set.contains (joiners_of self.now) process }
     {
-        match place {
-            Some(place) => self.rows[place].is_joiner,
+        match self.row(place) {
+            Some(row) => row.is_joiner,
             None => false,
         }
     }
 
-    /// Whether the process with this place has an observer.
-    pub(crate) fn is_observed(&self, place: Option<usize>) -> bool
-        ensures { (process : ModelProcess) → place ≡ place_in self.now process → result ≡ is_observed_in self.now process }
+    /// Whether the process with this place is a member without an observer.
+    pub(crate) fn is_free_member(&self, place: Option<usize>) -> bool
+        ensures { (process : ModelProcess) → place ≡ place_in self.now process → result ≡ is_free_in self.now process }
     {
-        match place {
-            Some(place) => self.rows[place].is_observed,
-            None => false,
+        match self.row(place) {
+            Some(row) => row.is_free_member(),
+            None => true,
         }
     }
 
@@ -97,8 +106,7 @@ impl Rows {
     pub(crate) fn observer(&self, place: Option<usize>, ring: u8) -> Option<ProcessRef<'_>>
         ensures { (process : ModelProcess) → place ≡ place_in self.now process → result ≡ finmap.get (edges_of self.now) (process, ring) }
     {
-        let row = self.rows.get(place?)?;
-        let observer = row.observers.get(usize::from(ring))?.get()?;
+        let observer = self.row(place)?.observer(ring)?;
         Some(self.named.as_slice().get(observer)?.as_ref())
     }
 
@@ -106,10 +114,12 @@ impl Rows {
     /// is said of all as before.
     pub(crate) fn add_joiner(&mut self, process: &ProcessRef<'_>) -> Result<bool, AllocError>
         ensures added { OnOk result (AddsJoiner self.old self.new process.now) }
-        ensures counted { IfOk result (λ counted. counted ≡ (is_observed_in self.old process.now && not (set.contains (joiners_of self.old) process.now))) }
+        ensures counted { IfOk result (λ counted. counted ≡ is_counted_in self.old process.now) }
         ensures unchanged { OnErr result (SaySame self.old self.new) }
     {
-        let place = self.place_for(self.named.find(process), process)?;
+        let found = self.named.find(process);
+        let place = self.place_for(found, process)?;
+        self.tell();
         Ok(self.make_joiner(place))
     }
 
@@ -125,23 +135,24 @@ impl Rows {
         requires ring { ring < most_rings }
         requires place { place ≡ place_in self.old subject.now }
         ensures added { OnOk result (AddsEdge self.old self.new ring observer.now subject.now) }
-        ensures counts { IfOk result (λ counts. counts ≡ (not (is_observed_in self.old subject.now) && not (set.contains (joiners_of self.old) subject.now))) }
+        ensures counts { IfOk result (λ counts. counts ≡ is_free_in self.old subject.now) }
         ensures unchanged { OnErr result (SaySame self.old self.new) }
     {
         let place = self.place_for(place, subject)?;
-        let by = self.place_for(self.named.find(observer), observer)?;
-        let by = MaybePlace::of(by)?;
-        Ok(self.set_observer(place, ring, by))
+        let found = self.named.find(observer);
+        let by = self.place_for(found, observer)?;
+        self.tell();
+        Ok(self.set_observer(place, ring, MaybePlace::of(by)?))
     }
 
     // Makes the process at a place a joiner; whether it was a member with an observer.
     fn make_joiner(&mut self, place: usize) -> bool
         requires { place < length self.old.rows }
         ensures added { (p : ModelProcess) → place_in self.old p ≡ Some place → AddsJoiner self.old self.new p }
-        ensures counted { (p : ModelProcess) → place_in self.old p ≡ Some place → result ≡ (is_observed_in self.old p && not (set.contains (joiners_of self.old) p)) }
+        ensures counted { (p : ModelProcess) → place_in self.old p ≡ Some place → result ≡ is_counted_in self.old p }
     {
         let row = &mut self.rows[place];
-        let counted = row.is_observed && !row.is_joiner;
+        let counted = row.is_observed_member();
         row.is_joiner = true;
         counted
     }
@@ -151,11 +162,11 @@ impl Rows {
         requires place { place < length self.old.rows }
         requires ring { ring < most_rings }
         requires observer { IfSome observer (λ o. o < length self.old.names) }
-        ensures added { (o s : ModelProcess) → place_in self.old s ≡ Some place → place_in self.old o ≡ observer → AddsEdge self.old self.new ring o s }
-        ensures counts { (s : ModelProcess) → place_in self.old s ≡ Some place → result ≡ (not (is_observed_in self.old s) && not (set.contains (joiners_of self.old) s)) }
+        ensures added { (by : ℕ) (o s : ModelProcess) → observer ≡ Some by → place_in self.old s ≡ Some place → place_in self.old o ≡ Some by → AddsEdge self.old self.new ring o s }
+        ensures counts { (s : ModelProcess) → place_in self.old s ≡ Some place → result ≡ is_free_in self.old s }
     {
         let row = &mut self.rows[place];
-        let counts = !row.is_observed && !row.is_joiner;
+        let counts = row.is_free_member();
         row.is_observed = true;
         row.observers[usize::from(ring)] = observer;
         counts
@@ -170,7 +181,6 @@ impl Rows {
         requires { found ≡ place_in self.old process.now }
         ensures place { IfOk result (λ place. place_in self.new process.now ≡ Some place) }
         ensures same { SaySame self.old self.new }
-        ensures one_each { length self.new.rows ≡ length self.new.names }
     {
         match found {
             Some(place) => Ok(place),
@@ -183,12 +193,19 @@ impl Rows {
         requires { is_in self.old.names process.now ≡ false }
         ensures place { IfOk result (λ place. place_in self.new process.now ≡ Some place) }
         ensures same { SaySame self.old self.new }
-        ensures one_each { length self.new.rows ≡ length self.new.names }
     {
         let place = self.named.len();
         self.rows.reserve(1)?;
         self.named.push(KeptProcess::new(self.alloc, process)?)?;
+        self.named.tell();
         self.rows.push_reserved(Row::BLANK);
         Ok(place)
+    }
+
+    // What holds of all rows. It does nothing: what it ensures is for proofs.
+    fn tell(&self)
+        ensures { AreRows self.now }
+    {
+        let _ = &self.rows;
     }
 }

@@ -1,11 +1,12 @@
 // Tables of explicit edges.
 
-ghost use Rattle.std.specs.Prelude.{◌≡◌, None, OnOk, OnErr, IfErr, nat_lt, if◌then◌else◌};
+ghost use Rattle.std.specs.Prelude.{◌≡◌, None, not, ◌&&◌, OnOk, OnErr, IfErr, nat_lt, if◌then◌else◌};
 ghost use Rattle.std.specs.FinMap as finmap;
+ghost use Rattle.rapid_model.specs.Limits.{most_members};
 ghost use Rattle.rapid_model.specs.Process.{Process as ModelProcess};
 ghost use Rattle.rapid_model.specs.Table.{empty_table, add_fault, after_add, after_joiner, table_observers};
 ghost use Rattle.rapid_rings.specs.Faults.{Reports, ReportsIfAny};
-ghost use Rattle.rapid_rings.specs.Rows.{Holds, table_of, place_in, edges_of};
+ghost use Rattle.rapid_rings.specs.Rows.{Holds, table_of, place_in, edges_of, is_free_in};
 
 use crate::rows::Rows;
 use crate::{ObserverTable, TableError};
@@ -83,6 +84,13 @@ impl Table {
     }
 }
 
+// Whether one more edge of the subject with this place would be that of a 1,025th member.
+fn is_full(rows: &Rows, observed: usize, place: Option<usize>) -> bool
+    ensures { (subject : ModelProcess) → place ≡ place_in rows.now subject → result ≡ (is_free_in rows.now subject && not (nat_lt observed most_members)) }
+{
+    rows.is_free_member(place) && observed >= Configuration::MOST
+}
+
 // Why an edge is refused of which the subject has this place, if it is named.
 fn fault(
     params: Params,
@@ -93,8 +101,7 @@ fn fault(
 ) -> Option<TableError>
     ensures { (subject : ModelProcess) → Holds params rows.now observed → place ≡ place_in rows.now subject → ReportsIfAny (add_fault (table_of params rows.now) ring subject) result }
 {
-    let counts = !rows.is_joiner(place) && !rows.is_observed(place);
-    if counts && observed >= Configuration::MOST {
+    if is_full(rows, observed, place) {
         Some(TableError::TooMany)
     } else if ring >= params.k() {
         Some(TableError::RingRange)
@@ -123,7 +130,7 @@ fn observer_at<'a>(
 
 // The process as a value.
 fn to_process(process: Option<ProcessRef<'_>>) -> Option<Process>
-    ensures { result ≡ process }
+    ensures { result ≡ process.entry }
 {
     match process {
         Some(process) => Some(process.to_process()),
