@@ -1,7 +1,8 @@
 // A world out of memory: an event is refused and changes nothing, or the node halts whose step it was.
 
-use crate::numbered::{endpoint, id, process};
+use crate::numbered::{endpoint, id, process, tagged};
 use rapid_config::{Configuration, Params};
+use rapid_endpoint::{ParseError, Process};
 use rapid_world::WorldEvent::{Deliver, Leave, Probe, Start, Tick};
 use rapid_world::{Report, World, WorldError, WorldEvent};
 use std::alloc::Global;
@@ -44,6 +45,59 @@ fn out_of_memory_in_a_step(rt: HostRuntime) -> Result<(), Fail> {
     let mut world = alone(rt.alloc())?;
     let _started = world.step(&Start(process(2), endpoint(1)))?;
     assert!(rt; is_accounted_for(&mut world, &Tick(id(2))));
+    Ok(())
+}
+
+/// Six processes, every other one with tags, the last with as many as there may be.
+fn guests() -> Result<[Process; 6], ParseError> {
+    let longest: &[u8] = &[b'z'; 64];
+    Ok([
+        process(2),
+        tagged(3, &[b"db", b"web"])?,
+        process(4),
+        tagged(5, &[longest])?,
+        process(6),
+        tagged(7, &[b"a", b"b", b"c", b"d", b"e", b"f", b"g", longest])?,
+    ])
+}
+
+/// Whether the event at a place is the start of this process by the process 1.
+fn is_start_of(world: &World, place: usize, guest: &Process) -> bool {
+    match world.event(place) {
+        Some((Start(started, seed), halts)) => {
+            started == *guest && seed == endpoint(1) && !halts
+        }
+        _ => false,
+    }
+}
+
+/// A process starts by the process 1. If the world has no memory for that it has not started, and it
+/// starts when that is told again.
+fn has_started(world: &mut World, guest: &Process) -> bool {
+    let start = Start(*guest, endpoint(1));
+    let place = world.accepted();
+    if !is_accounted_for(world, &start) {
+        return false;
+    }
+    if world.accepted() == place {
+        let is_new = world.event(place).is_none() && world.node(&guest.id()).is_none();
+        return is_new && world.step(&start).is_ok();
+    }
+    true
+}
+
+/// Each start is given back as it came, with its tags or without, however often the list grew.
+#[test]
+fn out_of_memory_as_processes_start(rt: HostRuntime) -> Result<(), Fail> {
+    let guests = guests()?;
+    let mut world = alone(rt.alloc())?;
+    for guest in &guests {
+        assert!(rt; has_started(&mut world, guest));
+    }
+    for (place, guest) in guests.iter().enumerate() {
+        assert!(rt; is_start_of(&world, place, guest));
+    }
+    assert_eq!(rt; world.accepted(), 6);
     Ok(())
 }
 

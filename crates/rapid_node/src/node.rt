@@ -161,8 +161,8 @@ impl Node {
         self.me.get()
     }
 
-    /// The process, to be shared with what it says.
-    fn shared_me(&self) -> &SharedProcess
+    /// The process, as it is shared with what the node says.
+    pub fn shared_process(&self) -> &SharedProcess
         ensures { result.now ≡ self.now.me }
     {
         &self.me
@@ -326,7 +326,7 @@ impl Node {
     {
         let view = views.after(&*member, &cut)?;
         let next = &**view.configuration();
-        confirm_pending(self.alloc, out, self.shared_me(), &mut *member, next)?;
+        confirm_pending(self.alloc, out, self.shared_process(), &mut *member, next)?;
         self.enter(&*member, &view, cut)
     }
 
@@ -460,7 +460,7 @@ impl Node {
         ensures unchanged { OnErr result (self.new ≡ self.old) }
     {
         let question = joiner.on_tick();
-        send_joining(self.alloc, out, self.shared_me(), &question)?;
+        send_joining(self.alloc, out, self.shared_process(), &question)?;
         self.be_joining(joiner);
         Ok(())
     }
@@ -480,7 +480,7 @@ impl Node {
         ensures unchanged { OnErr result (self.new ≡ self.old) }
     {
         let answer = joiner.on_reply(self.alloc, process, reply)?;
-        send_joining(self.alloc, out, self.shared_me(), &answer)?;
+        send_joining(self.alloc, out, self.shared_process(), &answer)?;
         self.be_joining(joiner);
         Ok(())
     }
@@ -551,7 +551,7 @@ impl Node {
                 let from = message.sender();
                 self.past
                     .decisions
-                    .catch_up(self.alloc, out, self.shared_me(), from, id)
+                    .catch_up(self.alloc, out, self.shared_process(), from, id)
             }
             None => Ok(()),
         }

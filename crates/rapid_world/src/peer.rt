@@ -20,7 +20,7 @@ use crate::taken::{StepTaken, Told};
 use crate::windows::Windows;
 use bytes::Bytes;
 use rapid_config::{ConfigId, Configuration};
-use rapid_endpoint::{Endpoint, Process, SharedProcess};
+use rapid_endpoint::{Endpoint, KeptProcess, Process, SharedProcess};
 use rapid_monitor::Monitors;
 use rapid_node::{Event, Node, NodeFault, Phase, Views};
 use std::alloc::{AllocError, Global};
@@ -113,6 +113,13 @@ impl Peer {
             windows: Windows::Fresh,
             last: None,
         })
+    }
+
+    /// Its process, to be kept. It takes no memory: one with tags is shared with its node.
+    pub(crate) fn kept_process(&self) -> Result<KeptProcess, AllocError>
+        ensures { IfOk result (λ kept. kept ≡ self.now.node.me) }
+    {
+        KeptProcess::of(self.node.shared_process())
     }
 
     /// Its node.

@@ -6,21 +6,24 @@ ghost use Rattle.rapid_model.specs.Process.{Process as ModelProcess};
 ghost use Rattle.rapid_model.specs.StoredWorld.{accepted, new_world, unmarked, with_event};
 ghost use Rattle.rapid_model.specs.World as model;
 ghost use Rattle.rapid_world.specs.Events.{event_of, marked_of};
-ghost use Rattle.rapid_world.specs.Stored.{IsWithin, Names, Says, is_start, marked_in, started_in, who_of};
+ghost use Rattle.rapid_world.specs.Stored.{IsWithin, Names, Says, id_at, is_start, marked_in, started_in, who_of};
 
 use crate::WorldEvent;
 use crate::mail::push_within;
 use rapid_config::Configuration;
-use rapid_endpoint::{Endpoint, Process};
+use rapid_endpoint::{Endpoint, KeptProcess, Process, ProcessId};
 use std::alloc::{AllocError, Global};
 use std::marker::Model;
 
-/// A start: who joins, and the endpoint of its seed.
-#[derive(Clone, Copy, Debug)]
+/// A start: who joins, kept in little room, and the endpoint of its seed.
+#[derive(Debug, Drop)]
 pub(crate) struct Started {
-    pub(crate) process: Process,
+    pub(crate) process: KeptProcess,
     pub(crate) seed: Endpoint,
 }
+
+// a start has at most 64 bytes
+const _: () = prove!(size_of::<Started>() <= 64);
 
 /// An event that was accepted, and whether its node halted in it because it was out of memory. Nodes
 /// go by their places among all that ever started. The short fields stand first: so it has 16 bytes.
@@ -91,14 +94,14 @@ impl Model for Stored {
     ghost invariant = { λ s. AreStored s.founding.members s.starts.items s.events.items };
 }
 
-/// The process at a place among all that ever started: the founders, then these.
-fn process_at(founders: &[Process], starts: &[Started], place: usize) -> Process
+/// The identifier of the process at a place among all that ever started: the founders, then these.
+fn id_of(founders: &[Process], starts: &[Started], place: usize) -> ProcessId
     requires { place < length (who_of founders.now starts.now) }
-    ensures { slice_get (who_of founders.now starts.now) place ≡ Some result }
+    ensures { result ≡ id_at (who_of founders.now starts.now) place }
 {
     match founders.get(place) {
-        Some(founder) => *founder,
-        None => starts[place - founders.len()].process,
+        Some(founder) => founder.id(),
+        None => starts[place - founders.len()].process.as_ref().id(),
     }
 }
 
@@ -130,8 +133,9 @@ fn marked(founders: &[Process], starts: &[Started], event: &StoredEvent) -> (Wor
 {
     match *event {
         StoredEvent::Start { halts, start } => {
-            let started = starts[start];
-            (WorldEvent::Start(started.process, started.seed), halts)
+            let started = &starts[start];
+            let process = started.process.to_process();
+            (WorldEvent::Start(process, started.seed), halts)
         }
         StoredEvent::Probe {
             halts,
@@ -139,20 +143,20 @@ fn marked(founders: &[Process], starts: &[Started], event: &StoredEvent) -> (Wor
             ring,
             place,
         } => {
-            let id = process_at(founders, starts, place).id();
+            let id = id_of(founders, starts, place);
             (WorldEvent::Probe(id, ring, ok), halts)
         }
         StoredEvent::Tick { halts, place } => {
-            let id = process_at(founders, starts, place).id();
+            let id = id_of(founders, starts, place);
             (WorldEvent::Tick(id), halts)
         }
         StoredEvent::Deliver { halts, packet } => (WorldEvent::Deliver(packet), halts),
         StoredEvent::Crash { halts, place } => {
-            let id = process_at(founders, starts, place).id();
+            let id = id_of(founders, starts, place);
             (WorldEvent::Crash(id), halts)
         }
         StoredEvent::Leave { halts, place } => {
-            let id = process_at(founders, starts, place).id();
+            let id = id_of(founders, starts, place);
             (WorldEvent::Leave(id), halts)
         }
     }
@@ -223,7 +227,7 @@ impl Stored {
     }
 
     /// Puts a start behind the other events.
-    pub(crate) fn push_start(&mut self, process: Process, seed: Endpoint)
+    pub(crate) fn push_start(&mut self, process: KeptProcess, seed: Endpoint)
         requires room { 0 < self.old.room }
         requires start_room { 0 < self.old.start_room }
         ensures { self.new.world ≡ with_event self.old.world (unmarked (model.Start process seed)) }

@@ -226,8 +226,9 @@ impl World {
     {
         self.stored.reserve_start()?;
         let peer = Peer::joiner(self.alloc, process, seed)?;
+        let starter = peer.kept_process()?;
         self.peers.add(peer)?;
-        self.stored.push_start(process, seed);
+        self.stored.push_start(starter, seed);
         Ok(Vec::new(self.alloc))
     }
 

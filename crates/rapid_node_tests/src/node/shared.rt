@@ -2,7 +2,7 @@
 
 use crate::node::assertions::assert_shows;
 use crate::node::founding::{decision, founding, member, shown};
-use crate::numbered::process;
+use crate::numbered::{process, tagged};
 use rapid_config::Configuration;
 use rapid_message::Outputs;
 use rapid_node::{Event, Node, NodeFault, Views};
@@ -32,6 +32,15 @@ fn assert_looked_at(rt: &impl Abort, node: &Node) -> Result<(), Fail> {
 fn a_member_is_looked_at(rt: HostRuntime) -> Result<(), Fail> {
     let node = member(&rt, rt.alloc(), (3, 3, 1), &[1, 2], 1)?;
     assert_looked_at(&rt, &*node)
+}
+
+/// Who it is a node shares with all that it says, its tags too.
+#[test]
+fn a_node_shares_who_it_is(rt: HostRuntime) -> Result<(), Fail> {
+    let guest = tagged(2, &[b"db"])?;
+    let node = Node::joiner(rt.alloc(), guest, process(1).endpoint())?;
+    assert!(rt; *node.shared_process().get() == guest);
+    Ok(())
 }
 
 /// The node of the founder with this number, by these views.

@@ -15,8 +15,8 @@ returns-clause-out c =
     on_ok_weaker c.enter.result
     (λ _.
     c.in_ok-confirm_pending.ensures.out
-    ∙ ap (λ (s : MemberState). c.args.out.now.items ++ outputs c.shared_me.result.now (flat_map (λ (x : Process × HostAnswer). answer_to x.0 x.1) (confirms c.deref-next.result.now s.pending))) c.deref_mut.ensures.value
-    ∙ ap (λ (p : Process). c.args.out.now.items ++ outputs p (flat_map (λ (x : Process × HostAnswer). answer_to x.0 x.1) (confirms c.deref-next.result.now c.args.member.value.pending))) c.shared_me.ensures
+    ∙ ap (λ (s : MemberState). c.args.out.now.items ++ outputs c.shared_process.result.now (flat_map (λ (x : Process × HostAnswer). answer_to x.0 x.1) (confirms c.deref-next.result.now s.pending))) c.deref_mut.ensures.value
+    ∙ ap (λ (p : Process). c.args.out.now.items ++ outputs p (flat_map (λ (x : Process × HostAnswer). answer_to x.0 x.1) (confirms c.deref-next.result.now c.args.member.value.pending))) c.shared_process.ensures
     ∙ ap (λ (n : Configuration). c.args.out.now.items ++ outputs c.args.self.now.me (flat_map (λ (x : Process × HostAnswer). answer_to x.0 x.1) (confirms n c.args.member.value.pending)))
     (c.deref-next.ensures ∙ c.configuration.ensures ∙ c.in_ok-view.ensures ∙ ap (λ (s : MemberState). apply s.config c.args.cut) c.deref.ensures))
     c.enter.ensures.me
