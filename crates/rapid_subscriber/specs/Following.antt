@@ -23,7 +23,7 @@ left_since (Some before) view = members_outside before view
 
 -- The lists of a change are those of this view, after the one that was known before.
 abbrev pub AreChangesSince : Option Configuration → Configuration → Changes → Type 0
-AreChangesSince before view changes = (changes.joined.items ≡ joined_since before view) × (changes.left.items ≡ left_since before view)
+AreChangesSince before view changes = (changes.joined ≡ joined_since before view) × (changes.left ≡ left_since before view)
 
 -- What a subscriber has: what it took of what was put for it, the last view that it was told, and a view that has come
 -- and that it was not told yet.

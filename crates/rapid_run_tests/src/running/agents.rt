@@ -1,5 +1,6 @@
 // Members in one's own program, over loopback TCP.
 
+use crate::running::changes::has;
 use rapid_agent::{Agent, Changes, Next, Subscriber};
 use rapid_config::Params;
 use rapid_endpoint::{Endpoint, Process, Tags};
@@ -49,8 +50,8 @@ fn assert_next<R: Wait + Clock, A: Abort>(
     left: &[Process],
 ) -> Result<(), Fail> {
     let changes = next_change(subscriber)?;
-    assert!(rt; changes.joined.as_slice() == joined, "joined at {height}");
-    assert!(rt; changes.left.as_slice() == left, "left at {height}");
+    assert!(rt; has(&changes.joined, joined), "joined at {height}");
+    assert!(rt; has(&changes.left, left), "left at {height}");
     let view = subscriber.view().expect(rt, "it was told a view");
     assert_eq!(rt; view.configuration().height(), height);
     Ok(())
