@@ -1,25 +1,24 @@
 -- One more name, one more joiner and one more edge in the rows of a table.
-use Rattle.std.proofs.Common.{◌≡◌, ℕ, zero, suc, ◌+◌, ◌<◌, Bool, true, false, not, ◌&&◌, ◌||◌, cond, List, [], ◌∷◌, ◌++◌, length, get_or, set, refl, sym, ap, subst, ◌∙◌, inl, inr, Option, Some, None, slice_get, position, arith}
-use Rattle.std.specs.Prelude.{All, IfSome, replicate}
-use Rattle.std.specs.Option.{option_map, option_and_then}
-use Rattle.std.specs.Ordering.{nat_cmp, is_eq, eq_by_cmp}
+use Rattle.std.proofs.Common.{◌≡◌, ℕ, zero, suc, ◌+◌, ◌<◌, Bool, true, false, not, ◌&&◌, ◌||◌, cond, List, [], ◌∷◌, ◌++◌, length, get_or, set, refl, sym, ap, subst, ◌∙◌, Option, Some, None, slice_get, arith}
+use Rattle.std.specs.Prelude.{replicate}
+use Rattle.std.specs.Option.{option_and_then}
+use Rattle.std.specs.Ordering.{nat_cmp, is_eq}
 use Rattle.std.specs.FinSet as finset
 use Rattle.std.specs.FinMap as finmap
-use Rattle.std.proofs.lemmas.Bool.{cases_lt}
-use Rattle.std.proofs.lemmas.List.{set_past, get_or-set_same, get_or-set_other, length-set, length-append}
-use Rattle.std.proofs.lemmas.List.Elements.{All-push, All-set, All-get_or}
-use Rattle.std.proofs.lemmas.Option.{slice_get_within, slice_get-get_or, get_or_from_slice_get}
+use Rattle.std.proofs.lemmas.List.{get_or-set_same, get_or-set_other, length-append}
+use Rattle.std.proofs.lemmas.List.Elements.{All-push, All-get_or}
+use Rattle.std.proofs.lemmas.Option.{slice_get_within, get_or_from_slice_get}
 use Rattle.rapid_model.specs.Limits.{most_rings}
 use Rattle.rapid_model.specs.Process.{Process, same_bytes, is_in}
-use Rattle.rapid_model.specs.Reports.{Report, report_cmp}
 use Rattle.rapid_model.proofs.Orders.{processes_total, processes_exact, reports_total, reports_exact, same_bytes_decides}
 use Rattle.rapid_model.proofs.Logic.{not_both}
 use Rattle.rapid_config.proofs.Places.{in_by_place}
 use Rattle.rapid_roster.specs.Once.{StandOnce}
 use Rattle.rapid_roster.proofs.Indexing.{is_there}
 use Rattle.rapid_rings.specs.declared.row.Row.{Row}
-use Rattle.rapid_rings.specs.Rows.{Rows, blank, place_in, row_in, row_says, is_observed_in, is_counted_in, is_free_in, observer_by, joiners_of, edges_of, AreCells, AreRows, SaySame, AddsJoiner, AddsEdge}
+use Rattle.rapid_rings.specs.Rows.{Rows, blank, place_in, row_in, row_says, is_observed_in, is_unobserved_in, observer_by, joiners_of, edges_of, AreCells, AreRows, SaySame, AddsJoiner, AddsEdge}
 use Rattle.rapid_rings.proofs.Lookups.{found_member}
+use Rattle.rapid_rings.proofs.Sets.{if_true}
 use Rattle.rapid_rings.proofs.RowLookups.{row_for, row_is, none_for, has_joiner, has_edge, same_edge, same_ring, is_ring}
 
 -- ---- equal look-ups
@@ -29,9 +28,6 @@ same_joiners x y once after h = finset.same_set processes_total processes_exact 
 
 same_edges : (x y : Rows) → StandOnce x.names → StandOnce y.names → ((q : Process) (k : ℕ) → option_and_then (observer_by y.names k) (row_in y q) ≡ option_and_then (observer_by x.names k) (row_in x q)) → edges_of y ≡ edges_of x
 same_edges x y once after h = finmap.same_map reports_total reports_exact _ _ (λ e. has_edge y e.0 e.1 after ∙ h e.0 e.1 ∙ sym (has_edge x e.0 e.1 once))
-
-pub says_same : (x : Rows) → SaySame x x
-says_same x = record { joiners = refl; edges = refl; observed = λ p. refl; places = λ p i h. h }
 
 pub say_same_both : (x y z : Rows) → SaySame x y → SaySame y z → SaySame x z
 say_same_both x y z h k =
@@ -43,19 +39,8 @@ say_same_both x y z h k =
     }
 
 -- what is said of a process is the same
-pub same_free : (x y : Rows) (p : Process) → SaySame x y → is_free_in y p ≡ is_free_in x p
-same_free x y p h = ap (λ b. not b && not (finset.contains (joiners_of y) p)) (h.observed p) ∙ ap (λ j. not (is_observed_in x p) && not (finset.contains j p)) h.joiners
-
-pub same_counted : (x y : Rows) (p : Process) → SaySame x y → is_counted_in y p ≡ is_counted_in x p
-same_counted x y p h = ap (λ b. b && not (finset.contains (joiners_of y) p)) (h.observed p) ∙ ap (λ j. is_observed_in x p && not (finset.contains j p)) h.joiners
-
-pub joiner_after : (x y z : Rows) (p : Process) → SaySame x y → AddsJoiner y z p → AddsJoiner x z p
-joiner_after x y z p h a =
-    record {
-      joiners = a.joiners ∙ ap (λ j. finset.insert j p) h.joiners;
-      edges = a.edges ∙ h.edges;
-      observed = λ q. a.observed q ∙ h.observed q;
-    }
+pub same_unobserved : (x y : Rows) (p : Process) → SaySame x y → is_unobserved_in y p ≡ is_unobserved_in x p
+same_unobserved x y p h = ap (λ b. not b && not (finset.contains (joiners_of y) p)) (h.observed p) ∙ ap (λ j. not (is_observed_in x p) && not (finset.contains j p)) h.joiners
 
 pub edge_after : (x y z : Rows) (k : ℕ) (o s : Process) → SaySame x y → AddsEdge y z k o s → AddsEdge x z k o s
 edge_after x y z k o s h a =
@@ -245,18 +230,6 @@ found_still f x i old new s q at here same =
       | false ↦ λ e. refl
     ] refl
 
-pub with_AreRows : (x : Rows) (i : ℕ) (r : Row) → AreRows x → AreCells (length x.names) r → AreRows (with_row x i r)
-with_AreRows x i r are cells =
-    record {
-      once = are.once;
-      one_each = length-set x.rows i r ∙ are.one_each;
-      cells = All-set (AreCells (length x.names)) x.rows i r cells are.cells;
-    }
-
-if_true : (b c : Bool) → cond b true c ≡ (b || c)
-if_true true c = refl
-if_true false c = refl
-
 -- ---- one more joiner
 
 abbrev pub joined : Row → Row
@@ -320,25 +293,4 @@ adds_edge x i k r by o s are ring at here who =
                 ap (option_and_then (slice_get x.names)) (get_or-set_other r.observers k j (Some by) None (λ same. not_both (is_eq (nat_cmp j k)) (subst (λ n. is_eq (nat_cmp n k) ≡ true) (sym same) (same_ring k)) t))
                 ∙ sym (has_edge x q j are.once ∙ ap (option_and_then (observer_by x.names j)) (ap (row_in x) ((same_bytes_decides q s).0 e) ∙ its))
           ] refl
-        ] refl
-
--- the cells of a row with one more observer
-pub observed_cells : (n : ℕ) (r : Row) (k : ℕ) (o : Option ℕ) → AreCells n r → IfSome o (λ i. i < n) → AreCells n (observed_by r k o)
-observed_cells n r k o are is = (length-set r.observers k o ∙ are.0, λ j i e. within j i e)
-  where
-    at_ring : (p : Option ℕ) (i : ℕ) → IfSome p (λ i. i < n) → p ≡ Some i → i < n
-    at_ring None i is e = cc
-    at_ring (Some h) i is e = let same : h ≡ i = inside e in omega (arith, is, same)
-      where
-        inside : {a b : ℕ} → ◌≡◌ {A = Option ℕ} (Some a) (Some b) → a ≡ b
-        inside e = cc
-
-    within : (j i : ℕ) → get_or (set r.observers k o) j None ≡ Some i → i < n
-    within j i e =
-        elim (is_eq (nat_cmp j k)) as (λ b. is_eq (nat_cmp j k) ≡ b → i < n) [
-          | true ↦ λ t. elim (cases_lt k (length r.observers)) [
-            | inl l ↦ at_ring o i is (sym (ap (λ m. get_or (set r.observers k o) m None) (is_ring j k t) ∙ get_or-set_same r.observers k o None l) ∙ e)
-            | inr l ↦ are.1 j i (sym (ap (λ os. get_or os j None) (set_past r.observers k o l)) ∙ e)
-          ]
-          | false ↦ λ t. are.1 j i (sym (get_or-set_other r.observers k j o None (λ same. not_both (is_eq (nat_cmp j k)) (subst (λ m. is_eq (nat_cmp m k) ≡ true) (sym same) (same_ring k)) t)) ∙ e)
         ] refl

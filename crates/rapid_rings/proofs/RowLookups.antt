@@ -1,5 +1,5 @@
 -- What is found in the rows of a table.
-use Rattle.std.proofs.Common.{◌≡◌, ℕ, zero, suc, ◌+◌, ◌<◌, ◌≤◌, Bool, true, false, not, ◌&&◌, ◌||◌, cond, List, [], ◌∷◌, ◌++◌, length, get_or, refl, sym, ap, subst, ◌∙◌, inl, inr, Option, Some, None, slice_get, position, nat_lt, is_some, zero-add, arith}
+use Rattle.std.proofs.Common.{◌≡◌, ℕ, zero, suc, ◌+◌, ◌<◌, Bool, true, false, not, ◌&&◌, ◌||◌, cond, List, [], ◌∷◌, ◌++◌, length, get_or, refl, sym, ap, ◌∙◌, inl, inr, Option, Some, None, slice_get, position, nat_lt, is_some, zero-add, arith}
 use Rattle.std.specs.Option.{option_map, option_and_then, option_or}
 use Rattle.std.specs.List.{position_or_len, cons_option}
 use Rattle.std.specs.declared.cmp.Ordering.{Ordering}
@@ -13,11 +13,10 @@ use Rattle.std.specs.FinSet.{nat_cmp-IsAntisymmetric}
 use Rattle.rapid_model.specs.Process.{Process, process_cmp, same_bytes, is_in}
 use Rattle.rapid_model.specs.Reports.{Report, report_cmp}
 use Rattle.rapid_model.proofs.Orders.{processes_total, reports_total, reports_exact, tie_decides, same_bytes_decides}
-use Rattle.rapid_model.proofs.Logic.{not_both}
 use Rattle.rapid_config.proofs.Places.{in_by_place}
 use Rattle.rapid_roster.specs.Once.{StandOnce}
 use Rattle.rapid_rings.specs.declared.row.Row.{Row}
-use Rattle.rapid_rings.specs.Rows.{Rows, AreRows, place_in, row_in, is_observed_in, is_counted_in, is_free_in, row_says, observer_by, those_who, edges_from, edges_by, joiners_of, edges_of}
+use Rattle.rapid_rings.specs.Rows.{Rows, AreRows, place_in, row_in, is_observed_in, is_counted_in, is_unobserved_in, row_says, observer_by, those_who, edges_from, edges_by, joiners_of, edges_of}
 use Rattle.rapid_rings.proofs.Lookups.{found_member}
 
 -- ---- the row of a process
@@ -229,8 +228,8 @@ has_edge x q k once =
 pub row_at_place : (x : Rows) (place : Option ℕ) (p : Process) → place ≡ place_in x p → option_and_then (slice_get x.rows) place ≡ row_in x p
 row_at_place x place p e = ap (option_and_then (slice_get x.rows)) e
 
-pub is_free : (x : Rows) (p : Process) (r : Option Row) → AreRows x → row_in x p ≡ r → (not (row_says (λ r. r.is_observed) r) && not (row_says (λ r. r.is_joiner) r)) ≡ is_free_in x p
-is_free x p r are e =
+pub is_unobserved : (x : Rows) (p : Process) (r : Option Row) → AreRows x → row_in x p ≡ r → (not (row_says (λ r. r.is_observed) r) && not (row_says (λ r. r.is_joiner) r)) ≡ is_unobserved_in x p
+is_unobserved x p r are e =
     ap (λ r. not (row_says (λ r. r.is_observed) r) && not (row_says (λ r. r.is_joiner) r)) (sym e)
     ∙ ap (λ b. not (is_observed_in x p) && not b) (sym (has_joiner x p are.once))
 

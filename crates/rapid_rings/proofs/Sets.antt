@@ -1,6 +1,6 @@
 -- Finite sets of processes: how large they are, and which sets and maps of the program they are.
-use Rattle.std.proofs.Common.{◌≡◌, zero, suc, ◌+◌, ◌-◌, ◌≤◌, Bool, true, false, cond, not, ◌&&◌, ◌||◌, List, [], ◌∷◌, length, refl, sym, ap, subst, ◌∙◌, Some, arith}
-use Rattle.std.specs.List.{list_all, AllByRecursion, IsDistinct}
+use Rattle.std.proofs.Common.{◌≡◌, zero, suc, ◌+◌, ◌-◌, ◌≤◌, Bool, true, false, cond, not, ◌||◌, List, [], ◌∷◌, length, refl, sym, ap, subst, ◌∙◌, Some, arith}
+use Rattle.std.specs.List.{list_all, AllByRecursion}
 use Rattle.std.specs.List.Sorted.{IsStrictlySortedBy}
 use Rattle.std.specs.declared.cmp.Ordering.{Ordering}
 use Rattle.std.specs.declared.cmp.Ordering.TheVariants.{Less}
@@ -11,10 +11,10 @@ use Rattle.std.specs.FinMap as finmap
 use Rattle.std.specs.BTreeMap.{is_at}
 use Rattle.std.specs.Map.{lookup}
 use Rattle.rapid_model.specs.Process.{Process, ProcessSet, process_cmp, same_bytes, is_in}
-use Rattle.std.proofs.lemmas.Map.Keys.{sorted_head, sorted_tail, IsDistinct-head, IsDistinct-tail}
+use Rattle.std.proofs.lemmas.Map.Keys.{sorted_head, sorted_tail}
 use Rattle.rapid_model.specs.Cut.{is_ascending}
 use Rattle.rapid_model.proofs.Orders.{processes_total, processes_exact, same_bytes_decides}
-use Rattle.rapid_model.proofs.Logic.{if_false, less_differs}
+use Rattle.rapid_model.proofs.Logic.{less_differs}
 use Rattle.rapid_model.proofs.Among.{same_turned}
 use Rattle.std.proofs.lemmas.Bool.{and_parts, and_from, not_from_false}
 
@@ -66,7 +66,7 @@ ascending_fit (p ∷ ss) s h k =
 
 -- ---- sets of the program
 
-if_true : (b c : Bool) → cond b true c ≡ (b || c)
+pub if_true : (b c : Bool) → cond b true c ≡ (b || c)
 if_true true c = refl
 if_true false c = refl
 
@@ -79,15 +79,6 @@ insert_seen ks ns p h =
     ∙ ap (λ b. same_bytes q p || b) (sym (set.contains-from_list processes_total ks q))
     ∙ sym (set.contains-insert processes_total (set.from_list ks) p q))
 
--- the keys after a removal are those of the set without the process
-pub remove_seen : (ks ns : List Process) (p : Process) → ((q : Process) → is_in ns q ≡ cond (same_bytes p q) false (is_in ks q)) → ◌≡◌ {A = ProcessSet} (set.from_list ns) (set.remove (set.from_list ks) p)
-remove_seen ks ns p h =
-    set.same_set processes_total processes_exact _ _ (λ q.
-    set.contains-from_list processes_total ns q ∙ h q ∙ if_false (same_bytes p q) (is_in ks q)
-    ∙ ap (λ b. not b && is_in ks q) (same_turned p q)
-    ∙ ap (λ b. not (same_bytes q p) && b) (sym (set.contains-from_list processes_total ks q))
-    ∙ sym (set.contains-remove processes_total (set.from_list ks) p q))
-
 none_of_sorted : (p : Process) (ks : List Process) → AllByRecursion (λ q. process_cmp p q ≡ Less) ks → is_in ks p ≡ false
 none_of_sorted p [] h = refl
 none_of_sorted p (k ∷ ks) h = ap (λ o. is_eq o || is_in ks p) h.0 ∙ none_of_sorted p ks h.1
@@ -98,19 +89,6 @@ len-sorted [] h = set.len-empty process_cmp
 len-sorted (k ∷ ks) h =
     let new : set.contains (set.from_list {R = process_cmp} ks) k ≡ false = set.contains-from_list processes_total ks k ∙ none_of_sorted k ks (sorted_head process_cmp k ks h) in
     let rest = len-sorted ks (sorted_tail process_cmp k ks h) in
-    let len = set.len-insert processes_total (set.from_list ks) k ∙ ap (λ b. cond b (set.len (set.from_list {R = process_cmp} ks)) (set.len (set.from_list {R = process_cmp} ks) + 1)) new in
-    omega (arith, rest, len)
-
-none_of_apart : (p : Process) (ks : List Process) → AllByRecursion (λ q. same_bytes p q ≡ false) ks → is_in ks p ≡ false
-none_of_apart p [] h = refl
-none_of_apart p (k ∷ ks) h = ap (λ b. b || is_in ks p) h.0 ∙ none_of_apart p ks h.1
-
--- distinct keys are as many as their set has
-pub len-distinct : (ks : List Process) → IsDistinct same_bytes ks → set.len (set.from_list {R = process_cmp} ks) ≡ length ks
-len-distinct [] h = set.len-empty process_cmp
-len-distinct (k ∷ ks) h =
-    let new : set.contains (set.from_list {R = process_cmp} ks) k ≡ false = set.contains-from_list processes_total ks k ∙ none_of_apart k ks (IsDistinct-head same_bytes k ks h) in
-    let rest = len-distinct ks (IsDistinct-tail same_bytes k ks h) in
     let len = set.len-insert processes_total (set.from_list ks) k ∙ ap (λ b. cond b (set.len (set.from_list {R = process_cmp} ks)) (set.len (set.from_list {R = process_cmp} ks) + 1)) new in
     omega (arith, rest, len)
 

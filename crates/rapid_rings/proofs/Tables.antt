@@ -13,7 +13,7 @@ use Rattle.rapid_model.specs.Ring.{AreObservers}
 use Rattle.rapid_model.specs.Reports.{Report, report_cmp}
 use Rattle.rapid_model.specs.Table.{Table, TableFault, TooMany, RingRange, EdgeTwice, TableEdges, IsTable, empty_table, table_subjects, observed_members, is_too_many, add_fault, after_add, after_joiner, table_observers}
 use Rattle.rapid_model.proofs.Orders.{processes_total, processes_exact, reports_total, reports_exact, tie_decides, same_bytes_decides}
-use Rattle.rapid_rings.specs.Rows.{Rows, no_rows, is_observed_in, is_counted_in, is_free_in, joiners_of, edges_of, table_of, AreRows, SaySame, AddsJoiner, AddsEdge, Holds}
+use Rattle.rapid_rings.specs.Rows.{Rows, no_rows, is_observed_in, is_counted_in, is_unobserved_in, joiners_of, edges_of, table_of, AreRows, SaySame, AddsJoiner, AddsEdge, Holds}
 use Rattle.rapid_rings.proofs.Sets.{ascending_fit, some_in}
 use Rattle.rapid_model.proofs.Logic.{or_swap, or_twice}
 use Rattle.std.proofs.lemmas.Bool.{lt-ltb, le-ltb, cases_lt}
@@ -279,7 +279,7 @@ pub edged_table : (params : Params) (x y : Rows) (k : ℕ) (o s : Process) → A
 edged_table params x y k o s a = λ i. record { params = params; joiners = a.joiners i; edges = a.edges i }
 
 pub Holds-edge : (params : Params) (x y : Rows) (k : ℕ) (o s : Process) (n : ℕ) → AddsEdge x y k o s → Holds params x n → add_fault (table_of params x) k s ≡ None
-    → Holds params y (cond (is_free_in x s) (n + 1) n)
+    → Holds params y (cond (is_unobserved_in x s) (n + 1) n)
 Holds-edge params x y k o s n a h none =
     record {
       rules = subst IsTable (sym edged) (after_add-IsTable t k o s h.rules none);
@@ -287,7 +287,7 @@ Holds-edge params x y k o s n a h none =
           ap (λ e. set.contains (table_subjects e) q) a.edges ∙ subjects-insert (edges_of x) (s, k) o q
           ∙ ap (λ b. same_bytes q s || b) (h.subjects q) ∙ sym (a.observed q);
       count =
-          ap (λ m. cond (is_free_in x s) (m + 1) m) h.count
+          ap (λ m. cond (is_unobserved_in x s) (m + 1) m) h.count
           ∙ each (set.contains (joiners_of x) s) (is_observed_in x s) (set.len (observed_members t))
           ∙ ap (λ b. cond (set.contains (joiners_of x) s) (set.len (observed_members t)) (cond b (set.len (observed_members t)) (set.len (observed_members t) + 1))) (sym (is_counted params x n s h))
           ∙ ap (cond (set.contains (joiners_of x) s) (set.len (observed_members t))) (sym (set.len-insert processes_total (observed_members t) s))
@@ -312,12 +312,9 @@ Holds-edge params x y k o s n a h none =
     if_len true u v = refl
     if_len false u v = refl
 
-pub few_counted : (params : Params) (x : Rows) (n : ℕ) → Holds params x n → n ≤ 1024
-few_counted params x n h = let few = h.rules.few in let same = h.count in omega (arith, few, same)
-
 -- why an edge is refused, by what rows say
 pub fault_is : (params : Params) (x : Rows) (n k : ℕ) (s : Process) → Holds params x n
-    → add_fault (table_of params x) k s ≡ cond (is_free_in x s && not (nat_lt n most_members)) (Some TooMany) (cond (not (nat_lt k params.k)) (Some RingRange) (cond (finmap.contains_key (edges_of x) (s, k)) (Some EdgeTwice) None))
+    → add_fault (table_of params x) k s ≡ cond (is_unobserved_in x s && not (nat_lt n most_members)) (Some TooMany) (cond (not (nat_lt k params.k)) (Some RingRange) (cond (finmap.contains_key (edges_of x) (s, k)) (Some EdgeTwice) None))
 unfolding add_fault
 fault_is params x n k s h =
     ap (λ b. cond b (Some TooMany) rest) full
@@ -331,13 +328,13 @@ fault_is params x n k s h =
     each false true c = refl
     each false false c = refl
 
-    full : is_too_many (table_of params x) s ≡ (is_free_in x s && not (nat_lt n most_members))
+    full : is_too_many (table_of params x) s ≡ (is_unobserved_in x s && not (nat_lt n most_members))
     full =
         ap (λ b. not (set.contains (joiners_of x) s) && not b && not (nat_lt (set.len (observed_members (table_of params x))) most_members)) (is_counted params x n s h)
         ∙ each (set.contains (joiners_of x) s) (is_observed_in x s) (not (nat_lt (set.len (observed_members (table_of params x))) most_members))
-        ∙ ap (λ m. is_free_in x s && not (nat_lt m most_members)) (sym h.count)
+        ∙ ap (λ m. is_unobserved_in x s && not (nat_lt m most_members)) (sym h.count)
 
-fault_by : (params : Params) (x : Rows) (n k : ℕ) (s : Process) (b c d : Bool) → Holds params x n → (is_free_in x s && not (nat_lt n most_members)) ≡ b → nat_lt k params.k ≡ c → is_some (finmap.get (edges_of x) (s, k)) ≡ d
+fault_by : (params : Params) (x : Rows) (n k : ℕ) (s : Process) (b c d : Bool) → Holds params x n → (is_unobserved_in x s && not (nat_lt n most_members)) ≡ b → nat_lt k params.k ≡ c → is_some (finmap.get (edges_of x) (s, k)) ≡ d
     → add_fault (table_of params x) k s ≡ cond b (Some TooMany) (cond (not c) (Some RingRange) (cond d (Some EdgeTwice) None))
 fault_by params x n k s b c d h full below twice =
     fault_is params x n k s h
@@ -345,13 +342,13 @@ fault_by params x n k s b c d h full below twice =
     ∙ ap (λ f. cond b (Some TooMany) (cond (not f) (Some RingRange) (cond (finmap.contains_key (edges_of x) (s, k)) (Some EdgeTwice) None))) below
     ∙ ap (λ f. cond b (Some TooMany) (cond (not c) (Some RingRange) (cond f (Some EdgeTwice) None))) twice
 
-pub too_many : (params : Params) (x : Rows) (n k : ℕ) (s : Process) → Holds params x n → (is_free_in x s && not (nat_lt n most_members)) ≡ true → add_fault (table_of params x) k s ≡ Some TooMany
+pub too_many : (params : Params) (x : Rows) (n k : ℕ) (s : Process) → Holds params x n → (is_unobserved_in x s && not (nat_lt n most_members)) ≡ true → add_fault (table_of params x) k s ≡ Some TooMany
 too_many params x n k s h full = fault_by params x n k s true _ _ h full refl refl
 
-pub out_of_range : (params : Params) (x : Rows) (n k : ℕ) (s : Process) → Holds params x n → (is_free_in x s && not (nat_lt n most_members)) ≡ false → params.k ≤ k → add_fault (table_of params x) k s ≡ Some RingRange
+pub out_of_range : (params : Params) (x : Rows) (n k : ℕ) (s : Process) → Holds params x n → (is_unobserved_in x s && not (nat_lt n most_members)) ≡ false → params.k ≤ k → add_fault (table_of params x) k s ≡ Some RingRange
 out_of_range params x n k s h room past = fault_by params x n k s false false _ h room (le-ltb k params.k past) refl
 
-pub twice_or_none : (params : Params) (x : Rows) (n k : ℕ) (s : Process) (b : Bool) → Holds params x n → (is_free_in x s && not (nat_lt n most_members)) ≡ false → k < params.k → is_some (finmap.get (edges_of x) (s, k)) ≡ b
+pub twice_or_none : (params : Params) (x : Rows) (n k : ℕ) (s : Process) (b : Bool) → Holds params x n → (is_unobserved_in x s && not (nat_lt n most_members)) ≡ false → k < params.k → is_some (finmap.get (edges_of x) (s, k)) ≡ b
     → add_fault (table_of params x) k s ≡ cond b (Some EdgeTwice) None
 twice_or_none params x n k s b h room below twice = fault_by params x n k s false true b h room (lt-ltb k params.k below) twice
 
@@ -361,7 +358,7 @@ ring_below params x n k s h none =
     elim (cases_lt k params.k) [
       | inl l ↦ let few = h.rules.params.few in omega (arith, l, few)
       | inr le ↦
-          let full = is_free_in x s && not (nat_lt n most_members) in
+          let full = is_unobserved_in x s && not (nat_lt n most_members) in
           let twice = is_some (finmap.get (edges_of x) (s, k)) in
           absurd (refused full (cond twice (Some EdgeTwice) None) (sym (fault_by params x n k s full false twice h refl (le-ltb k params.k le) refl) ∙ none))
     ]

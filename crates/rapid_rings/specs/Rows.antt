@@ -80,8 +80,8 @@ abbrev pub is_counted_in : Rows → Process → Bool
 is_counted_in x p = is_observed_in x p && not (set.contains (joiners_of x) p)
 
 -- It is a member without an observer.
-abbrev pub is_free_in : Rows → Process → Bool
-is_free_in x p = not (is_observed_in x p) && not (set.contains (joiners_of x) p)
+abbrev pub is_unobserved_in : Rows → Process → Bool
+is_unobserved_in x p = not (is_observed_in x p) && not (set.contains (joiners_of x) p)
 
 -- The table that is kept so.
 abbrev pub table_of : Params → Rows → Table

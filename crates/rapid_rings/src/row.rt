@@ -25,7 +25,7 @@ impl Row {
     };
 
     /// Whether it is a member without an observer.
-    pub(crate) fn is_free_member(&self) -> bool
+    pub(crate) fn is_unobserved_member(&self) -> bool
         ensures { result ≡ (not self.now.is_observed && not self.now.is_joiner) }
     {
         !self.is_observed && !self.is_joiner

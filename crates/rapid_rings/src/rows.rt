@@ -6,7 +6,7 @@ ghost use Rattle.std.specs.FinSet as set;
 ghost use Rattle.std.specs.FinMap as finmap;
 ghost use Rattle.rapid_model.specs.Limits.{most_rings};
 ghost use Rattle.rapid_model.specs.Process.{Process as ModelProcess, is_in};
-ghost use Rattle.rapid_rings.specs.Rows.{AreRows, SaySame, AddsJoiner, AddsEdge, no_rows, place_in, is_free_in, is_counted_in, joiners_of, edges_of};
+ghost use Rattle.rapid_rings.specs.Rows.{AreRows, SaySame, AddsJoiner, AddsEdge, no_rows, place_in, is_unobserved_in, is_counted_in, joiners_of, edges_of};
 
 use crate::maybe_place::MaybePlace;
 use crate::row::Row;
@@ -93,11 +93,11 @@ impl Rows {
     }
 
     /// Whether the process with this place is a member without an observer.
-    pub(crate) fn is_free_member(&self, place: Option<usize>) -> bool
-        ensures { (process : ModelProcess) → place ≡ place_in self.now process → result ≡ is_free_in self.now process }
+    pub(crate) fn is_unobserved_member(&self, place: Option<usize>) -> bool
+        ensures { (process : ModelProcess) → place ≡ place_in self.now process → result ≡ is_unobserved_in self.now process }
     {
         match self.row(place) {
-            Some(row) => row.is_free_member(),
+            Some(row) => row.is_unobserved_member(),
             None => true,
         }
     }
@@ -135,7 +135,7 @@ impl Rows {
         requires ring { ring < most_rings }
         requires place { place ≡ place_in self.old subject.now }
         ensures added { OnOk result (AddsEdge self.old self.new ring observer.now subject.now) }
-        ensures counts { IfOk result (λ counts. counts ≡ is_free_in self.old subject.now) }
+        ensures counts { IfOk result (λ counts. counts ≡ is_unobserved_in self.old subject.now) }
         ensures unchanged { OnErr result (SaySame self.old self.new) }
     {
         let place = self.place_for(place, subject)?;
@@ -163,10 +163,10 @@ impl Rows {
         requires ring { ring < most_rings }
         requires observer { IfSome observer (λ o. o < length self.old.names) }
         ensures added { (by : ℕ) (o s : ModelProcess) → observer ≡ Some by → place_in self.old s ≡ Some place → place_in self.old o ≡ Some by → AddsEdge self.old self.new ring o s }
-        ensures counts { (s : ModelProcess) → place_in self.old s ≡ Some place → result ≡ is_free_in self.old s }
+        ensures counts { (s : ModelProcess) → place_in self.old s ≡ Some place → result ≡ is_unobserved_in self.old s }
     {
         let row = &mut self.rows[place];
-        let counts = row.is_free_member();
+        let counts = row.is_unobserved_member();
         row.is_observed = true;
         row.observers[usize::from(ring)] = observer;
         counts

@@ -6,7 +6,7 @@ ghost use Rattle.rapid_model.specs.Limits.{most_members};
 ghost use Rattle.rapid_model.specs.Process.{Process as ModelProcess};
 ghost use Rattle.rapid_model.specs.Table.{empty_table, add_fault, after_add, after_joiner, table_observers};
 ghost use Rattle.rapid_rings.specs.Faults.{Reports, ReportsIfAny};
-ghost use Rattle.rapid_rings.specs.Rows.{Holds, table_of, place_in, edges_of, is_free_in};
+ghost use Rattle.rapid_rings.specs.Rows.{Holds, table_of, place_in, edges_of, is_unobserved_in};
 
 use crate::rows::Rows;
 use crate::{ObserverTable, TableError};
@@ -86,9 +86,9 @@ impl Table {
 
 // Whether one more edge of the subject with this place would be that of a 1,025th member.
 fn is_full(rows: &Rows, observed: usize, place: Option<usize>) -> bool
-    ensures { (subject : ModelProcess) → place ≡ place_in rows.now subject → result ≡ (is_free_in rows.now subject && not (nat_lt observed most_members)) }
+    ensures { (subject : ModelProcess) → place ≡ place_in rows.now subject → result ≡ (is_unobserved_in rows.now subject && not (nat_lt observed most_members)) }
 {
-    rows.is_free_member(place) && observed >= Configuration::MOST
+    rows.is_unobserved_member(place) && observed >= Configuration::MOST
 }
 
 // Why an edge is refused of which the subject has this place, if it is named.

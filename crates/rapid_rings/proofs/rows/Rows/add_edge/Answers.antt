@@ -1,7 +1,6 @@
-use Rattle.std.proofs.Common.{ap, sym, subst, ◌∙◌, Result, Ok, Err}
+use Rattle.std.proofs.Common.{◌∙◌, Result, Ok, Err}
 use Rattle.std.specs.Prelude.{OnErr}
-use Rattle.rapid_rings.specs.Rows.{Rows, SaySame}
-use Rattle.rapid_rings.proofs.RowEdits.{say_same_both, edge_after, same_free}
+use Rattle.rapid_rings.proofs.RowEdits.{say_same_both, edge_after, same_unobserved}
 use Rattle.rapid_rings.proofs.rows.Rows.add_edge.Goals as goal
 
 on_error : {A E : Type 0} (r : Result A E) (P : Type 0) → P → OnErr r P
@@ -24,4 +23,4 @@ returns-clause-added c =
 pub returns-clause-counts : goal.returns-clause-counts
 returns-clause-counts c =
     c.set_observer.ensures.counts c.args.subject.now (c.place_for-2.ensures.same.places c.args.subject.now c.in_ok-place.place c.in_ok-place.ensures.place)
-    ∙ same_free _ _ c.args.subject.now (say_same_both _ _ _ c.place_for.ensures.same c.place_for-2.ensures.same)
+    ∙ same_unobserved _ _ c.args.subject.now (say_same_both _ _ _ c.place_for.ensures.same c.place_for-2.ensures.same)

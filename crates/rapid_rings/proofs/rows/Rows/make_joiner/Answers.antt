@@ -1,9 +1,8 @@
 use Rattle.std.proofs.Common.{◌≡◌, ◌<◌, refl, ap, sym, subst, length, ◌∙◌, Some, slice_get}
 use Rattle.std.proofs.lemmas.Option.{slice_get_read}
-use Rattle.rapid_rings.specs.declared.row.Row.{Row}
 use Rattle.rapid_rings.specs.Rows.{Rows, place_in, row_in, AreRows}
 use Rattle.rapid_rings.proofs.RowLookups.{is_counted}
-use Rattle.rapid_rings.proofs.RowEdits.{adds_joiner, row_at, with_AreRows}
+use Rattle.rapid_rings.proofs.RowEdits.{adds_joiner, row_at}
 use Rattle.rapid_rings.proofs.rows.Rows.make_joiner.Goals as goal
 
 pub returns-clause-added : goal.returns-clause-added

@@ -2,7 +2,7 @@ use Rattle.std.proofs.Common.{◌≡◌, ◌≤◌, refl, ap, sym, subst, length
 use Rattle.std.specs.Option.{option_and_then}
 use Rattle.std.proofs.lemmas.Option.{slice_get_read, slice_get_past}
 use Rattle.rapid_model.specs.Process.{Process}
-use Rattle.rapid_rings.specs.Rows.{Rows, observer_by}
+use Rattle.rapid_rings.specs.Rows.{Rows}
 use Rattle.rapid_rings.proofs.RowLookups.{edge_at_place}
 use Rattle.rapid_rings.proofs.rows.Rows.observer.Goals as goal
 

@@ -1,9 +1,9 @@
-use Rattle.std.proofs.Common.{◌≡◌, List, [], ◌∷◌, ◌++◌, length, sym, ap, subst, ◌∙◌, Some, position}
-use Rattle.rapid_model.specs.Process.{Process, same_bytes}
+use Rattle.std.proofs.Common.{◌≡◌, List, [], ◌∷◌, ◌++◌, sym, ap, subst, ◌∙◌, Some, position}
+use Rattle.rapid_model.specs.Process.{same_bytes}
 use Rattle.rapid_roster.specs.Once.{StandOnce}
 use Rattle.rapid_rings.specs.declared.row.Row.{Row}
-use Rattle.rapid_rings.specs.Rows.{Rows, blank, AreRows, SaySame}
-use Rattle.rapid_rings.proofs.RowEdits.{more, more_AreRows, more_says_same, place_of_last}
+use Rattle.rapid_rings.specs.Rows.{Rows, blank}
+use Rattle.rapid_rings.proofs.RowEdits.{more_AreRows, more_says_same, place_of_last}
 use Rattle.rapid_rings.proofs.rows.Rows.push.Goals as goal
 
 pub invariant_of-self-2 : goal.invariant_of-self-2

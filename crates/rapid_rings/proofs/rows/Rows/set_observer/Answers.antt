@@ -1,8 +1,7 @@
 use Rattle.std.proofs.Common.{◌≡◌, ◌<◌, refl, ap, sym, subst, length, ◌∙◌, Some, slice_get}
 use Rattle.std.proofs.lemmas.Option.{slice_get_read}
-use Rattle.rapid_rings.specs.declared.row.Row.{Row}
-use Rattle.rapid_rings.specs.Rows.{Rows, place_in, row_in, AreRows, AddsEdge}
-use Rattle.rapid_rings.proofs.RowLookups.{is_free}
+use Rattle.rapid_rings.specs.Rows.{Rows, place_in, row_in, AreRows}
+use Rattle.rapid_rings.proofs.RowLookups.{is_unobserved}
 use Rattle.rapid_rings.proofs.RowEdits.{adds_edge, row_at}
 use Rattle.rapid_rings.proofs.rows.Rows.set_observer.Goals as goal
 
@@ -19,6 +18,6 @@ returns-clause-counts c s at =
     let x : Rows = record { names = c.self.inside.named; rows = c.self.inside.rows.items } in
     let within : c.args.place < length x.rows = subst (λ (y : Rows). c.args.place < length y.rows) (sym c.self.view_is) c.requires.place in
     let here : slice_get x.rows c.args.place ≡ Some c.index_mut-row.result.now = slice_get_read _ _ _ c.index_mut-row.result.now refl within c.index_mut-row.ensures.value in
-    c.is_free_member-counts.ensures
-    ∙ is_free c.args.self.now s (Some c.index_mut-row.result.now) (subst AreRows c.self.view_is c.self.invariant)
+    c.is_unobserved_member-counts.ensures
+    ∙ is_unobserved c.args.self.now s (Some c.index_mut-row.result.now) (subst AreRows c.self.view_is c.self.invariant)
     (ap (λ (y : Rows). row_in y s) (sym c.self.view_is) ∙ row_at x s c.args.place c.index_mut-row.result.now (ap (λ (y : Rows). place_in y s) c.self.view_is ∙ at) here)

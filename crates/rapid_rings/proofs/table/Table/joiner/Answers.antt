@@ -1,4 +1,4 @@
-use Rattle.std.proofs.Common.{◌≡◌, ◌-◌, Bool, true, false, cond, subst, sym, ◌∙◌}
+use Rattle.std.proofs.Common.{◌≡◌, ◌-◌, true, false, cond, subst, sym, ◌∙◌}
 use Rattle.rapid_rings.specs.Rows.{is_counted_in, Holds}
 use Rattle.rapid_rings.proofs.Tables.{counted, Holds-joiner}
 use Rattle.rapid_rings.proofs.table.Table.joiner.Goals as goal

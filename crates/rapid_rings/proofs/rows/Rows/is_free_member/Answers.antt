@@ -1,9 +1,0 @@
-use Rattle.std.proofs.Common.{ap, sym, ◌∙◌}
-use Rattle.rapid_rings.proofs.RowLookups.{is_free, row_at_place}
-use Rattle.rapid_rings.proofs.rows.Rows.is_free_member.Goals as goal
-
-pub returns-in-Some : goal.returns-in-Some
-returns-in-Some c p e = c.is_free_member.ensures ∙ is_free c.args.self.now p _ c.row.ensures.rules (sym (c.in-Some.ensures.row ∙ row_at_place c.args.self.now c.args.place p e))
-
-pub returns-in-None : goal.returns-in-None
-returns-in-None c p e = is_free c.args.self.now p _ c.row.ensures.rules (sym (c.in-None.ensures.row ∙ row_at_place c.args.self.now c.args.place p e))
