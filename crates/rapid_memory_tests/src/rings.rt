@@ -1,7 +1,7 @@
 // Rings, tables of explicit edges, and the probe windows of a member. Each call says by its error
 // that memory ran out and changes nothing, or makes what it makes with memory.
 
-use crate::numbered::{Marks, Name, THREE, founded, process};
+use crate::numbered::{Marks, Name, THREE, founded, process, tagged};
 use rapid_config::{ConfigError, Configuration, Params};
 use rapid_endpoint::Process;
 use rapid_monitor::{Monitors, Verdict};
@@ -103,41 +103,90 @@ enum Call {
     Observer(u8, u16, u16),
     /// An edge from process 1 to process 5 on a ring, put once more if out of memory.
     PutAgain(u8),
+    /// An edge from process 3 to process 5 on ring 0, both with tags, put once more if out of memory.
+    PutTaggedAgain,
     /// Process 9 is made a joiner, once more if out of memory.
     JoinAgain,
+    /// Process 9 with tags is made a joiner, once more if out of memory.
+    JoinTaggedAgain,
+    /// The members 2 to 1,025 are observed by process 1 on ring 0, each put once more if out of memory.
+    FillAgain,
+    /// The member 1,026 is one too many.
+    IsFull,
 }
 
-/// Puts an edge from process 1 to process 5 on a ring, once more if out of memory.
-fn put(table: &mut Table, ring: u8) -> Result<(), TableError> {
-    match table.add(ring, process(1), process(5)) {
-        Err(TableError::OutOfMemory) => table.add(ring, process(1), process(5)),
+/// Puts an edge on a ring, once more if out of memory: the table is then as it was.
+fn put(
+    table: &mut Table,
+    ring: u8,
+    observer: &Process,
+    subject: &Process,
+) -> Result<(), TableError> {
+    match table.add(ring, *observer, *subject) {
+        Err(TableError::OutOfMemory)
+            if table.observer(ring, subject).is_none() && table.is_member(subject) =>
+        {
+            table.add(ring, *observer, *subject)
+        }
         answer => answer,
     }
 }
 
-/// Whether process 9 is made a joiner, once more if out of memory.
-fn join(table: &mut Table) -> bool {
-    match table.joiner(process(9)) {
-        Err(_refused) => table.is_member(&process(9)) && table.joiner(process(9)).is_ok(),
+/// Puts an edge from process 3 to process 5 on ring 0, both with tags; whether it stands there, and the
+/// one without tags is as it was.
+fn put_tagged(table: &mut Table) -> Result<bool, Fail> {
+    let subject = tagged(5, &[b"web"])?;
+    let before = table.observer(0, &process(5));
+    put(table, 0, &tagged(3, &[b"db"])?, &subject)?;
+    let stands = table.observer(0, &subject) == Some(tagged(3, &[b"db"])?);
+    Ok(stands && table.observer(0, &process(5)) == before)
+}
+
+/// Has the members 2 to 1,025 observed on ring 0; whether each is.
+fn fill(table: &mut Table) -> bool {
+    for number in 2..1026 {
+        if put(table, 0, &process(1), &process(number)) != Ok(()) {
+            return false;
+        }
+    }
+    true
+}
+
+/// Whether a process is made a joiner, once more if out of memory.
+fn join(table: &mut Table, joiner: &Process) -> bool {
+    match table.joiner(*joiner) {
+        Err(_refused) => table.is_member(joiner) && table.joiner(*joiner).is_ok(),
         Ok(()) => true,
     }
 }
 
+/// Whether process 9 with tags is made a joiner, and the one without them is what it was.
+fn join_tagged(table: &mut Table) -> Result<bool, Fail> {
+    let before = table.is_member(&process(9));
+    let joins = join(table, &tagged(9, &[b"db"])?);
+    Ok(joins && table.is_member(&process(9)) == before)
+}
+
 /// Whether a call answers as it has to.
-fn answers(table: &mut Table, call: &Call) -> bool {
-    match call {
+fn answers(table: &mut Table, call: &Call) -> Result<bool, Fail> {
+    let answers = match call {
         Call::Observer(ring, subject, number) => {
             is_numbered(table.observer(*ring, &process(*subject)), *number)
         }
-        Call::PutAgain(ring) => put(table, *ring).is_ok(),
-        Call::JoinAgain => join(table),
-    }
+        Call::PutAgain(ring) => put(table, *ring, &process(1), &process(5)).is_ok(),
+        Call::PutTaggedAgain => put_tagged(table)?,
+        Call::JoinAgain => join(table, &process(9)),
+        Call::JoinTaggedAgain => join_tagged(table)?,
+        Call::FillAgain => fill(table),
+        Call::IsFull => table.add(0, process(1), process(1026)) == Err(TableError::TooMany),
+    };
+    Ok(answers)
 }
 
 /// Sees that all calls answer as they have to, in order.
 fn all_answer(table: &mut Table, calls: &[Call]) -> Result<(), Fail> {
     for call in calls {
-        if !answers(table, call) {
+        if !answers(table, call)? {
             return Err(Fail::new(format_args!("answered otherwise: {call:?}")));
         }
     }
@@ -150,9 +199,11 @@ fn runs(alloc: Global, (k, h, l): Marks, calls: &[Call]) -> Result<(), Fail> {
     all_answer(&mut table, calls)
 }
 
-const TAKES_ALL: [Call; 5] = [
+const TAKES_ALL: [Call; 7] = [
     Call::JoinAgain,
+    Call::JoinTaggedAgain,
     Call::PutAgain(0),
+    Call::PutTaggedAgain,
     Call::PutAgain(1),
     Call::Observer(0, 5, 1),
     Call::Observer(1, 5, 1),
@@ -163,6 +214,12 @@ const TAKES_ALL: [Call; 5] = [
 #[test]
 fn out_of_memory_leaves_the_table_as_it_was(rt: HostRuntime) -> Result<(), Fail> {
     runs(rt.alloc(), (2, 2, 1), &TAKES_ALL)
+}
+
+/// A subject whose edge was refused is not counted as observed.
+#[test]
+fn out_of_memory_leaves_room_for_1024_observed_members(rt: HostRuntime) -> Result<(), Fail> {
+    runs(rt.alloc(), (2, 2, 1), &[Call::FillAgain, Call::IsFull])
 }
 
 /// A probe of the edge on a ring: its result and the verdict, none if there is no edge.

@@ -5,4 +5,5 @@ mod joins;
 mod monitors;
 mod probers;
 mod rings;
+mod short_tables;
 mod tables;
