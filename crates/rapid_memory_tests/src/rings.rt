@@ -124,8 +124,7 @@ fn put(
 ) -> Result<(), TableError> {
     match table.add(ring, *observer, *subject) {
         Err(TableError::OutOfMemory)
-            if table.observer(ring, subject).is_none() && table.is_member(subject) =>
-        {
+            if table.observer(ring, subject).is_none() && table.is_member(subject) => {
             table.add(ring, *observer, *subject)
         }
         answer => answer,

@@ -77,7 +77,10 @@ impl Table {
         if let Some(error) = fault(self.params, &self.rows, self.observed, ring, place) {
             return Err(error);
         }
-        if self.rows.add_edge(ring, &observer.as_ref(), &subject, place)? {
+        if self
+            .rows
+            .add_edge(ring, &observer.as_ref(), &subject, place)?
+        {
             self.observed += 1;
         }
         Ok(())

@@ -164,9 +164,11 @@ fn run_alike(alloc: Global, calls: &[Call], processes: &Three) -> Result<bool, F
             return Ok(false);
         }
     }
-    Ok(are_alike(&table, &listed, 0, processes)
-        && are_alike(&table, &listed, 1, processes)
-        && are_alike(&table, &listed, RINGS, processes))
+    Ok(
+        are_alike(&table, &listed, 0, processes)
+            && are_alike(&table, &listed, 1, processes)
+            && are_alike(&table, &listed, RINGS, processes),
+    )
 }
 
 /// After each two of the calls, each third.
