@@ -217,13 +217,16 @@ fn member<R: Wait + Copy + Drop>(rt: R, alloc: Global) -> Result<Service<R, Coun
     Ok(service)
 }
 
+/// How often a message comes: oftener than a journal has room for records, of which it has 65,536.
+const REPEATS: usize = 66_000;
+
 #[test]
-fn repeats_by_the_hundred_thousand_leave_a_running_node(rt: HostRuntime) -> Result<(), Fail> {
+fn more_repeats_than_a_journal_holds_leave_a_running_node(rt: HostRuntime) -> Result<(), Fail> {
     let alloc = rt.alloc();
     let here = three(alloc)?.id();
     let mut service = member(&rt, alloc)?;
     assert_eq!(rt; service.receive(question(alloc, 4)?), Ok(Received::Taken));
-    for _ in 1..200_000 {
+    for _ in 1..REPEATS {
         assert_eq!(rt; service.receive(question(alloc, 4)?), Ok(Received::Dropped));
     }
     assert_eq!(rt; service.post().frames, 1);
@@ -231,7 +234,7 @@ fn repeats_by_the_hundred_thousand_leave_a_running_node(rt: HostRuntime) -> Resu
         service.receive(batch(alloc, 2, here, 4)?),
         Ok(Received::Taken)
     );
-    for _ in 1..200_000 {
+    for _ in 1..REPEATS {
         assert_eq!(rt;
             service.receive(batch(alloc, 2, here, 4)?),
             Ok(Received::Dropped)
